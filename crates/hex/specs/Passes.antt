@@ -1,0 +1,27 @@
+-- What the two passes over a payload answer: the first tells whether it is of the form and how many bytes it spells, the second stores
+-- what its pairs are worth. Callers cite `Hex` alone. Assumes nothing: these are definitions.
+use Prim.Native.Nat.{ℕ, _+_}
+use mathlib.Core.Option.{Option, none, some}
+use mathlib.Core.List.{List, [], _∷_}
+use lib.ListN.{length}
+use Rattle.hex.specs.declared.Hex.{Hex}
+use Rattle.hex.specs.declared.Hex.the-variants.{Value, Bad}
+use Rattle.hex.specs.declared.Form.{Form}
+use Rattle.hex.specs.declared.Form.the-variants.{Pairs, Not}
+use Rattle.hex.specs.Hex.{pairOf}
+
+-- how many pairs, after k of them
+abbrev pub formOf : ℕ → Option (List ℕ) → Form
+formOf k none = Not
+formOf k (some bytes) = Pairs (k + length bytes)
+
+abbrev pub worth : Hex → ℕ
+worth (Value v) = v
+worth Bad = 0
+
+-- what the pairs of a text are worth, whether or not it is of the form
+unfoldable pub values : List ℕ → List ℕ
+values [] = []
+values (a ∷ []) = []
+values (a ∷ b ∷ []) = worth (pairOf a b) ∷ []
+values (a ∷ b ∷ c ∷ rest) = worth (pairOf a b) ∷ values rest
