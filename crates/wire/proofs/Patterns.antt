@@ -57,7 +57,7 @@ floatBits-ofBits f x h n =
 
 -- a float that the format holds has a NaN's pattern exactly where it is a NaN, and is the float of its pattern
 pub nan-floatBits : (f : Format) (v : Float) → T (fits f v) → nanPattern f (floatBits f v) ≡ isNan v
-unfolding isNan nanPattern floatBits quietNaN
+unfolding isNan nanPattern exponentBits fractionBits floatBits quietNaN
 nan-floatBits binary32 nan h = refl
 nan-floatBits binary64 nan h = refl
 nan-floatBits f (inf s) h = nan-float f (toBits f (inf s)) ∙ ap isNan (ofBits-toBits f (inf s) h)

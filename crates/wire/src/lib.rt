@@ -1,6 +1,7 @@
 // What travels on the bus: numbers as bytes, least significant first, floats as patterns of bits, and the reply.
 mod floats;
 mod numbers;
+mod reply;
 
 pub use floats::Float32;
 pub use floats::Float64;
@@ -23,3 +24,4 @@ pub use numbers::twos8;
 pub use numbers::twos16;
 pub use numbers::twos32;
 pub use numbers::twos64;
+pub use reply::Reply;
