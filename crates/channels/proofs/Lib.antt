@@ -1,0 +1,4 @@
+pub mod Sets
+pub mod Whole
+pub mod Cases
+pub mod Sofar
