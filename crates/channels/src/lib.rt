@@ -90,24 +90,24 @@ impl Channels {
         }
     }
 
-    // The channels after 0x10.
+    // The channels after 0x10: each fitted channel in the mask is on, its latch cleared.
     pub fn group_on(mut self, fitted: u32, spoken: u32, mask: u32) -> Channels
         ensures { λ r. ⌜ r ≡ groupOn fitted spoken mask self ⌝ }
     {
-        let up = fitted & spoken & mask;
-        self.on = up | self.on;
-        self.latched = !up & self.latched;
+        let switched = fitted & spoken & mask;
+        self.on = switched | self.on;
+        self.latched = !switched & self.latched;
         self
     }
 
-    // The channels after 0x12.
+    // The channels after 0x12: each command-enabled channel in the mask is off, its latch cleared.
     pub fn group_off(mut self, fitted: u32, forced: u32, spoken: u32, mask: u32) -> Channels
         ensures { λ r. ⌜ r ≡ groupOff fitted forced spoken mask self ⌝ }
     {
         let command_enabled = fitted & !forced;
-        let down = command_enabled & spoken & mask;
-        self.on = !down & self.on;
-        self.latched = !down & self.latched;
+        let switched = command_enabled & spoken & mask;
+        self.on = !switched & self.on;
+        self.latched = !switched & self.latched;
         self
     }
 
@@ -117,9 +117,9 @@ impl Channels {
     {
         let command_enabled = fitted & !forced;
         let up = fitted & spoken & mask;
-        let set = (command_enabled & spoken) | up;
-        self.on = up | (!set & self.on);
-        self.latched = !set & self.latched;
+        let switched = (command_enabled & spoken) | up;
+        self.on = up | (!switched & self.on);
+        self.latched = !switched & self.latched;
         self
     }
 
