@@ -75,11 +75,12 @@ impl Channels {
     pub fn overcurrent(self, named: u32) -> Channels
         ensures { λ r. ⌜ r ≡ overcurrentAt named self ⌝ }
     {
-        let tripping = named & self.on;
+        let was_on = self.on;
+        let tripping = named & was_on;
         if tripping == 0 {
             return self;
         }
-        let on = !tripping & self.on;
+        let on = !tripping & was_on;
         let latched = tripping | self.latched;
         let before = self.counts;
         let counts = all_counted(before, tripping);

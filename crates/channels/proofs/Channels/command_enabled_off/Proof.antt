@@ -2,7 +2,6 @@
 use borrow.Author.Needs.{needs}
 use Rattle.channels.specs.Sets.{has}
 use Rattle.channels.specs.Operations.{commandEnabledOff}
-use lib.Bits.{or-lt}
 use Rattle.channels.proofs.Sets.{and-below}
 use Rattle.channels.proofs.Cases.{holds, fits, cases}
 use Rattle.channels.proofs.Whole.{is-whole}
@@ -16,7 +15,7 @@ returns c =
     (search (needs, fits))
     (λ k h.
     let s = c .before in
-    simp (holds, and-below 32, or-lt 32, s .fits .fitted .fits, s .fits .forced .fits)
+    simp (holds, and-below 32, s .fits .fitted .fits, s .fits .forced .fits)
     (cases (has (s .args .fitted) k)
     (λ a. cases (has (s .args .forced) k)
     (λ b. simp (holds, a, b))

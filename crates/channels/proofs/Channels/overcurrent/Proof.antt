@@ -4,7 +4,7 @@ use mathlib.Core.Bool.{false, _&&_}
 use Prim.Native.Nat.{ℕ}
 use native.Mathlib.Omega.{arith}
 use borrow.Author.Needs.{needs}
-use lib.Bits.{bitAnd, or-lt}
+use lib.Bits.{bitAnd}
 use Rattle.channels.specs.Sets.{has}
 use Rattle.channels.specs.Operations.{overcurrentAt, countAll}
 use Rattle.channels.proofs.Sets.{has-and, has-none, and-below, length-listOf, getD-listOf}
@@ -19,7 +19,7 @@ returns c =
     is-whole _ _
     (search needs)
     (λ k h.
-    let s = c .before .before in
+    let s = c .before in
     let none : bitAnd (s .args .named) (s .args .self .on) ≡ 0 = omega arith in
     let e : (has (s .args .named) k && has (s .args .self .on) k) ≡ false = sym (has-and (s .args .named) (s .args .self .on) k) ∙ ap (λ (x : ℕ). has x k) none ∙ has-none k in
     simp e)
@@ -37,8 +37,8 @@ returns-2 c =
       counts = rw (c .all-counted .ensures) (length-listOf 32 _);
     })
     (λ k h.
-    let s = c .before .before .before .before .before .before in
-    simp (holds, and-below 32, or-lt 32, s .fits .named .fits, c .all-counted .ensures, getD-listOf 32)
+    let s = c .before .before .before .before in
+    simp (holds, and-below 32, s .fits .named .fits, c .all-counted .ensures, getD-listOf 32)
     (cases (has (s .args .named) k)
     (λ a. cases (has (s .args .self .on) k) (λ b. simp (holds, a, b)) (λ b. simp (holds, a, b)))
     (λ a. simp (holds, a))))
