@@ -1,1 +1,174 @@
-// channels
+// The 32 output channels: which are on, which are latched, and how often each reported overcurrent. Channel c is bit c of a set.
+ghost use mathlib.Core.Path.{_≡_};
+ghost use mathlib.Core.Bool.{not};
+ghost use Rattle.channels.specs.Sets.{has};
+ghost use Rattle.channels.specs.Operations.{countOne, countAll, overcurrentAt, groupOn, groupOff, groupState, switchOn, switchOff, commandEnabledOff, allOff, forcedOn, cleared, wrongToSwitchOn, wrongToSwitchOff};
+
+pub struct Channels {
+    pub on: u32,
+    pub latched: u32,
+    pub counts: [u16; 32],
+}
+
+// A channel's count after a tick in which it trips or does not: one more where it trips, and never above 65,535.
+fn counted(count: u16, trips: bool) -> u16
+    ensures { λ r. ⌜ r ≡ countOne trips count ⌝ }
+{
+    if trips {
+        if count < 65535 {
+            return count + 1;
+        }
+        return 65535;
+    }
+    count
+}
+
+// All counts after the channels in `tripping` tripped.
+fn all_counted(before: [u16; 32], tripping: u32) -> [u16; 32]
+    ensures { λ r. ⌜ r ≡ countAll tripping before ⌝ }
+{
+    let mut counts = before;
+    let mut c: usize = 0;
+    while c < 32 {
+        let trips = (tripping >> c) % 2 == 1;
+        let count = counts[c];
+        counts[c] = counted(count, trips);
+        c += 1;
+    }
+    counts
+}
+
+// Whether refusal 7 does not apply to 0x16: the channel is there and fitted.
+pub fn may_switch_on(fitted: u32, c: u8) -> bool
+    ensures { λ r. ⌜ r ≡ not (wrongToSwitchOn fitted c) ⌝ }
+{
+    if c > 31 {
+        return false;
+    }
+    (fitted >> c) % 2 == 1
+}
+
+// Whether refusal 7 does not apply to 0x18: the channel is there, fitted and not forced.
+pub fn may_switch_off(fitted: u32, forced: u32, c: u8) -> bool
+    ensures { λ r. ⌜ r ≡ not (wrongToSwitchOff fitted forced c) ⌝ }
+{
+    if c > 31 {
+        return false;
+    }
+    let command_enabled = fitted & !forced;
+    (command_enabled >> c) % 2 == 1
+}
+
+impl Channels {
+    // The channels after a reset: none on, none latched, all counts 0.
+    pub fn clear() -> Channels
+        ensures { λ r. ⌜ r ≡ cleared ⌝ }
+    {
+        Channels {
+            on: 0,
+            latched: 0,
+            counts: [0; 32],
+        }
+    }
+
+    // The channels after those named reported overcurrent: each that was on is off, latched and counted.
+    pub fn overcurrent(self, named: u32) -> Channels
+        ensures { λ r. ⌜ r ≡ overcurrentAt named self ⌝ }
+    {
+        let was_on = self.on;
+        let tripping = named & was_on;
+        if tripping == 0 {
+            return self;
+        }
+        let on = !tripping & was_on;
+        let latched = tripping | self.latched;
+        let before = self.counts;
+        let counts = all_counted(before, tripping);
+        Channels {
+            on,
+            latched,
+            counts,
+        }
+    }
+
+    // The channels after 0x10: each fitted channel in the mask is on, its latch cleared.
+    pub fn group_on(mut self, fitted: u32, spoken: u32, mask: u32) -> Channels
+        ensures { λ r. ⌜ r ≡ groupOn fitted spoken mask self ⌝ }
+    {
+        let switched = fitted & spoken & mask;
+        self.on = switched | self.on;
+        self.latched = !switched & self.latched;
+        self
+    }
+
+    // The channels after 0x12: each command-enabled channel in the mask is off, its latch cleared.
+    pub fn group_off(mut self, fitted: u32, forced: u32, spoken: u32, mask: u32) -> Channels
+        ensures { λ r. ⌜ r ≡ groupOff fitted forced spoken mask self ⌝ }
+    {
+        let command_enabled = fitted & !forced;
+        let switched = command_enabled & spoken & mask;
+        self.on = !switched & self.on;
+        self.latched = !switched & self.latched;
+        self
+    }
+
+    // The channels after 0x14: what is in the mask comes on, and of the rest only command-enabled channels go off.
+    pub fn group_state(mut self, fitted: u32, forced: u32, spoken: u32, mask: u32) -> Channels
+        ensures { λ r. ⌜ r ≡ groupState fitted forced spoken mask self ⌝ }
+    {
+        let command_enabled = fitted & !forced;
+        let up = fitted & spoken & mask;
+        let switched = (command_enabled & spoken) | up;
+        self.on = up | (!switched & self.on);
+        self.latched = !switched & self.latched;
+        self
+    }
+
+    // The channels after 0x16. A channel that is not there or not fitted changes nothing.
+    pub fn switch_on(self, fitted: u32, c: u8) -> Channels
+        ensures { λ r. ⌜ r ≡ switchOn fitted c self ⌝ }
+    {
+        if c > 31 {
+            return self;
+        }
+        let one: u32 = 1 << c;
+        self.group_on(fitted, one, one)
+    }
+
+    // The channels after 0x18. A channel that is not there, not fitted or forced changes nothing.
+    pub fn switch_off(self, fitted: u32, forced: u32, c: u8) -> Channels
+        ensures { λ r. ⌜ r ≡ switchOff fitted forced c self ⌝ }
+    {
+        if c > 31 {
+            return self;
+        }
+        let one: u32 = 1 << c;
+        self.group_off(fitted, forced, one, one)
+    }
+
+    // The channels after 0x04, and where safety is entered from nominal: the command-enabled ones are off, no latch is altered.
+    pub fn command_enabled_off(mut self, fitted: u32, forced: u32) -> Channels
+        ensures { λ r. ⌜ r ≡ commandEnabledOff fitted forced self ⌝ }
+    {
+        let command_enabled = fitted & !forced;
+        self.on = !command_enabled & self.on;
+        self
+    }
+
+    // The channels where emergency is entered: all off, no latch is altered.
+    pub fn all_off(mut self) -> Channels
+        ensures { λ r. ⌜ r ≡ allOff self ⌝ }
+    {
+        self.on = 0;
+        self
+    }
+
+    // The channels where startup or emergency is left by the table: exactly the forced ones are on, no latch is left.
+    pub fn forced_on(mut self, forced: u32) -> Channels
+        ensures { λ r. ⌜ r ≡ forcedOn forced self ⌝ }
+    {
+        self.on = forced;
+        self.latched = 0;
+        self
+    }
+}

@@ -1,0 +1,28 @@
+-- `group_on` meets its contract: each channel is what the rule says, by cases on the sets that it is in. Assumes nothing.
+use borrow.Author.Needs.{needs}
+use Rattle.channels.specs.Sets.{has}
+use Rattle.channels.specs.Operations.{groupOn}
+use Rattle.channels.proofs.Sets.{and-below}
+use Rattle.channels.proofs.Cases.{holds, fits, cases}
+use Rattle.channels.proofs.Whole.{is-whole}
+use Rattle.channels.proofs.Channels.group_on.Statement.{statement}
+use Rattle.channels.proofs.Channels.group_on.Tie as tie
+
+returns : tie.Need-returns
+unfolding groupOn
+returns c =
+    is-whole _ _
+    (search (needs, fits))
+    (λ k h.
+    let s = c .before .before in
+    simp (holds, and-below 32, s .fits .fitted .fits)
+    (cases (has (s .args .fitted) k)
+    (λ a. cases (has (s .args .spoken) k)
+    (λ b. cases (has (s .args .mask) k)
+    (λ d. simp (holds, a, b, d))
+    (λ d. simp (holds, a, b, d)))
+    (λ b. simp (holds, a, b)))
+    (λ a. simp (holds, a))))
+
+pub group-on-spec : {M : Type 1} → statement M
+group-on-spec = tie.close (tie.spec returns)

@@ -1,0 +1,33 @@
+-- `group_state` meets its contract: each channel is what the rule says, by cases on the sets that it is in. Assumes nothing.
+use borrow.Author.Needs.{needs}
+use Rattle.channels.specs.Sets.{has}
+use Rattle.channels.specs.Operations.{groupState}
+use lib.Bits.{or-lt}
+use Rattle.channels.proofs.Sets.{and-below}
+use Rattle.channels.proofs.Cases.{holds, fits, cases}
+use Rattle.channels.proofs.Whole.{is-whole}
+use Rattle.channels.proofs.Channels.group_state.Statement.{statement}
+use Rattle.channels.proofs.Channels.group_state.Tie as tie
+
+returns : tie.Need-returns
+unfolding groupState
+returns c =
+    is-whole _ _
+    (search (needs, fits))
+    (λ k h.
+    let s = c .before .before in
+    simp (holds, and-below 32, or-lt 32, s .fits .fitted .fits, s .fits .forced .fits)
+    (cases (has (s .args .fitted) k)
+    (λ a. cases (has (s .args .spoken) k)
+    (λ b. cases (has (s .args .forced) k)
+    (λ d. cases (has (s .args .mask) k)
+    (λ e. simp (holds, a, b, d, e))
+    (λ e. simp (holds, a, b, d, e)))
+    (λ d. cases (has (s .args .mask) k)
+    (λ e. simp (holds, a, b, d, e))
+    (λ e. simp (holds, a, b, d, e))))
+    (λ b. simp (holds, a, b)))
+    (λ a. simp (holds, a))))
+
+pub group-state-spec : {M : Type 1} → statement M
+group-state-spec = tie.close (tie.spec returns)

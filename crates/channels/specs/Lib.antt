@@ -1,0 +1,4 @@
+-- What the contracts of `channels` cite. Assumes nothing.
+pub mod Sets
+pub mod Chan
+pub mod Operations

@@ -1,0 +1,23 @@
+-- A set of channels is a number whose bit c says whether channel c is in it. Assumes nothing.
+use Prim.Native.Nat.{ℕ, zero, suc, _+_, _*_, _/_, _%_, _^_}
+use mathlib.Core.Bool.{Bool, true, false}
+use mathlib.Core.List.{List, [], _∷_}
+use lib.Dec.{eqb}
+
+-- channel c is in the set s: bit c of s is 1
+unfoldable pub has : ℕ → ℕ → Bool
+has s c = eqb (s / 2 ^ c % 2) 1
+
+abbrev pub bit : Bool → ℕ
+bit true = 1
+bit false = 0
+
+-- the set of those channels below n that p picks
+unfoldable pub setOf : ℕ → (ℕ → Bool) → ℕ
+setOf zero p = 0
+setOf (suc n) p = bit (p n) * 2 ^ n + setOf n p
+
+-- the list f 0, f 1, .. of n numbers
+unfoldable pub listOf : ℕ → (ℕ → ℕ) → List ℕ
+listOf zero f = []
+listOf (suc n) f = f 0 ∷ listOf n (λ k. f (suc k))

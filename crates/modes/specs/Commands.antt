@@ -1,0 +1,43 @@
+-- The commanded changes of mode, in the words of document 01's list of effects. Startup obeys no command, so there both are unavailable too. Assumes nothing.
+use Prim.Native.Nat.{ℕ}
+use mathlib.Core.Bool.{cond}
+use lib.IntN.{ℤ}
+use Rattle.modes.specs.Table.{_at-least_, entered}
+use Rattle.modes.specs.declared.Mode.{Mode}
+use Rattle.modes.specs.declared.Mode.the-variants.{Startup, Nominal, Safety, Emergency}
+use Rattle.modes.specs.declared.ModeAge.{ModeAge}
+use Rattle.modes.specs.declared.Limits.{Limits}
+use Rattle.modes.specs.declared.Commanded.{Commanded}
+use Rattle.modes.specs.declared.Commanded.the-variants.{Accepted, Unavailable}
+
+abbrev noEffect : ModeAge → Commanded
+noEffect s = Accepted s
+
+-- 0x32: "from nominal into safety at age 0; in safety no effect; in emergency 6"
+abbrev pub toSafetyFrom : Mode → ModeAge → Commanded
+toSafetyFrom Nominal s = Accepted (entered Safety)
+toSafetyFrom Safety s = noEffect s
+toSafetyFrom Emergency s = Unavailable
+toSafetyFrom Startup s = Unavailable
+
+abbrev pub toSafety : ModeAge → Commanded
+toSafety s = toSafetyFrom (s .mode) s
+
+-- 0x30: "in nominal no effect; in safety to nominal at age 0 if rail ≥ safety low, else 6; in emergency 6"
+abbrev pub toNominalFrom : Mode → ModeAge → ℤ → Limits → Commanded
+toNominalFrom Nominal s rail limits = noEffect s
+toNominalFrom Safety s rail limits = cond (rail at-least limits .«safety_low») (Accepted (entered Nominal)) Unavailable
+toNominalFrom Emergency s rail limits = Unavailable
+toNominalFrom Startup s rail limits = Unavailable
+
+abbrev pub toNominal : ModeAge → ℤ → Limits → Commanded
+toNominal s rail limits = toNominalFrom (s .mode) s rail limits
+
+-- the answer in document 01's numbers, and the mode and age that are left: 0 with the new ones, or 6 "not available in this mode" with the old
+abbrev pub answer : Commanded → ℕ
+answer (Accepted s) = 0
+answer Unavailable = 6
+
+abbrev pub leaves : Commanded → ModeAge → ModeAge
+leaves (Accepted s) before = s
+leaves Unavailable before = before

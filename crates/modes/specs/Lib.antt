@@ -1,0 +1,3 @@
+-- What the contracts of `modes` cite. Assumes nothing.
+pub mod Table
+pub mod Commands

@@ -1,0 +1,75 @@
+-- Document 01's table of the modes, and the step that it makes. Assumes nothing.
+use Prim.Native.Nat.{ℕ, _+_, _-_, _^_, min}
+use mathlib.Core.Bool.{Bool, cond, _&&_, _||_}
+use mathlib.Core.List.{List, [], _∷_}
+use lib.IntN.{ℤ}
+use lib.Dec.{ltb, leb, eqb}
+use lib.Signed.{ltZ, leZ}
+use Rattle.modes.specs.declared.Mode.{Mode}
+use Rattle.modes.specs.declared.Mode.the-variants.{Startup, Nominal, Safety, Emergency}
+use Rattle.modes.specs.declared.ModeAge.{ModeAge}
+use Rattle.modes.specs.declared.Limits.{Limits}
+
+infix 50 _reaches_ _exceeds_ _at-least_ _above_ _below_
+-- ages, in ticks: ≥ and >
+abbrev pub _reaches_ : ℕ → ℕ → Bool
+age reaches ticks = leb ticks age
+
+abbrev pub _exceeds_ : ℕ → ℕ → Bool
+age exceeds ticks = ltb ticks age
+
+-- the rail and a threshold, in millivolts, as signed numbers: ≥, > and <
+abbrev pub _at-least_ : ℤ → ℤ → Bool
+rail at-least millivolts = leZ millivolts rail
+
+abbrev pub _above_ : ℤ → ℤ → Bool
+rail above millivolts = ltZ millivolts rail
+
+abbrev pub _below_ : ℤ → ℤ → Bool
+rail below millivolts = ltZ rail millivolts
+
+-- "a new mode has age 0"
+abbrev pub entered : Mode → ModeAge
+entered m = record { mode = m; age = 0 }
+
+infix 60 _if_else_
+abbrev pub _if_else_ : Mode → Bool → Mode → Mode
+m if b else n = cond b m n
+
+-- a row: a mode, when it is left, and for which
+infix 40 from_when_to_
+pub data Row : Type 0 where
+  from_when_to_ : Mode → Bool → Mode → Row
+
+-- "read from the top, the table decides in any order of thresholds", so what is "not the above" is said by the place of a row
+abbrev pub table : ℕ → ℤ → Limits → List Row
+table age rail limits =
+    (from Startup when age reaches 50 to (Nominal if rail at-least limits .«safety_low» else Safety))
+    ∷ (from Nominal when rail below limits .«safety_low» to Safety)
+    ∷ (from Safety when age exceeds limits .linger && rail above limits .«safety_high» to Nominal)
+    ∷ (from Safety when age exceeds limits .linger && rail below limits .«emergency_low» to Emergency)
+    ∷ (from Emergency when rail above limits .«emergency_high» || age reaches limits .period to Safety)
+    ∷ []
+
+-- whether two are the same mode
+abbrev pub number : Mode → ℕ
+number Startup = 0
+number Nominal = 1
+number Safety = 2
+number Emergency = 3
+
+abbrev pub same : Mode → Mode → Bool
+same m n = eqb (number m) (number n)
+
+-- what the first row that applies says; where none does, all stays
+abbrev pub first : List Row → ModeAge → ModeAge
+first [] s = s
+first ((from m when b to n) ∷ rows) s = cond (same m (s .mode) && b) (entered n) (first rows s)
+
+-- "one automatic mode change at most, by the table"
+abbrev pub stepOf : ModeAge → ℤ → Limits → ModeAge
+stepOf s rail limits = first (table (s .age) rail limits) s
+
+-- "the mode's age rises by 1"; ages "are 64-bit and stop at the top"
+abbrev pub olderOf : ModeAge → ModeAge
+olderOf s = record { mode = s .mode; age = min (s .age + 1) (2 ^ 64 - 1) }

@@ -1,0 +1,139 @@
+-- What the read/write parameters hold, read, set and reset by id. Assumes nothing.
+use Prim.Native.Nat.{ℕ, zero, suc, _-_}
+use mathlib.Core.Bool.{Bool, true, false, cond, _&&_}
+use mathlib.Core.List.{List, [], _∷_, map}
+use lib.ListN.{getD, set}
+use lib.IntN.{ℤ, pos, natAbs}
+use Rattle.value.specs.declared.ValueType.{ValueType}
+use Rattle.value.specs.declared.ValueType.the-variants.{Int8, Uint8, Int16, Uint16, Int32, Uint32, Float, Int64, Uint64, Double}
+use Rattle.value.specs.declared.ParamValue.{ParamValue}
+use Rattle.settings.specs.Table.{codeOf, same, parameterOf, insideOf, clampOf, defaultOf, column, ids}
+use Rattle.settings.specs.declared.Parameter.{Parameter}
+use Rattle.settings.specs.declared.Got.{Got}
+use Rattle.settings.specs.declared.Settings.{Settings}
+
+-- ---- a value and its number
+abbrev pub typeIn : ParamValue → ValueType
+typeIn (ParamValue.Int8 x) = Int8
+typeIn (ParamValue.Uint8 x) = Uint8
+typeIn (ParamValue.Int16 x) = Int16
+typeIn (ParamValue.Uint16 x) = Uint16
+typeIn (ParamValue.Int32 x) = Int32
+typeIn (ParamValue.Uint32 x) = Uint32
+typeIn (ParamValue.Float x) = Float
+typeIn (ParamValue.Int64 x) = Int64
+typeIn (ParamValue.Uint64 x) = Uint64
+typeIn (ParamValue.Double x) = Double
+
+-- a float or a double is stored nowhere, and what stands there is not used
+abbrev pub numberIn : ParamValue → ℤ
+numberIn (ParamValue.Int8 x) = x
+numberIn (ParamValue.Uint8 x) = pos x
+numberIn (ParamValue.Int16 x) = x
+numberIn (ParamValue.Uint16 x) = pos x
+numberIn (ParamValue.Int32 x) = x
+numberIn (ParamValue.Uint32 x) = pos x
+numberIn (ParamValue.Float x) = pos 0
+numberIn (ParamValue.Int64 x) = x
+numberIn (ParamValue.Uint64 x) = pos x
+numberIn (ParamValue.Double x) = pos 0
+
+-- the value of a type that a number is; the settings hold no other types
+abbrev pub valueOf : ValueType → ℤ → Got
+valueOf Int8 z = Got.Value (ParamValue.Int8 z)
+valueOf Uint8 z = Got.Value (ParamValue.Uint8 (natAbs z))
+valueOf Int16 z = Got.Value (ParamValue.Int16 z)
+valueOf Uint16 z = Got.Value (ParamValue.Uint16 (natAbs z))
+valueOf Int32 z = Got.Unknown
+valueOf Uint32 z = Got.Value (ParamValue.Uint32 (natAbs z))
+valueOf Float z = Got.Unknown
+valueOf Int64 z = Got.Unknown
+valueOf Uint64 z = Got.Unknown
+valueOf Double z = Got.Unknown
+
+-- ---- the numbers held
+-- those of a type, from the lowest id of the type on
+abbrev pub numbers : Settings → ValueType → List ℤ
+numbers s Int8 = s .i8s
+numbers s Uint8 = map pos (s .u8s)
+numbers s Int16 = s .i16s
+numbers s Uint16 = map pos (s .u16s)
+numbers s Int32 = []
+numbers s Uint32 = map pos (s .u32s)
+numbers s Float = []
+numbers s Int64 = []
+numbers s Uint64 = []
+numbers s Double = []
+
+-- the number of an id: its place among those of its type is the id less the type's code
+abbrev pub numberAs : Settings → ℕ → Parameter → ℤ
+numberAs s id (Parameter.ReadWrite t) = getD (numbers s t) (id - codeOf t) (pos 0)
+numberAs s id (Parameter.ReadOnly t) = pos 0
+numberAs s id Parameter.Unknown = pos 0
+
+unfoldable pub numberOf : Settings → ℕ → ℤ
+numberOf s id = numberAs s id (parameterOf id)
+
+-- the settings with another number at one place of one type, and all others as they were
+abbrev pub stored : Bool → List ℤ → ℕ → ℤ → List ℤ
+stored b xs i z = cond b (set xs i z) xs
+
+abbrev pub storedN : Bool → List ℕ → ℕ → ℤ → List ℕ
+storedN b xs i z = cond b (set xs i (natAbs z)) xs
+
+unfoldable pub with-number : Settings → ValueType → ℕ → ℤ → Settings
+with-number s t i z = record {
+  u32s = storedN (same t Uint32) (s .u32s) i z;
+  u16s = storedN (same t Uint16) (s .u16s) i z;
+  i16s = stored (same t Int16) (s .i16s) i z;
+  i8s = stored (same t Int8) (s .i8s) i z;
+  u8s = storedN (same t Uint8) (s .u8s) i z;
+}
+
+-- ---- get, set, reset of one, defaults
+abbrev pub gotAs : Parameter → ℤ → Got
+gotAs (Parameter.ReadWrite t) z = valueOf t z
+gotAs (Parameter.ReadOnly t) z = Got.ReadOnly t
+gotAs Parameter.Unknown z = Got.Unknown
+
+unfoldable pub getOf : Settings → ℕ → Got
+getOf s id = gotAs (parameterOf id) (numberOf s id)
+
+-- a number stored for an id, where it is a read/write parameter of that type
+abbrev pub storeAs : Settings → ℕ → Parameter → ValueType → ℤ → Settings
+storeAs s id (Parameter.ReadWrite t) u z = cond (same t u) (with-number s t (id - codeOf t) z) s
+storeAs s id (Parameter.ReadOnly t) u z = s
+storeAs s id Parameter.Unknown u z = s
+
+-- a value is stored at the nearer end of the id's range; one of another type changes nothing
+unfoldable pub setOf : Settings → ℕ → ParamValue → Settings
+setOf s id v = storeAs s id (parameterOf id) (typeIn v) (clampOf id (numberIn v))
+
+abbrev pub resetAs : Settings → ℕ → Parameter → Settings
+resetAs s id (Parameter.ReadWrite t) = with-number s t (id - codeOf t) (defaultOf id)
+resetAs s id (Parameter.ReadOnly t) = s
+resetAs s id Parameter.Unknown = s
+
+unfoldable pub resetOf : Settings → ℕ → Settings
+resetOf s id = resetAs s id (parameterOf id)
+
+unfoldable pub defaultN : ℕ → ℕ
+defaultN id = natAbs (defaultOf id)
+
+-- every parameter at its default
+unfoldable pub defaultsOf : Settings
+defaultsOf = record {
+  u32s = column defaultN 0x6000 6;
+  u16s = column defaultN 0x4000 68;
+  i16s = column defaultOf 0x3000 42;
+  i8s = column defaultOf 0x1000 21;
+  u8s = column defaultN 0x2000 3;
+}
+
+-- ---- every read/write parameter's number lies in its range
+unfoldable pub all : (ℕ → Bool) → List ℕ → Bool
+all p [] = true
+all p (id ∷ more) = p id && all p more
+
+unfoldable pub inRangeOf : Settings → Bool
+inRangeOf s = all (λ id. insideOf id (numberOf s id)) ids
