@@ -13,7 +13,7 @@ use Rattle.modes.specs.declared.Mode.the-variants.{Startup, Nominal, Saf
 use Rattle.modes.specs.declared.ModeAge.{ModeAge}
 use Rattle.modes.specs.declared.Limits.{Limits}
 use Rattle.modes.specs.declared.Commanded.{Commanded}
-use Rattle.modes.specs.Table.{_reaches_, _exceeds_, _at-least_, _above_, _below_, entered, Row, from_when_to_, _if_else_, table, number, same, first, stepOf, olderOf}
+use Rattle.modes.specs.Table.{_reaches_, _exceeds_, _at-least_, _above_, _below_, _aged_, entered, Row, from_when_to_, _if_else_, table, number, same, first, stepOf, olderOf}
 use Rattle.modes.specs.Commands.{toSafetyFrom, toSafety, toNominalFrom, toNominal, answer, leaves}
 
 cases : {A : Type 0} (x : Bool) → (x ≡ true → A) → (x ≡ false → A) → A
@@ -166,14 +166,11 @@ pub to-nominal-unavailable : (s : ModeAge) (rail : ℤ) (limits : Limits)
 to-nominal-unavailable s rail limits = to-nominal-answers (s .mode) s rail limits
 
 -- ---- the age rises by one below the top, where it stops
-abbrev aged : Mode → ℕ → ModeAge
-aged m n = record { mode = m; age = n }
-
 pub older-rises : (s : ModeAge) → s .age < 2 ^ 64 - 1 → olderOf s .age ≡ s .age + 1
 older-rises s h = omega arith
 
 pub older-stops : (s : ModeAge) → s .age ≡ 2 ^ 64 - 1 → olderOf s ≡ s
-older-stops s h = ap (aged (s .mode)) (omega arith)
+older-stops s h = ap (_aged_ (s .mode)) (omega arith)
 
 pub older-mode : (s : ModeAge) → olderOf s .mode ≡ s .mode
 older-mode s = refl
