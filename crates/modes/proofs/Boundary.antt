@@ -95,7 +95,7 @@ pub expected : Case → ModeAge
 expected (was m aged a rail z by l then n aged b) = record { mode = n; age = b }
 
 pub each-case : map stepped cases ≡ map expected cases
-unfolding expected stepped cases
+unfolding expected stepped cases stepOf
 each-case = refl
 
 -- 0x30 in safety: at safety low, below it, and at a threshold that no rail reaches
@@ -107,4 +107,5 @@ nominal = Accepted (record { mode = Nominal; age = 0 })
 
 pub asked-at-the-edge : (asked (+ 6500) usual ∷ asked (+ 6499) usual ∷ asked (− 1) usual ∷ asked (+ 32767) (at (+ 40000)) ∷ asked (− 32768) (at (− 32768)) ∷ [])
     ≡ (nominal ∷ Unavailable ∷ Unavailable ∷ Unavailable ∷ nominal ∷ [])
+unfolding toNominal
 asked-at-the-edge = refl

@@ -23,33 +23,41 @@ cases false t f = f refl
 -- ---- what each mode is left by, and for which
 module _ (s : ModeAge) (rail : ℤ) (limits : Limits) where
   pub startup-step : s .mode ≡ Startup → stepOf s rail limits ≡ cond (s .age reaches 50) (entered (Nominal if rail at-least limits .«safety_low» else Safety)) s
+  unfolding stepOf
   startup-step m = simp m
 
   pub nominal-step : s .mode ≡ Nominal → stepOf s rail limits ≡ cond (rail below limits .«safety_low») (entered Safety) s
+  unfolding stepOf
   nominal-step m = simp m
 
   pub safety-step : s .mode ≡ Safety
       → stepOf s rail limits
       ≡ cond (s .age exceeds limits .linger && rail above limits .«safety_high») (entered Nominal)
       (cond (s .age exceeds limits .linger && rail below limits .«emergency_low») (entered Emergency) s)
+  unfolding stepOf
   safety-step m = simp m
 
   pub emergency-step : s .mode ≡ Emergency → stepOf s rail limits ≡ cond (rail above limits .«emergency_high» || s .age reaches limits .period) (entered Safety) s
+  unfolding stepOf
   emergency-step m = simp m
 
   -- at age 50 startup is left whatever the rail, and before it is not
   pub startup-left : s .mode ≡ Startup → 50 ≤ s .age → stepOf s rail limits ≡ entered (Nominal if rail at-least limits .«safety_low» else Safety)
+  unfolding stepOf
   startup-left m h = simp (m, le-leb 50 (s .age) h)
 
   pub startup-stays : s .mode ≡ Startup → s .age < 50 → stepOf s rail limits ≡ s
+  unfolding stepOf
   startup-stays m h = simp (m, lt-leb 50 (s .age) h)
 
   -- until linger is over safety is not left
   pub safety-stays : s .mode ≡ Safety → s .age ≤ limits .linger → stepOf s rail limits ≡ s
+  unfolding stepOf
   safety-stays m h = simp (m, le-ltb (limits .linger) (s .age) h)
 
   -- after its period emergency is left whatever the rail
   pub emergency-left : s .mode ≡ Emergency → limits .period ≤ s .age → stepOf s rail limits ≡ entered Safety
+  unfolding stepOf
   emergency-left m h = simp (m, le-leb (limits .period) (s .age) h, or-true)
 
   -- the step leads into mode n
@@ -58,21 +66,25 @@ module _ (s : ModeAge) (rail : ℤ) (limits : Limits) where
 
   -- each change that the table knows happens exactly when its row says so
   pub startup-to-nominal : s .mode ≡ Startup → leadsTo Nominal ≡ (s .age reaches 50 && rail at-least limits .«safety_low»)
+  unfolding stepOf
   startup-to-nominal m =
       cases (s .age reaches 50)
       (λ a. cases (rail at-least limits .«safety_low») (λ b. simp (m, a, b)) (λ b. simp (m, a, b)))
       (λ a. simp (m, a))
 
   pub startup-to-safety : s .mode ≡ Startup → leadsTo Safety ≡ (s .age reaches 50 && not (rail at-least limits .«safety_low»))
+  unfolding stepOf
   startup-to-safety m =
       cases (s .age reaches 50)
       (λ a. cases (rail at-least limits .«safety_low») (λ b. simp (m, a, b)) (λ b. simp (m, a, b)))
       (λ a. simp (m, a))
 
   pub nominal-to-safety : s .mode ≡ Nominal → leadsTo Safety ≡ (rail below limits .«safety_low»)
+  unfolding stepOf
   nominal-to-safety m = cases (rail below limits .«safety_low») (λ a. simp (m, a)) (λ a. simp (m, a))
 
   pub safety-to-nominal : s .mode ≡ Safety → leadsTo Nominal ≡ (s .age exceeds limits .linger && rail above limits .«safety_high»)
+  unfolding stepOf
   safety-to-nominal m =
       cases (s .age exceeds limits .linger)
       (λ a. cases (rail above limits .«safety_high»)
@@ -81,6 +93,7 @@ module _ (s : ModeAge) (rail : ℤ) (limits : Limits) where
       (λ a. simp (m, a))
 
   pub safety-to-emergency : s .mode ≡ Safety → leadsTo Emergency ≡ (s .age exceeds limits .linger && (not (rail above limits .«safety_high») && rail below limits .«emergency_low»))
+  unfolding stepOf
   safety-to-emergency m =
       cases (s .age exceeds limits .linger)
       (λ a. cases (rail above limits .«safety_high»)
@@ -89,6 +102,7 @@ module _ (s : ModeAge) (rail : ℤ) (limits : Limits) where
       (λ a. simp (m, a))
 
   pub emergency-to-safety : s .mode ≡ Emergency → leadsTo Safety ≡ (rail above limits .«emergency_high» || s .age reaches limits .period)
+  unfolding stepOf
   emergency-to-safety m = cases (rail above limits .«emergency_high» || s .age reaches limits .period) (λ a. simp (m, a)) (λ a. simp (m, a))
 
 -- ---- the mode and its age change together: nothing changes, or another mode is entered, at age 0
@@ -119,7 +133,7 @@ by-rows ((from m when b to n) ∷ rows) s t =
 
 -- "one automatic mode change at most": a step is one change, or none
 pub one-change : (s : ModeAge) (rail : ℤ) (limits : Limits) → Change s (stepOf s rail limits)
-unfolding Moves
+unfolding Moves stepOf
 one-change s rail limits = by-rows (table (s .age) rail limits) s (cases (rail at-least limits .«safety_low») (λ a. rw a tt) (λ a. rw a tt), (tt, (tt, (tt, (tt, tt)))))
 
 -- a command, too, is one change or none
@@ -130,6 +144,7 @@ to-safety-from Safety s e = stays
 to-safety-from Emergency s e = stays
 
 pub to-safety-change : (s : ModeAge) → Change s (leaves (toSafety s) s)
+unfolding toSafety
 to-safety-change s = to-safety-from (s .mode) s refl
 
 to-nominal-from : (m : Mode) (s : ModeAge) (rail : ℤ) (limits : Limits) → s .mode ≡ m → Change s (leaves (toNominalFrom m s rail limits) s)
@@ -142,6 +157,7 @@ to-nominal-from Safety s rail limits e =
 to-nominal-from Emergency s rail limits e = stays
 
 pub to-nominal-change : (s : ModeAge) (rail : ℤ) (limits : Limits) → Change s (leaves (toNominal s rail limits) s)
+unfolding toNominal
 to-nominal-change s rail limits = to-nominal-from (s .mode) s rail limits refl
 
 -- ---- answer 6 is given exactly where document 01 says
@@ -152,6 +168,7 @@ to-safety-answers Safety s = refl
 to-safety-answers Emergency s = refl
 
 pub to-safety-unavailable : (s : ModeAge) → eqb (answer (toSafety s)) 6 ≡ (same Startup (s .mode) || same Emergency (s .mode))
+unfolding toSafety
 to-safety-unavailable s = to-safety-answers (s .mode) s
 
 to-nominal-answers : (m : Mode) (s : ModeAge) (rail : ℤ) (limits : Limits)
@@ -163,14 +180,18 @@ to-nominal-answers Emergency s rail limits = refl
 
 pub to-nominal-unavailable : (s : ModeAge) (rail : ℤ) (limits : Limits)
     → eqb (answer (toNominal s rail limits)) 6 ≡ (same Startup (s .mode) || same Emergency (s .mode) || (same Safety (s .mode) && not (rail at-least limits .«safety_low»)))
+unfolding toNominal
 to-nominal-unavailable s rail limits = to-nominal-answers (s .mode) s rail limits
 
 -- ---- the age rises by one below the top, where it stops
 pub older-rises : (s : ModeAge) → s .age < 2 ^ 64 - 1 → olderOf s .age ≡ s .age + 1
+unfolding olderOf
 older-rises s h = omega arith
 
 pub older-stops : (s : ModeAge) → s .age ≡ 2 ^ 64 - 1 → olderOf s ≡ s
+unfolding olderOf
 older-stops s h = ap (_aged_ (s .mode)) (omega arith)
 
 pub older-mode : (s : ModeAge) → olderOf s .mode ≡ s .mode
+unfolding olderOf
 older-mode s = refl

@@ -71,9 +71,9 @@ first [] s = s
 first ((from m when b to n) ∷ rows) s = cond (same m (s .mode) && b) (entered n) (first rows s)
 
 -- "one automatic mode change at most, by the table"
-abbrev pub stepOf : ModeAge → ℤ → Limits → ModeAge
+unfoldable pub stepOf : ModeAge → ℤ → Limits → ModeAge
 stepOf s rail limits = first (table (s .age) rail limits) s
 
 -- "the mode's age rises by 1"; ages "are 64-bit and stop at the top"
-abbrev pub olderOf : ModeAge → ModeAge
+unfoldable pub olderOf : ModeAge → ModeAge
 olderOf s = s .mode aged min (s .age + 1) (2 ^ 64 - 1)
