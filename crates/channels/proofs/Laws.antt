@@ -5,14 +5,15 @@ use mathlib.Core.Path.{_≡_, refl, sym, ap, _∙_}
 use mathlib.Core.Bool.{Bool, true, false, cond, not, _&&_, _||_, and-true, and-false, false≢true}
 use Prim.Native.Nat.{ℕ, _+_, _^_, _<_, min}
 use native.Mathlib.Omega.{arith}
-use lib.Dec.{eqb}
+use borrow.Author.Tests.{eqb-true, le-ltb}
+use lib.Dec.{eqb, ltb}
 use lib.ListN.{getD}
 use Rattle.channels.specs.Sets.{has}
 use Rattle.channels.specs.Chan.{Chan, chan, whole}
-use Rattle.channels.specs.Operations.{commandEnabled, forceEnabled, onAndCleared, offAndCleared, offAndLatchKept, overcurrentOne, groupOnOne, groupOffOne, groupStateOne, commandEnabledOffOne, forcedOnOne, overcurrentAt, groupOn, groupOff, groupState, switchOn, switchOff, commandEnabledOff, allOff, forcedOn, clearOne, cleared}
+use Rattle.channels.specs.Operations.{commandEnabled, forceEnabled, onAndCleared, offAndCleared, offAndLatchKept, overcurrentOne, groupOnOne, groupOffOne, groupStateOne, commandEnabledOffOne, forcedOnOne, overcurrentAt, groupOn, groupOff, groupState, switchOn, switchOff, commandEnabledOff, allOff, forcedOn, clearOne, cleared, wrongToSwitchOn, wrongToSwitchOff}
 use Rattle.channels.specs.declared.Channels.{Channels}
 use Rattle.channels.proofs.Sets.{ext, has-none, is-listOf}
-use Rattle.channels.proofs.Whole.{Held, whole-held, chan-whole}
+use Rattle.channels.proofs.Whole.{Held, whole-held, chan-whole, same-channels}
 use Rattle.channels.proofs.Cases.{cases}
 
 -- a command's work on the channels: 0x10, 0x12, 0x14 with the channels spoken of and the mask, 0x16 and 0x18 with the channel, and 0x04
@@ -38,6 +39,24 @@ state-untouched true g false m ch e = simp and-false
 state-untouched true true true false ch e = refl
 state-untouched true true true true ch e = absurd (false≢true (sym e))
 state-untouched true false true m ch e = absurd (false≢true (sym e))
+
+-- none of the 32 channels is the one that refusal 7 is about: it is above 31, or p does not hold of it
+none-is : (p : ℕ → Bool) (one c : ℕ) → c < 32 → (ltb 31 one || not (p one)) ≡ true → (p c && eqb c one) ≡ false
+none-is p one c h w =
+    cases (eqb c one)
+    (λ a.
+    let q : c ≡ one = eqb-true c one a in
+    let l : ltb 31 one ≡ false = le-ltb 31 one (omega arith) in
+    let n : not (p one) ≡ true = rw l at w in
+    cases (p one) (λ b. absurd (false≢true (rw b at n))) (λ b. rw (q, b) refl))
+    (λ a. rw a (and-false (p c)))
+
+-- not fitted or forced is not command-enabled
+not-enabled : (above f g : Bool) → (above || not f || g) ≡ true → (above || not (f && not g)) ≡ true
+not-enabled true f g e = refl
+not-enabled false true true e = refl
+not-enabled false true false e = e
+not-enabled false false g e = refl
 
 -- off and not latched
 pub record Dark (ch : Chan) : Type 0 where
@@ -121,6 +140,17 @@ module _ (fitted forced : ℕ) where
       rule (switch-on one) e = simp (and-true, e)
       rule (switch-off one) e = simp (and-true, e)
       rule command-enabled-off e = simp e
+
+  -- where refusal 7 applies the single commands alter nothing at all
+  pub switch-on-refused : (one : ℕ) (s : Channels) → Held s → wrongToSwitchOn fitted one ≡ true → switchOn fitted one s ≡ s
+  switch-on-refused one s k w =
+      same-channels (switchOn fitted one s) s (after-held (commanded (switch-on one)) s) k
+      (λ c h. command-untouched (switch-on one) s c h (none-is (has fitted) one c h w))
+
+  pub switch-off-refused : (one : ℕ) (s : Channels) → Held s → wrongToSwitchOff fitted forced one ≡ true → switchOff fitted forced one s ≡ s
+  switch-off-refused one s k w =
+      same-channels (switchOff fitted forced one s) s (after-held (commanded (switch-off one)) s) k
+      (λ c h. command-untouched (switch-off one) s c h (none-is (λ x. commandEnabled (has fitted x) (has forced x)) one c h (not-enabled (ltb 31 one) (has fitted one) (has forced one) w)))
 
   pub overcurrent-untouched : (named : ℕ) (s : Channels) (c : ℕ) → c < 32 → (has named c && has (s .on) c) ≡ false → chan (overcurrentAt named s) c ≡ chan s c
   overcurrent-untouched named s c h e = each (overcurrent named) s c h ∙ simp e

@@ -5,7 +5,7 @@ use lib.ListN.{getD}
 use Rattle.channels.specs.Sets.{has, setOf, listOf}
 use Rattle.channels.specs.declared.Channels.{Channels}
 
--- one channel: whether it is on, whether it is latched, and how often it reported overcurrent
+-- one channel: whether it is on, whether it is latched, and how often overcurrent turned it off
 pub record Chan : Type 0 where
   pub on : Bool
   pub latched : Bool

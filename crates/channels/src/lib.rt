@@ -1,7 +1,6 @@
-// The 32 output channels: which are on, which are latched, and how often each reported overcurrent. Channel c is bit c of a set.
+// The 32 output channels: which are on, which are latched, and how often overcurrent turned each one off. Channel c is bit c of a set.
 ghost use mathlib.Core.Path.{_≡_};
 ghost use mathlib.Core.Bool.{not};
-ghost use Rattle.channels.specs.Sets.{has};
 ghost use Rattle.channels.specs.Operations.{countOne, countAll, overcurrentAt, groupOn, groupOff, groupState, switchOn, switchOff, commandEnabledOff, allOff, forcedOn, cleared, wrongToSwitchOn, wrongToSwitchOff};
 
 pub struct Channels {

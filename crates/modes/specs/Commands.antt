@@ -20,7 +20,7 @@ toSafetyFrom Safety s = noEffect s
 toSafetyFrom Emergency s = Unavailable
 toSafetyFrom Startup s = Unavailable
 
-abbrev pub toSafety : ModeAge → Commanded
+unfoldable pub toSafety : ModeAge → Commanded
 toSafety s = toSafetyFrom (s .mode) s
 
 -- 0x30: "in nominal no effect; in safety to nominal at age 0 if rail ≥ safety low, else 6; in emergency 6"
@@ -30,7 +30,7 @@ toNominalFrom Safety s rail limits = cond (rail at-least limits .«safety_low»)
 toNominalFrom Emergency s rail limits = Unavailable
 toNominalFrom Startup s rail limits = Unavailable
 
-abbrev pub toNominal : ModeAge → ℤ → Limits → Commanded
+unfoldable pub toNominal : ModeAge → ℤ → Limits → Commanded
 toNominal s rail limits = toNominalFrom (s .mode) s rail limits
 
 -- the answer in document 01's numbers, and the mode and age that are left: 0 with the new ones, or 6 "not available in this mode" with the old

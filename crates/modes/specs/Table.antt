@@ -28,9 +28,13 @@ rail above millivolts = ltZ millivolts rail
 abbrev pub _below_ : ℤ → ℤ → Bool
 rail below millivolts = ltZ rail millivolts
 
+infix 30 _aged_
+abbrev pub _aged_ : Mode → ℕ → ModeAge
+m aged ticks = record { mode = m; age = ticks }
+
 -- "a new mode has age 0"
 abbrev pub entered : Mode → ModeAge
-entered m = record { mode = m; age = 0 }
+entered m = m aged 0
 
 infix 60 _if_else_
 abbrev pub _if_else_ : Mode → Bool → Mode → Mode
@@ -67,9 +71,9 @@ first [] s = s
 first ((from m when b to n) ∷ rows) s = cond (same m (s .mode) && b) (entered n) (first rows s)
 
 -- "one automatic mode change at most, by the table"
-abbrev pub stepOf : ModeAge → ℤ → Limits → ModeAge
+unfoldable pub stepOf : ModeAge → ℤ → Limits → ModeAge
 stepOf s rail limits = first (table (s .age) rail limits) s
 
 -- "the mode's age rises by 1"; ages "are 64-bit and stop at the top"
-abbrev pub olderOf : ModeAge → ModeAge
-olderOf s = record { mode = s .mode; age = min (s .age + 1) (2 ^ 64 - 1) }
+unfoldable pub olderOf : ModeAge → ModeAge
+olderOf s = s .mode aged min (s .age + 1) (2 ^ 64 - 1)

@@ -5,6 +5,7 @@ use mir.Syntax.{w16, w32}
 use Rattle.modes.specs.declared.Mode.the-variants.{Startup, Nominal, Safety, Emergency}
 use Rattle.laws.proofs.Signed.{Same, same, read, yes-lt, no-lt, yes-le, no-le, order}
 use borrow.Author.Needs.{needs}
+use Rattle.modes.specs.Table.{stepOf}
 use Rattle.modes.proofs.ModeAge.step.Statement.{statement}
 use Rattle.modes.proofs.ModeAge.step.Tie as tie
 
@@ -37,6 +38,7 @@ enter-requires : tie.Need-enter-requires
 enter-requires c κs = search needs
 
 returns : tie.Need-returns
+unfolding stepOf
 returns c =
     let s = c .before .before .before .before .before .before .before .before in
     let k = known s in
@@ -47,6 +49,7 @@ enter-requires-2 : tie.Need-enter-requires-2
 enter-requires-2 c κs = search needs
 
 returns-2 : tie.Need-returns-2
+unfolding stepOf
 returns-2 c =
     let s = c .before .before .before .before .before .before .before .before in
     let k = known s in
@@ -63,6 +66,7 @@ enter-requires-3 : tie.Need-enter-requires-3
 enter-requires-3 c κs = search needs
 
 returns-3 : tie.Need-returns-3
+unfolding stepOf
 returns-3 c =
     let s = c .before .before .before .before .before .before in
     let k = known s in
@@ -79,6 +83,7 @@ enter-requires-4 : tie.Need-enter-requires-4
 enter-requires-4 c κs = search needs
 
 returns-4 : tie.Need-returns-4
+unfolding stepOf
 returns-4 c =
     let s = c .before .before .before .before .before .before .before .before .before in
     let k = known s in
@@ -92,6 +97,7 @@ enter-requires-5 : tie.Need-enter-requires-5
 enter-requires-5 c κs = search needs
 
 returns-5 : tie.Need-returns-5
+unfolding stepOf
 returns-5 c =
     let s = c .before .before .before .before .before .before .before .before .before .before .before .before in
     let k = known s in
@@ -109,6 +115,7 @@ enter-requires-6 : tie.Need-enter-requires-6
 enter-requires-6 c κs = search needs
 
 returns-6 : tie.Need-returns-6
+unfolding stepOf
 returns-6 c =
     let s = c .before .before .before .before .before .before in
     let k = known s in
@@ -119,6 +126,7 @@ enter-requires-7 : tie.Need-enter-requires-7
 enter-requires-7 c κs = search needs
 
 returns-7 : tie.Need-returns-7
+unfolding stepOf
 returns-7 c =
     let s = c .before .before .before .before .before .before .before .before .before in
     let k = known s in
@@ -126,12 +134,14 @@ returns-7 c =
     simp (modes, c .enter7 .ensures, no-lt (s .args .limits .«emergency_high») (s .args .rail) (omega (order, k, t)), le-leb (s .args .limits .period) (s .args .self .age) (omega (order, k, t)))
 
 returns-8 : tie.Need-returns-8
+unfolding stepOf
 returns-8 c =
     let s = c .before .before .before .before in
     let k = known s in
     simp (modes, lt-leb 50 (s .args .self .age) (omega (order, k)))
 
 returns-9 : tie.Need-returns-9
+unfolding stepOf
 returns-9 c =
     let s = c .before .before .before .before .before in
     let k = known s in
@@ -139,6 +149,7 @@ returns-9 c =
     simp (modes, no-lt (s .args .rail) (s .args .limits .«safety_low») (omega (order, k, t)))
 
 returns-10 : tie.Need-returns-10
+unfolding stepOf
 returns-10 c =
     let s = c .before .before .before .before .before .before .before .before .before .before .before in
     let k = known s in
@@ -147,12 +158,14 @@ returns-10 c =
     simp (modes, lt-ltb (s .args .limits .linger) (s .args .self .age) (omega (order, k, t, u)), no-lt (s .args .limits .«safety_high») (s .args .rail) (omega (order, k, t, u)), no-lt (s .args .rail) (s .args .limits .«emergency_low») (omega (order, k, t, u)))
 
 returns-11 : tie.Need-returns-11
+unfolding stepOf
 returns-11 c =
     let s = c .before .before .before .before .before in
     let k = known s in
     simp (modes, le-ltb (s .args .limits .linger) (s .args .self .age) (omega (order, k)))
 
 returns-12 : tie.Need-returns-12
+unfolding stepOf
 returns-12 c =
     let s = c .before .before .before .before .before .before .before .before in
     let k = known s in

@@ -3,6 +3,7 @@ use mathlib.Core.Path.{_≡_, sym, _∙_}
 use mir.Syntax.{w16, w32}
 use Rattle.laws.proofs.Signed.{Same, same, read, yes-le, no-le, order}
 use borrow.Author.Needs.{needs}
+use Rattle.modes.specs.Commands.{toNominal}
 use Rattle.modes.proofs.ModeAge.to_nominal.Statement.{statement}
 use Rattle.modes.proofs.ModeAge.to_nominal.Tie as tie
 
@@ -26,6 +27,7 @@ enter-requires : tie.Need-enter-requires
 enter-requires c κs = search needs
 
 returns : tie.Need-returns
+unfolding toNominal
 returns c =
     let s = c .before .before .before .before .before .before in
     let k = known s in
@@ -36,12 +38,15 @@ enum-told-4 : tie.Need-enum-told-4
 enum-told-4 c = search needs
 
 returns-2 : tie.Need-returns-2
+unfolding toNominal
 returns-2 c = search needs
 
 returns-3 : tie.Need-returns-3
+unfolding toNominal
 returns-3 c = simp (c .enum-told2 .given .1)
 
 returns-4 : tie.Need-returns-4
+unfolding toNominal
 returns-4 c =
     let s = c .before .before .before .before .before in
     let k = known s in
@@ -49,6 +54,7 @@ returns-4 c =
     simp (c .before .before .before .enum-told3 .given .1, no-le (s .args .limits .«safety_low») (s .args .rail) (omega (order, k, t)))
 
 returns-5 : tie.Need-returns-5
+unfolding toNominal
 returns-5 c = search needs
 
 pub to-nominal-spec : {M : Type 1} → statement M

@@ -1,0 +1,50 @@
+-- The types of the ICD's Table 3-24.
+use Prim.Native.Nat.{ℕ}
+use Rattle.value.specs.declared.ValueType.{ValueType}
+use Rattle.value.specs.declared.ValueType.the-variants.{Int8, Uint8, Int16, Uint16, Int32, Uint32, Float, Int64, Uint64, Double}
+use Rattle.value.specs.declared.ParamValue.{ParamValue}
+
+pub data Sign : Type 0 where
+  Signed Unsigned : Sign
+
+-- A row of Table 3-24: the sign, the bytes and the code of a type.
+pub data Row : Type 0 where
+  row : Sign → ℕ → ℕ → Row
+
+unfoldable pub table : ValueType → Row
+table Int8 = row Signed 1 0x1000
+table Uint8 = row Unsigned 1 0x2000
+table Int16 = row Signed 2 0x3000
+table Uint16 = row Unsigned 2 0x4000
+table Int32 = row Signed 4 0x5000
+table Uint32 = row Unsigned 4 0x6000
+table Float = row Signed 4 0x7000
+table Int64 = row Signed 8 0x8000
+table Uint64 = row Unsigned 8 0x9000
+table Double = row Signed 8 0xA000
+
+abbrev pub signIn : Row → Sign
+signIn (row sign bytes code) = sign
+
+abbrev pub bytesIn : Row → ℕ
+bytesIn (row sign bytes code) = bytes
+
+abbrev pub codeIn : Row → ℕ
+codeIn (row sign bytes code) = code
+
+-- How many bytes a value of a type has.
+unfoldable pub width : ValueType → ℕ
+width t = bytesIn (table t)
+
+-- The type that a value keeps.
+unfoldable pub typeOf : ParamValue → ValueType
+typeOf (ParamValue.Int8 x) = Int8
+typeOf (ParamValue.Uint8 x) = Uint8
+typeOf (ParamValue.Int16 x) = Int16
+typeOf (ParamValue.Uint16 x) = Uint16
+typeOf (ParamValue.Int32 x) = Int32
+typeOf (ParamValue.Uint32 x) = Uint32
+typeOf (ParamValue.Float x) = Float
+typeOf (ParamValue.Int64 x) = Int64
+typeOf (ParamValue.Uint64 x) = Uint64
+typeOf (ParamValue.Double x) = Double
