@@ -5,3 +5,4 @@ pub mod Ranges
 pub mod Stores
 pub mod Walks
 pub mod Resets
+pub mod Laws
