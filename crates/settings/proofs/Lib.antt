@@ -1,2 +1,8 @@
+pub mod Arrays
 pub mod Rows
 pub mod Places
+pub mod Ranges
+pub mod Stores
+pub mod Walks
+pub mod Resets
+pub mod Laws

@@ -1,19 +1,19 @@
 -- What the rows say of every id, each by one computed test of the table. Assumes nothing.
 use mathlib.Core.Path.{_≡_, refl, sym, ap, _∙_, subst}
 use mathlib.Core.Bool.{Bool, true, false, cond, _&&_}
-use mathlib.Core.List.{List, [], _∷_, _++_}
+use mathlib.Core.List.{List, [], _∷_, _++_, map}
 use Prim.Native.Nat.{ℕ, zero, suc, _+_, _-_, _≤_, _<_}
 use native.Mathlib.Nat.{not-suc-le-zero, add-zero}
 use native.Mathlib.Omega.{arith}
 use borrow.Author.Tests.{leb-true, ltb-true, le-leb}
 use lib.Dec.{T, leb, ltb}
-use lib.IntN.{ℤ, pos}
+use lib.IntN.{ℤ, pos, natAbs}
 use lib.Signed.{leZ}
-use lib.ListN.{getD, replicate, getD-replicate}
+use lib.ListN.{getD, List·getD-map, replicate, getD-replicate}
 use Rattle.value.specs.declared.ValueType.{ValueType}
 use Rattle.value.specs.declared.ValueType.the-variants.{Int8, Uint8, Int16, Uint16, Int32, Uint32, Float, Int64, Uint64, Double}
 use Rattle.settings.specs.declared.Parameter.{Parameter}
-use Rattle.settings.specs.Table.{codeOf, lowest, highest, Range, Row, _to_are_with_default_, _to_are-read_, readWriteRows, readOnlyRows, lies, Entry, readWrite, readOnly, missing, find, rowOf, column, parameterIn, parameterOf, lowEnd, highEnd, lowIn, highIn, lowOf, highOf}
+use Rattle.settings.specs.Table.{codeOf, lowest, highest, Range, any, Row, _to_are_with_default_, _to_are-read_, readWriteRows, readOnlyRows, lies, Entry, readWrite, readOnly, missing, find, rowOf, column, parameterIn, parameterOf, rangeIn, rangeOf, lowEnd, highEnd, lowIn, highIn, lowOf, highOf}
 
 -- ---- a function of ids that is computed at each id of a block
 pub column-at {ℓ} : {A : Type ℓ} (f : ℕ → A) (lo n k : ℕ) (d : A) → k < n → getD (column f lo n) k d ≡ f (lo + k)
@@ -26,6 +26,11 @@ pub same-on {ℓ} : {A : Type ℓ} (f : ℕ → A) (lo n : ℕ) (a : A) → colu
 same-on f lo n a e id h h′ =
     let k : lo + (id - lo) ≡ id = omega arith in
     ap f (sym k) ∙ sym (column-at f lo n (id - lo) a (omega arith)) ∙ ap (λ (l : List _). getD l (id - lo) a) e ∙ getD-replicate n (id - lo) a a (omega arith)
+
+-- where none of its numbers is negative
+pub column-of : (f : ℕ → ℤ) (lo n : ℕ) → map pos (column (λ id. natAbs (f id)) lo n) ≡ column f lo n → (k : ℕ) → k < n → pos (getD (column (λ id. natAbs (f id)) lo n) k 0) ≡ f (lo + k)
+column-of f lo n e k h =
+    sym (List·getD-map pos (column (λ id. natAbs (f id)) lo n) k 0) ∙ ap (λ (l : List ℤ). getD l k (pos 0)) e ∙ column-at f lo n k (pos 0) h
 
 -- ---- an id lies between two others
 pub and-true : (a b : Bool) → a && b ≡ true → (a ≡ true) × (b ≡ true)
@@ -146,6 +151,16 @@ held id t e = go (rowOf id) e (known id)
     go (readOnly u) e k = let z : _≡_ {A = ℕ} 0 1 = cc in absurd (omega arith)
     go missing e k = let z : _≡_ {A = ℕ} 0 1 = cc in absurd (omega arith)
 
+-- the ends of every id are in order
+pub ends-ordered : (id : ℕ) → leZ (lowOf id) (highOf id) ≡ true
+unfolding lowOf highOf
+ends-ordered id = go (rowOf id) (known id)
+  where
+    go : (x : Entry) → Known id x → leZ (lowIn x) (highIn x) ≡ true
+    go (readWrite t r d) k = k .ordered
+    go (readOnly t) k = refl
+    go missing k = refl
+
 pub shown : (id : ℕ) (t : ValueType) → parameterOf id ≡ Parameter.ReadOnly t → Shown id t
 unfolding parameterOf
 shown id t e = go (rowOf id) e (known id)
@@ -195,3 +210,26 @@ uint16s-read id h h′ = same-on parameterOf 0x4800 20 _ refl id h (omega arith)
 pub uint32s-read : (id : ℕ) → 0x6800 ≤ id → id ≤ 0x6814 → parameterOf id ≡ Parameter.ReadOnly Uint32
 unfolding parameterOf rowOf find lies readWriteRows readOnlyRows column
 uint32s-read id h h′ = same-on parameterOf 0x6800 21 _ refl id h (omega arith)
+
+-- ---- the types that no row gives a range
+pub int8-any : (id : ℕ) → 0x1000 ≤ id → id ≤ 0x1014 → rangeOf id ≡ any
+unfolding rangeOf rowOf find lies readWriteRows readOnlyRows column
+int8-any id h h′ = same-on rangeOf 0x1000 21 _ refl id h (omega arith)
+
+pub uint8-any : (id : ℕ) → 0x2000 ≤ id → id ≤ 0x2002 → rangeOf id ≡ any
+unfolding rangeOf rowOf find lies readWriteRows readOnlyRows column
+uint8-any id h h′ = same-on rangeOf 0x2000 3 _ refl id h (omega arith)
+
+pub uint32-any : (id : ℕ) → 0x6000 ≤ id → id ≤ 0x6005 → rangeOf id ≡ any
+unfolding rangeOf rowOf find lies readWriteRows readOnlyRows column
+uint32-any id h h′ = same-on rangeOf 0x6000 6 _ refl id h (omega arith)
+
+-- there the ends are the type's
+pub any-ends : (id : ℕ) (t : ValueType) → parameterOf id ≡ Parameter.ReadWrite t → rangeOf id ≡ any → (lowOf id ≡ lowest t) × (highOf id ≡ highest t)
+unfolding parameterOf rangeOf lowOf highOf
+any-ends id t e f = go (rowOf id) e f
+  where
+    go : (x : Entry) → parameterIn x ≡ Parameter.ReadWrite t → rangeIn x ≡ any → (lowIn x ≡ lowest t) × (highIn x ≡ highest t)
+    go (readWrite u r d) e f = let p : u ≡ t = cc in rw (p, f) (refl, refl)
+    go (readOnly u) e f = let z : _≡_ {A = ℕ} 0 1 = cc in absurd (omega arith)
+    go missing e f = let z : _≡_ {A = ℕ} 0 1 = cc in absurd (omega arith)

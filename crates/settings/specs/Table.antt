@@ -205,7 +205,16 @@ parameterIn missing = Parameter.Unknown
 unfoldable pub parameterOf : ℕ → Parameter
 parameterOf id = parameterIn (rowOf id)
 
--- ---- its range: a range with one end takes the type's other end, and no range is any number of the type
+-- ---- its range
+abbrev pub rangeIn : Entry → Range
+rangeIn (readWrite t r d) = r
+rangeIn (readOnly t) = any
+rangeIn missing = any
+
+unfoldable pub rangeOf : ℕ → Range
+rangeOf id = rangeIn (rowOf id)
+
+-- a range with one end takes the type's other end, and no range is any number of the type
 abbrev pub lowEnd : ValueType → Range → ℤ
 lowEnd t any = lowest t
 lowEnd t (least a) = a

@@ -131,9 +131,9 @@ defaultsOf = record {
 }
 
 -- ---- every read/write parameter's number lies in its range
-unfoldable pub all : (ℕ → Bool) → List ℕ → Bool
-all p [] = true
-all p (id ∷ more) = p id && all p more
+unfoldable pub allInside : Settings → List ℕ → Bool
+allInside s [] = true
+allInside s (id ∷ more) = insideOf id (numberOf s id) && allInside s more
 
 unfoldable pub inRangeOf : Settings → Bool
-inRangeOf s = all (λ id. insideOf id (numberOf s id)) ids
+inRangeOf s = allInside s ids

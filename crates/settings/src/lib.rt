@@ -1,8 +1,9 @@
 // The read/write parameters of Table 3-25: what an id is, and its value read, set and reset.
 ghost use mathlib.Core.Path.{_≡_};
 ghost use Prim.Native.Nat.{_+_, _<_};
-ghost use Rattle.settings.specs.Table.{lies, parameterOf};
-ghost use Rattle.settings.specs.Values.{getOf, defaultsOf};
+ghost use lib.IntN.{pos};
+ghost use Rattle.settings.specs.Table.{lies, parameterOf, lowOf, highOf, clampOf, insideOf, from};
+ghost use Rattle.settings.specs.Values.{getOf, setOf, resetOf, defaultsOf, allInside, inRangeOf};
 ghost use Rattle.settings.specs.Places.{placeOf};
 
 mod tables;
@@ -133,4 +134,229 @@ pub fn get(s: Settings, id: u16) -> Got
         Place::ReadOnly(t) => Got::ReadOnly(t),
         Place::Unknown => Got::Unknown,
     }
+}
+
+// The low end of the range of the id 0x3000 + i.
+fn int16_low(i: usize) -> i16
+    requires { ⌜ i < 42 ⌝ }
+    ensures { λ r. ⌜ r ≡ lowOf (0x3000 + i) ⌝ }
+{
+    tables::INT16_LOW[i]
+}
+
+// The high end of the range of the id 0x3000 + i.
+fn int16_high(i: usize) -> i16
+    requires { ⌜ i < 42 ⌝ }
+    ensures { λ r. ⌜ r ≡ highOf (0x3000 + i) ⌝ }
+{
+    tables::INT16_HIGH[i]
+}
+
+// The low end of the range of the id 0x4000 + i.
+fn uint16_low(i: usize) -> u16
+    requires { ⌜ i < 68 ⌝ }
+    ensures { λ r. ⌜ pos r ≡ lowOf (0x4000 + i) ⌝ }
+{
+    tables::UINT16_LOW[i]
+}
+
+// The high end of the range of the id 0x4000 + i.
+fn uint16_high(i: usize) -> u16
+    requires { ⌜ i < 68 ⌝ }
+    ensures { λ r. ⌜ pos r ≡ highOf (0x4000 + i) ⌝ }
+{
+    tables::UINT16_HIGH[i]
+}
+
+// An int16 value for the id 0x3000 + i, taken as the nearer end where it lies outside the id's range.
+fn clamp_int16(i: usize, x: i16) -> i16
+    requires { ⌜ i < 42 ⌝ }
+    ensures { λ r. ⌜ r ≡ clampOf (0x3000 + i) x ⌝ }
+{
+    let low = int16_low(i);
+    if x < low {
+        return low;
+    }
+    let high = int16_high(i);
+    if high < x {
+        return high;
+    }
+    x
+}
+
+// A uint16 value for the id 0x4000 + i, taken as the nearer end where it lies outside the id's range.
+fn clamp_uint16(i: usize, x: u16) -> u16
+    requires { ⌜ i < 68 ⌝ }
+    ensures { λ r. ⌜ pos r ≡ clampOf (0x4000 + i) (pos x) ⌝ }
+{
+    let low = uint16_low(i);
+    if x < low {
+        return low;
+    }
+    let high = uint16_high(i);
+    if high < x {
+        return high;
+    }
+    x
+}
+
+// The settings with an int8 value stored for the id; as they were where the id is no read/write parameter of that type.
+fn set_int8(mut s: Settings, id: u16, x: i8) -> Settings
+    ensures { λ r. ⌜ r ≡ setOf s id (ParamValue.Int8 x) ⌝ }
+{
+    if lie(id, 0x1000, 0x1014) {
+        let i = (id - 0x1000) as usize;
+        s.i8s[i] = x;
+        return s;
+    }
+    s
+}
+
+// The settings with a uint8 value stored for the id; as they were where the id is no read/write parameter of that type.
+fn set_uint8(mut s: Settings, id: u16, x: u8) -> Settings
+    ensures { λ r. ⌜ r ≡ setOf s id (ParamValue.Uint8 x) ⌝ }
+{
+    if lie(id, 0x2000, 0x2002) {
+        let i = (id - 0x2000) as usize;
+        s.u8s[i] = x;
+        return s;
+    }
+    s
+}
+
+// The settings with an int16 value stored for the id; as they were where the id is no read/write parameter of that type.
+fn set_int16(mut s: Settings, id: u16, x: i16) -> Settings
+    ensures { λ r. ⌜ r ≡ setOf s id (ParamValue.Int16 x) ⌝ }
+{
+    if lie(id, 0x3000, 0x3029) {
+        let i = (id - 0x3000) as usize;
+        s.i16s[i] = clamp_int16(i, x);
+        return s;
+    }
+    s
+}
+
+// The settings with a uint16 value stored for the id; as they were where the id is no read/write parameter of that type.
+fn set_uint16(mut s: Settings, id: u16, x: u16) -> Settings
+    ensures { λ r. ⌜ r ≡ setOf s id (ParamValue.Uint16 x) ⌝ }
+{
+    if lie(id, 0x4000, 0x4043) {
+        let i = (id - 0x4000) as usize;
+        s.u16s[i] = clamp_uint16(i, x);
+        return s;
+    }
+    s
+}
+
+// The settings with a uint32 value stored for the id; as they were where the id is no read/write parameter of that type.
+fn set_uint32(mut s: Settings, id: u16, x: u32) -> Settings
+    ensures { λ r. ⌜ r ≡ setOf s id (ParamValue.Uint32 x) ⌝ }
+{
+    if lie(id, 0x6000, 0x6005) {
+        let i = (id - 0x6000) as usize;
+        s.u32s[i] = x;
+        return s;
+    }
+    s
+}
+
+// The settings with a value stored for the id, at the nearer end of the id's range where it lies outside; a value of another type than
+// the id's, and an id that is read-only or unknown, change nothing.
+pub fn set(s: Settings, id: u16, value: ParamValue) -> Settings
+    ensures { λ r. ⌜ r ≡ setOf s id value ⌝ }
+{
+    match value {
+        ParamValue::Int8(x) => set_int8(s, id, x),
+        ParamValue::Uint8(x) => set_uint8(s, id, x),
+        ParamValue::Int16(x) => set_int16(s, id, x),
+        ParamValue::Uint16(x) => set_uint16(s, id, x),
+        ParamValue::Int32(_) => s,
+        ParamValue::Uint32(x) => set_uint32(s, id, x),
+        ParamValue::Float(_) => s,
+        ParamValue::Int64(_) => s,
+        ParamValue::Uint64(_) => s,
+        ParamValue::Double(_) => s,
+    }
+}
+
+// The settings with one parameter at its default, brought into range; an id that is read-only or unknown changes nothing.
+pub fn reset_one(s: Settings, id: u16) -> Settings
+    ensures { λ r. ⌜ r ≡ resetOf s id ⌝ }
+{
+    let default = get(defaults(), id);
+    match default {
+        Got::Value(value) => set(s, id, value),
+        Got::ReadOnly(_) => s,
+        Got::Unknown => s,
+    }
+}
+
+// Whether an int16 value lies in the range of the id 0x3000 + i.
+fn int16_inside(i: usize, x: i16) -> bool
+    requires { ⌜ i < 42 ⌝ }
+    ensures { λ r. ⌜ r ≡ insideOf (0x3000 + i) x ⌝ }
+{
+    if x < int16_low(i) {
+        return false;
+    }
+    if int16_high(i) < x {
+        return false;
+    }
+    true
+}
+
+// Whether a uint16 value lies in the range of the id 0x4000 + i.
+fn uint16_inside(i: usize, x: u16) -> bool
+    requires { ⌜ i < 68 ⌝ }
+    ensures { λ r. ⌜ r ≡ insideOf (0x4000 + i) (pos x) ⌝ }
+{
+    if x < uint16_low(i) {
+        return false;
+    }
+    if uint16_high(i) < x {
+        return false;
+    }
+    true
+}
+
+// Whether all int16 values lie in range.
+fn int16s_in_range(s: Settings) -> bool
+    ensures { λ r. ⌜ r ≡ allInside s (from 0x3000 42) ⌝ }
+{
+    let xs = s.i16s;
+    let mut i = 0;
+    while i < 42 {
+        if int16_inside(i, xs[i]) {
+            i += 1;
+        } else {
+            return false;
+        }
+    }
+    true
+}
+
+// Whether all uint16 values lie in range.
+fn uint16s_in_range(s: Settings) -> bool
+    ensures { λ r. ⌜ r ≡ allInside s (from 0x4000 68) ⌝ }
+{
+    let xs = s.u16s;
+    let mut i = 0;
+    while i < 68 {
+        if uint16_inside(i, xs[i]) {
+            i += 1;
+        } else {
+            return false;
+        }
+    }
+    true
+}
+
+// Whether every value lies in range; only int16 and uint16 parameters have a range narrower than their type.
+pub fn in_range(s: Settings) -> bool
+    ensures { λ r. ⌜ r ≡ inRangeOf s ⌝ }
+{
+    if int16s_in_range(s) {
+        return uint16s_in_range(s);
+    }
+    false
 }

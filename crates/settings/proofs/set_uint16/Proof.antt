@@ -1,0 +1,58 @@
+-- The id's place is the one that is written, with the value at the nearer end of the id's range.
+use mathlib.Core.Path.{_≡_, refl, sym, _∙_}
+use native.Mathlib.Omega.{arith}
+use Rattle.value.specs.declared.ValueType.the-variants.{Uint16}
+use Rattle.value.specs.declared.ParamValue.{ParamValue}
+use Rattle.settings.specs.Table.{same, clampOf}
+use Rattle.settings.specs.Values.{with-number}
+use Rattle.settings.proofs.Places.{at}
+use Rattle.settings.proofs.Stores.{set-at, set-off}
+use Rattle.settings.proofs.Rows.{lies-yes, lies-no, uint16s}
+use Prim.Native.Nat.{_+_, _-_}
+use lib.IntN.{pos}
+use borrow.Author.Needs.{needs}
+use Rattle.settings.proofs.set_uint16.Statement.{statement}
+use Rattle.settings.proofs.set_uint16.Tie as tie
+
+lie-requires : tie.Need-lie-requires
+lie-requires c κs = search needs
+
+sub-i : tie.Need-sub-i
+sub-i c = let h = lies-yes _ _ _ (sym (c .before .lie .ensures) ∙ c .if1 .taken) in omega arith
+
+cast-i : tie.Need-cast-i
+cast-i c = search needs
+
+clamp-uint16-requires : tie.Need-clamp-uint16-requires
+clamp-uint16-requires c κs = let h = lies-yes _ _ _ (sym (c .before .lie .ensures) ∙ c .if1 .taken) in omega arith
+
+mul-s : tie.Need-mul-s
+mul-s c = search needs
+
+element-write-s : tie.Need-element-write-s
+element-write-s c = let h = lies-yes _ _ _ (sym (c .before .before .lie .ensures) ∙ c .before .if1 .taken) in omega arith
+
+returns : tie.Need-returns
+unfolding with-number same
+returns c =
+    let h = lies-yes _ _ _ (sym (c .before .before .lie .ensures) ∙ c .before .if1 .taken) in
+    let e = uint16s (c .before .before .before .args .id) (omega arith) (omega arith) in
+    let p : 0x4000 + (c .before .before .before .args .id - 0x4000) ≡ c .before .before .before .args .id = omega arith in
+    let q : clampOf (c .before .before .before .args .id) (pos (c .before .before .before .args .x)) ≡ pos (c .clamp-uint16 .result) = rw p at (sym (c .clamp-uint16 .ensures)) in
+    rw (set-at (c .before .before .before .args .t1) (ParamValue.Uint16 (c .before .before .before .args .x)) (at (c .before .before .before .args .id) Uint16 e) refl, q)
+
+returns-2 : tie.Need-returns-2
+returns-2 c = sym (set-off (c .before .before .args .t1) (c .before .before .args .id) (ParamValue.Uint16 (c .before .before .args .x)) (λ h h′. lies-no _ _ _ (sym (c .before .lie .ensures) ∙ c .if1 .left) (omega arith) (omega arith)))
+
+pub set-uint16-spec : {M : Type 1} → statement M
+set-uint16-spec =
+    tie.close
+    (tie.spec
+    lie-requires
+    sub-i
+    cast-i
+    clamp-uint16-requires
+    mul-s
+    element-write-s
+    returns
+    returns-2)

@@ -1,0 +1,46 @@
+-- The id's place is the one that is written, and no row of the type gives a range, so the value is kept as it is.
+use mathlib.Core.Path.{refl, sym, _∙_}
+use native.Mathlib.Omega.{arith}
+use Rattle.value.specs.declared.ValueType.the-variants.{Uint32}
+use Rattle.value.specs.declared.ParamValue.{ParamValue}
+use Rattle.settings.specs.Table.{same}
+use Rattle.settings.specs.Values.{with-number}
+use Rattle.settings.proofs.Places.{at}
+use Rattle.settings.proofs.Stores.{set-at, set-off}
+use Rattle.settings.proofs.Rows.{lies-yes, lies-no, uint32s, uint32-any}
+use Rattle.settings.proofs.Ranges.{any-kept, uint32-fits}
+use lib.IntN.{pos}
+use borrow.Author.Needs.{needs}
+use Rattle.settings.proofs.set_uint32.Statement.{statement}
+use Rattle.settings.proofs.set_uint32.Tie as tie
+
+lie-requires : tie.Need-lie-requires
+lie-requires c κs = search needs
+
+sub-i : tie.Need-sub-i
+sub-i c = let h = lies-yes _ _ _ (sym (c .before .lie .ensures) ∙ c .if1 .taken) in omega arith
+
+cast-i : tie.Need-cast-i
+cast-i c = search needs
+
+mul-s : tie.Need-mul-s
+mul-s c = search needs
+
+element-write-s : tie.Need-element-write-s
+element-write-s c = let h = lies-yes _ _ _ (sym (c .before .lie .ensures) ∙ c .if1 .taken) in omega arith
+
+returns : tie.Need-returns
+unfolding with-number same
+returns c =
+    let h = lies-yes _ _ _ (sym (c .before .lie .ensures) ∙ c .if1 .taken) in
+    let id = c .before .before .args .id in
+    let x = c .before .before .args .x in
+    let e = uint32s id (omega arith) (omega arith) in
+    rw (set-at (c .before .before .args .t1) (ParamValue.Uint32 x) (at id Uint32 e) refl, any-kept id Uint32 (pos x) e (uint32-any id (omega arith) (omega arith)) (uint32-fits x (omega (arith, c .before .before .fits .x))))
+
+returns-2 : tie.Need-returns-2
+returns-2 c = sym (set-off (c .before .before .args .t1) (c .before .before .args .id) (ParamValue.Uint32 (c .before .before .args .x)) (λ h h′. lies-no _ _ _ (sym (c .before .lie .ensures) ∙ c .if1 .left) (omega arith) (omega arith)))
+
+pub set-uint32-spec : {M : Type 1} → statement M
+set-uint32-spec =
+    tie.close (tie.spec lie-requires sub-i cast-i mul-s element-write-s returns returns-2)
