@@ -1,12 +1,12 @@
 -- Read back from their image, the settings are the same. Assumes nothing.
 use mathlib.Core.Path.{_≡_, refl, sym, ap, ap₂, _∙_, subst}
-use mathlib.Core.List.{List, [], _∷_, _++_, append-assoc}
+use mathlib.Core.List.{List, [], _∷_, _++_, append-assoc, append-nil}
 use Prim.Native.Nat.{ℕ, zero, suc, _+_, _*_, _^_, _≤_, _<_}
 use native.Mathlib.Nat.{add-zero, not-suc-le-zero}
 use native.Mathlib.Omega.{arith}
 use lib.IntN.{ℤ, pos}
 use lib.ListN.{length, take, drop, getD, length-append}
-use lib.Seq.{drop-at}
+use lib.Seq.{drop-at, drop-drop}
 use mir.Syntax.{w8, w16, w32}
 use mir.Val.{Fits, SFits}
 use Rattle.wire.specs.Numbers.{number, bytesOf, signed, pattern}
@@ -14,7 +14,7 @@ use Rattle.wire.proofs.LittleEndian.{number-append, number-bytesOf, length-byte
 use Rattle.wire.proofs.TwosComplement.{signed-pattern, pattern-fits}
 use Rattle.value.specs.Types.{table, width, typeOf}
 use Rattle.value.specs.Values.{wireBytes, spelt}
-use Rattle.settings.specs.Table.{readWriteRows, column, from, idsOf, ids}
+use Rattle.settings.specs.Table.{readWriteRows, readOnlyRows, lies, find, rowOf, parameterOf, column, from, idsOf, ids}
 use Rattle.settings.specs.declared.Settings.{Settings}
 use Rattle.settings.proofs.Places.{int8-get, uint8-get, int16-get, uint16-get, uint32-get}
 use Rattle.settings.proofs.Stores.{Sized}
@@ -34,9 +34,9 @@ module _ {A : Type 0} (g : ℕ → A) (p : A → ℕ) (w : ℕ) (d : A) (f : ℕ
       let more = inRow f (from (suc first) (length xs)) ++ rest in
       let here : f first ≡ bytesOf w (p x) = ap f (sym (add-zero first)) ∙ bytes 0 (omega arith) in
       let split : (f first ++ inRow f (from (suc first) (length xs))) ++ rest ≡ bytesOf w (p x) ++ more =
-          append-assoc (f first) (inRow f (from (suc first) (length xs))) rest ∙ ap (λ (l : List ℕ). l ++ more) here in
+      append-assoc (f first) (inRow f (from (suc first) (length xs))) rest ∙ ap (λ (l : List ℕ). l ++ more) here in
       let n : number w (bytesOf w (p x) ++ more) ≡ p x =
-          number-append w (bytesOf w (p x)) more (omega (arith, length-bytesOf w (p x))) ∙ number-bytesOf w (p x) (small 0 (omega arith)) in
+      number-append w (bytesOf w (p x)) more (omega (arith, length-bytesOf w (p x))) ∙ number-bytesOf w (p x) (small 0 (omega arith)) in
       let past : drop w (bytesOf w (p x) ++ more) ≡ more = drop-at (bytesOf w (p x)) more w (length-bytesOf w (p x)) in
       let next : (k : ℕ) → suc first + k ≡ first + suc k = λ k. omega arith in
       ap (numbersOf g w (suc (length xs))) split
@@ -44,6 +44,15 @@ module _ {A : Type 0} (g : ℕ → A) (p : A → ℕ) (w : ℕ) (d : A) (f : ℕ
       (ap g n ∙ back 0 (omega arith))
       (ap (numbersOf g w (length xs)) past
       ∙ block xs (suc first) rest (λ k h. ap f (next k) ∙ bytes (suc k) (omega arith)) (λ k h. small (suc k) (omega arith)) (λ k h. back (suc k) (omega arith)))
+
+  -- the same for an array of n
+  pub resized : (n : ℕ) (xs : List A) (first : ℕ) (rest : List ℕ) → length xs ≡ n
+      → ((k : ℕ) → k < n → f (first + k) ≡ bytesOf w (p (getD xs k d)))
+      → ((k : ℕ) → p (getD xs k d) < 256 ^ w)
+      → ((k : ℕ) → g (p (getD xs k d)) ≡ getD xs k d)
+      → numbersOf g w n (inRow f (from first n) ++ rest) ≡ xs
+  resized n xs first rest e bytes small back =
+      rw (← e) (block xs first rest (λ k h. bytes k (omega (arith, e))) (λ k h. small k) (λ k h. back k))
 
 -- ---- the bytes of each type's values
 module _ (s : Settings) (k : ℕ) where
@@ -76,6 +85,14 @@ pub record Typed (s : Settings) : Type 0 where
   pub i8-fits : (k : ℕ) → SFits w8 (getD (s .i8s) k (pos 0))
   pub u8-fits : (k : ℕ) → Fits w8 (getD (s .u8s) k 0)
 
+ids-in-blocks : ids ≡ from 0x1000 21 ++ (from 0x2000 3 ++ (from 0x3000 42 ++ (from 0x4000 68 ++ from 0x6000 6)))
+unfolding ids idsOf from column readWriteRows
+ids-in-blocks = refl
+
+block-sizes : (widths (from 0x1000 21) ≡ 21) × (widths (from 0x2000 3) ≡ 3) × (widths (from 0x3000 42) ≡ 84) × (widths (from 0x4000 68) ≡ 136)
+unfolding widths widthIn parameterOf rowOf find lies readWriteRows readOnlyRows from column
+block-sizes = (refl, refl, refl, refl)
+
 module _ (s : Settings) (t : Typed s) where
   abbrev rows : List ℕ → List ℕ
   rows xs = inRow (parameterBytes s) xs
@@ -91,7 +108,68 @@ module _ (s : Settings) (t : Typed s) where
       ∙ ap (λ (l : List ℕ). rows (from 0x2000 3) ++ l)
       (row-append (parameterBytes s) (from 0x3000 42) _
       ∙ ap (λ (l : List ℕ). rows (from 0x3000 42) ++ l) (row-append (parameterBytes s) (from 0x4000 68) (from 0x6000 6))))
-    where
-      ids-in-blocks : ids ≡ from 0x1000 21 ++ (from 0x2000 3 ++ (from 0x3000 42 ++ (from 0x4000 68 ++ from 0x6000 6)))
-      unfolding ids idsOf from column readWriteRows
-      ids-in-blocks = refl
+
+  -- how long each type's bytes are
+  size : (xs : List ℕ) (n : ℕ) → widths xs ≡ n → length (rows xs) ≡ n
+  size xs n e = length-row s xs ∙ e
+
+  abbrev after32 : List ℕ
+  after32 = rows (from 0x6000 6)
+
+  abbrev after16 : List ℕ
+  after16 = rows (from 0x4000 68) ++ after32
+
+  abbrev afterS16 : List ℕ
+  afterS16 = rows (from 0x3000 42) ++ after16
+
+  abbrev after8 : List ℕ
+  after8 = rows (from 0x2000 3) ++ afterS16
+
+  past-8 : drop 21 (imageOf s) ≡ after8
+  past-8 = ap (drop 21) in-blocks ∙ drop-at (rows (from 0x1000 21)) after8 21 (size (from 0x1000 21) 21 (block-sizes .0))
+
+  past-24 : drop 24 (imageOf s) ≡ afterS16
+  past-24 = sym (drop-drop 3 21 (imageOf s)) ∙ ap (drop 3) past-8 ∙ drop-at (rows (from 0x2000 3)) afterS16 3 (size (from 0x2000 3) 3 (block-sizes .1))
+
+  past-108 : drop 108 (imageOf s) ≡ after16
+  past-108 = sym (drop-drop 84 24 (imageOf s)) ∙ ap (drop 84) past-24 ∙ drop-at (rows (from 0x3000 42)) after16 84 (size (from 0x3000 42) 84 (block-sizes .2))
+
+  past-244 : drop 244 (imageOf s) ≡ after32
+  past-244 = sym (drop-drop 136 108 (imageOf s)) ∙ ap (drop 136) past-108 ∙ drop-at (rows (from 0x4000 68)) after32 136 (size (from 0x4000 68) 136 (block-sizes .3))
+
+  -- each type's values
+  i8s-back : numbersOf (signed 1) 1 21 (imageOf s) ≡ s .i8s
+  i8s-back =
+      ap (numbersOf (signed 1) 1 21) in-blocks
+      ∙ resized (signed 1) (pattern 1) 1 (pos 0) (parameterBytes s) 21 (s .i8s) 0x1000 after8 (t .sizes .i8-size)
+      (λ k h. int8-bytes s k h)
+      (λ k. pattern-fits w8 _ (t .i8-fits k) .fits)
+      (λ k. signed-pattern w8 _ (t .i8-fits k))
+
+  u8s-back : numbersOf itself 1 3 (drop 21 (imageOf s)) ≡ s .u8s
+  u8s-back =
+      ap (numbersOf itself 1 3) past-8
+      ∙ resized itself itself 1 0 (parameterBytes s) 3 (s .u8s) 0x2000 afterS16 (t .sizes .u8-size) (λ k h. uint8-bytes s k h) (λ k. t .u8-fits k .fits) (λ k. refl)
+
+  i16s-back : numbersOf (signed 2) 2 42 (drop 24 (imageOf s)) ≡ s .i16s
+  i16s-back =
+      ap (numbersOf (signed 2) 2 42) past-24
+      ∙ resized (signed 2) (pattern 2) 2 (pos 0) (parameterBytes s) 42 (s .i16s) 0x3000 after16 (t .sizes .i16-size)
+      (λ k h. int16-bytes s k h)
+      (λ k. pattern-fits w16 _ (t .i16-fits k) .fits)
+      (λ k. signed-pattern w16 _ (t .i16-fits k))
+
+  u16s-back : numbersOf itself 2 68 (drop 108 (imageOf s)) ≡ s .u16s
+  u16s-back =
+      ap (numbersOf itself 2 68) past-108
+      ∙ resized itself itself 2 0 (parameterBytes s) 68 (s .u16s) 0x4000 after32 (t .sizes .u16-size) (λ k h. uint16-bytes s k h) (λ k. t .u16-fits k .fits) (λ k. refl)
+
+  u32s-back : numbersOf itself 4 6 (drop 244 (imageOf s)) ≡ s .u32s
+  u32s-back =
+      ap (numbersOf itself 4 6) (past-244 ∙ sym (append-nil after32))
+      ∙ resized itself itself 4 0 (parameterBytes s) 6 (s .u32s) 0x6000 [] (t .sizes .u32-size) (λ k h. uint32-bytes s k h) (λ k. t .u32-fits k .fits) (λ k. refl)
+
+  -- the same settings
+  pub reads-back : settingsOf (imageOf s) ≡ s
+  unfolding settingsOf
+  reads-back = λ i. record { u32s = u32s-back i; u16s = u16s-back i; i16s = i16s-back i; i8s = i8s-back i; u8s = u8s-back i }

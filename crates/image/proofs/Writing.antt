@@ -53,7 +53,7 @@ unfolding roomed
 taken bytes = take-at bytes (replicate (8 - length bytes) 0) (length bytes) refl
 
 -- ---- how many bytes an id has, whatever the settings are
-unfoldable widthIn : Parameter → ℕ
+unfoldable pub widthIn : Parameter → ℕ
 widthIn (Parameter.ReadWrite Int8) = 1
 widthIn (Parameter.ReadWrite Uint8) = 1
 widthIn (Parameter.ReadWrite Int16) = 2
@@ -67,7 +67,7 @@ widthIn (Parameter.ReadWrite Double) = 0
 widthIn (Parameter.ReadOnly t) = 0
 widthIn Parameter.Unknown = 0
 
-unfoldable widths : List ℕ → ℕ
+unfoldable pub widths : List ℕ → ℕ
 widths [] = 0
 widths (id ∷ more) = widthIn (parameterOf id) + widths more
 
@@ -93,7 +93,7 @@ length-parameter s id = go (parameterOf id) (numberOf s id)
     go (Parameter.ReadOnly t) z = refl
     go Parameter.Unknown z = refl
 
-length-row : (s : Settings) (xs : List ℕ) → length (inRow (parameterBytes s) xs) ≡ widths xs
+pub length-row : (s : Settings) (xs : List ℕ) → length (inRow (parameterBytes s) xs) ≡ widths xs
 unfolding inRow widths
 length-row s [] = refl
 length-row s (id ∷ xs) = length-append (parameterBytes s id) (inRow (parameterBytes s) xs) ∙ ap₂ (λ (a b : ℕ). a + b) (length-parameter s id) (length-row s xs)
@@ -103,7 +103,7 @@ unfolding imageOf
 length-image s = length-row s ids ∙ all-widths
 
 -- ---- the walk: after k ids the image begins with their bytes
-row-append : (f : ℕ → List ℕ) (xs ys : List ℕ) → inRow f (xs ++ ys) ≡ inRow f xs ++ inRow f ys
+pub row-append : (f : ℕ → List ℕ) (xs ys : List ℕ) → inRow f (xs ++ ys) ≡ inRow f xs ++ inRow f ys
 unfolding inRow
 row-append f [] ys = refl
 row-append f (x ∷ xs) ys = ap (λ (l : List ℕ). f x ++ l) (row-append f xs ys) ∙ sym (append-assoc (f x) (inRow f xs) (inRow f ys))
