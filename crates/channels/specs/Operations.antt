@@ -14,23 +14,23 @@ infix 10 if_then_else_
 abbrev pub if_then_else_ : {A : Type 0} → Bool → A → A → A
 if b then x else y = cond b x y
 
--- "goes off, is latched, and its count rises by 1 up to 65,535"
+-- tripped by overcurrent: off, latched, and counted once more, but never above 65,535
 abbrev pub tripped : Chan → Chan
 tripped ch = record { on = false; latched = true; count = min (ch .count + 1) 65535 }
 
--- "is on and its latch cleared"
+-- on, with no latch
 abbrev pub onAndCleared : Chan → Chan
 onAndCleared ch = record { on = true; latched = false; count = ch .count }
 
--- "is off, latch cleared"
+-- off, with no latch
 abbrev pub offAndCleared : Chan → Chan
 offAndCleared ch = record { on = false; latched = false; count = ch .count }
 
--- "go off, latches stay"
+-- off, with its latch as it was
 abbrev pub offAndLatchKept : Chan → Chan
 offAndLatchKept ch = record { on = false; latched = ch .latched; count = ch .count }
 
--- a fitted channel is force-enabled where the profile says so, and "other fitted channels are command-enabled"
+-- a fitted channel is force-enabled where the profile says so, and command-enabled where it does not
 abbrev pub forceEnabled : Bool → Bool → Bool
 forceEnabled fitted forced = fitted && forced
 
@@ -39,35 +39,35 @@ commandEnabled fitted forced = fitted && not forced
 
 -- ---- one channel
 
--- "each named channel that is on goes off, is latched, and its count rises by 1 up to 65,535"
+-- step 3: a channel that is named and on trips, any other stays
 abbrev pub overcurrentOne : Bool → Chan → Chan
 overcurrentOne named ch = if named && ch .on then tripped ch else ch
 
--- 0x10: "each fitted channel in the mask is on and its latch cleared"
+-- 0x10: a fitted channel in the mask is then on, with no latch
 abbrev pub groupOnOne : Bool → Bool → Bool → Chan → Chan
 groupOnOne fitted spoken mask ch = if fitted && spoken && mask then onAndCleared ch else ch
 
--- 0x12: "each command-enabled channel in the mask is off, latch cleared"
+-- 0x12: a command-enabled channel in the mask is then off, with no latch
 abbrev pub groupOffOne : Bool → Bool → Bool → Bool → Chan → Chan
 groupOffOne fitted forced spoken mask ch = if commandEnabled fitted forced && spoken && mask then offAndCleared ch else ch
 
--- 0x14: "command-enabled channels are on if in the mask and off if not, their latches cleared;
--- force-enabled ones in the mask are on and cleared, the rest of them untouched"
+-- 0x14: a command-enabled channel is on or off as the mask has it or not, with no latch;
+-- a force-enabled one in the mask is on, with no latch, and one outside it stays as it is
 abbrev pub groupStateOne : Bool → Bool → Bool → Bool → Chan → Chan
 groupStateOne fitted forced spoken mask ch =
     if commandEnabled fitted forced && spoken
     then (if mask then onAndCleared ch else offAndCleared ch)
     else (if forceEnabled fitted forced && spoken && mask then onAndCleared ch else ch)
 
--- 0x04, and safety entered from nominal: "command-enabled channels go off, latches stay"
+-- 0x04, and safety entered from nominal: a command-enabled channel is off, its latch kept
 abbrev pub commandEnabledOffOne : Bool → Bool → Chan → Chan
 commandEnabledOffOne fitted forced ch = if commandEnabled fitted forced then offAndLatchKept ch else ch
 
--- startup or emergency left by the table: "all latches clear and exactly the force-enabled come on"
+-- startup or emergency left by the table: no latch is left, and on are the forced channels and no other
 abbrev pub forcedOnOne : Bool → Chan → Chan
 forcedOnOne forced ch = record { on = forced; latched = false; count = ch .count }
 
--- a reset: off, "latches and overcurrent counts 0"
+-- a reset: off, no latch, a count of 0
 abbrev pub clearOne : Chan
 clearOne = record { on = false; latched = false; count = 0 }
 
@@ -85,7 +85,7 @@ groupOff fitted forced spoken mask s = whole (λ c. groupOffOne (has fitted c) (
 unfoldable pub groupState : ℕ → ℕ → ℕ → ℕ → Channels → Channels
 groupState fitted forced spoken mask s = whole (λ c. groupStateOne (has fitted c) (has forced c) (has spoken c) (has mask c) (chan s c))
 
--- 0x16, 0x18: "one channel, same effect": as if the mask held that one channel
+-- 0x16, 0x18: what 0x10 and 0x12 do where the mask holds that one channel
 unfoldable pub switchOn : ℕ → ℕ → Channels → Channels
 switchOn fitted one s = whole (λ c. groupOnOne (has fitted c) true (eqb c one) (chan s c))
 
@@ -95,7 +95,7 @@ switchOff fitted forced one s = whole (λ c. groupOffOne (has fitted c) (has for
 unfoldable pub commandEnabledOff : ℕ → ℕ → Channels → Channels
 commandEnabledOff fitted forced s = whole (λ c. commandEnabledOffOne (has fitted c) (has forced c) (chan s c))
 
--- emergency entered: channels are "off in startup and emergency", and "emergency entry keeps latches"
+-- emergency entered: all off, each latch kept
 unfoldable pub allOff : Channels → Channels
 allOff s = whole (λ c. offAndLatchKept (chan s c))
 
@@ -105,7 +105,7 @@ forcedOn forced s = whole (λ c. forcedOnOne (has forced c) (chan s c))
 unfoldable pub cleared : Channels
 cleared = whole (λ c. clearOne)
 
--- the counts alone: the count of each channel that trips "rises by 1 up to 65,535"
+-- the counts alone, after some channels tripped
 abbrev pub countOne : Bool → ℕ → ℕ
 countOne trips count = if trips then min (count + 1) 65535 else count
 
@@ -114,10 +114,10 @@ countAll tripping counts = listOf 32 (λ c. countOne (has tripping c) (getD coun
 
 -- ---- refusal 7 of the two single commands
 
--- "an index above 31 or not fitted is 7"
+-- 0x16: an index above 31, or a channel that is not fitted
 abbrev pub wrongToSwitchOn : ℕ → ℕ → Bool
 wrongToSwitchOn fitted c = ltb 31 c || not (has fitted c)
 
--- "and so is 0x18 on a force-enabled channel"
+-- 0x18: the same, or a force-enabled channel
 abbrev pub wrongToSwitchOff : ℕ → ℕ → ℕ → Bool
 wrongToSwitchOff fitted forced c = wrongToSwitchOn fitted c || has forced c

@@ -131,7 +131,7 @@ by-rows ((from m when b to n) ∷ rows) s t =
     (λ e. rw (eqb-true (number m) (number (s .mode)) (both-left (same m (s .mode)) b e)) at (t .0))
     (by-rows rows s (t .1))
 
--- "one automatic mode change at most": a step is one change, or none
+-- a step is one change, or none
 pub one-change : (s : ModeAge) (rail : ℤ) (limits : Limits) → Change s (stepOf s rail limits)
 unfolding Moves stepOf
 one-change s rail limits = by-rows (table (s .age) rail limits) s (cases (rail at-least limits .«safety_low») (λ a. rw a tt) (λ a. rw a tt), (tt, (tt, (tt, (tt, tt)))))

@@ -13,7 +13,7 @@ use Rattle.modes.specs.declared.Commanded.the-variants.{Accepted, Unavai
 abbrev noEffect : ModeAge → Commanded
 noEffect s = Accepted s
 
--- 0x32: "from nominal into safety at age 0; in safety no effect; in emergency 6"
+-- 0x32: nominal is left for safety at age 0, in safety nothing changes, in emergency it is not available
 abbrev pub toSafetyFrom : Mode → ModeAge → Commanded
 toSafetyFrom Nominal s = Accepted (entered Safety)
 toSafetyFrom Safety s = noEffect s
@@ -23,7 +23,7 @@ toSafetyFrom Startup s = Unavailable
 unfoldable pub toSafety : ModeAge → Commanded
 toSafety s = toSafetyFrom (s .mode) s
 
--- 0x30: "in nominal no effect; in safety to nominal at age 0 if rail ≥ safety low, else 6; in emergency 6"
+-- 0x30: in nominal nothing changes, safety is left for nominal at age 0 where the rail is at least safety low, else it is not available, and in emergency never
 abbrev pub toNominalFrom : Mode → ModeAge → ℤ → Limits → Commanded
 toNominalFrom Nominal s rail limits = noEffect s
 toNominalFrom Safety s rail limits = cond (rail at-least limits .«safety_low») (Accepted (entered Nominal)) Unavailable
@@ -33,7 +33,7 @@ toNominalFrom Startup s rail limits = Unavailable
 unfoldable pub toNominal : ModeAge → ℤ → Limits → Commanded
 toNominal s rail limits = toNominalFrom (s .mode) s rail limits
 
--- the answer in document 01's numbers, and the mode and age that are left: 0 with the new ones, or 6 "not available in this mode" with the old
+-- the answer in document 01's numbers, and the mode and age that are left: 0 with the new ones, or 6, not available in this mode, with the old
 abbrev pub answer : Commanded → ℕ
 answer (Accepted s) = 0
 answer Unavailable = 6

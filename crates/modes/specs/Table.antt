@@ -32,7 +32,7 @@ infix 30 _aged_
 abbrev pub _aged_ : Mode → ℕ → ModeAge
 m aged ticks = record { mode = m; age = ticks }
 
--- "a new mode has age 0"
+-- a mode just entered has age 0
 abbrev pub entered : Mode → ModeAge
 entered m = m aged 0
 
@@ -45,7 +45,7 @@ infix 40 from_when_to_
 pub data Row : Type 0 where
   from_when_to_ : Mode → Bool → Mode → Row
 
--- "read from the top, the table decides in any order of thresholds", so what is "not the above" is said by the place of a row
+-- the rows are read from the top and the first that applies decides, whatever the order of the thresholds: a row holds only where none above it does
 abbrev pub table : ℕ → ℤ → Limits → List Row
 table age rail limits =
     (from Startup when age reaches 50 to (Nominal if rail at-least limits .«safety_low» else Safety))
@@ -70,10 +70,10 @@ abbrev pub first : List Row → ModeAge → ModeAge
 first [] s = s
 first ((from m when b to n) ∷ rows) s = cond (same m (s .mode) && b) (entered n) (first rows s)
 
--- "one automatic mode change at most, by the table"
+-- the automatic change of a tick: one at most
 unfoldable pub stepOf : ModeAge → ℤ → Limits → ModeAge
 stepOf s rail limits = first (table (s .age) rail limits) s
 
--- "the mode's age rises by 1"; ages "are 64-bit and stop at the top"
+-- one tick older; the age has 64 bits and stays at its top
 unfoldable pub olderOf : ModeAge → ModeAge
 olderOf s = s .mode aged min (s .age + 1) (2 ^ 64 - 1)
