@@ -56,6 +56,13 @@ set-at s v {id} {i} {t} a e =
     let p : id - codeOf t ≡ i = omega (arith, a .id-is) in
     rw (a .is, e, same-itself t) (ap (λ (j : ℕ). with-number s t j (clampOf id (numberIn v))) p)
 
+pub placed : (s : Settings) (t : ValueType) (z : ℤ) {i j : ℕ} → i ≡ j → with-number s t i z ≡ with-number s t j z
+placed s t z e = ap (λ (k : ℕ). with-number s t k z) e
+
+-- the number that was clamped for one id is that of another where the two are one
+pub moved : (z : ℤ) {a b : ℕ} {r : ℤ} → r ≡ clampOf a z → a ≡ b → clampOf b z ≡ r
+moved z h e = ap (λ (id : ℕ). clampOf id z) (sym e) ∙ sym h
+
 -- a value changes nothing where the id is not among the ids of its type
 pub set-off : (s : Settings) (id : ℕ) (v : ParamValue) → (codeOf (typeIn v) ≤ id → id < codeOf (typeIn v) + countOf (typeIn v) → ⊥) → setOf s id v ≡ s
 unfolding setOf

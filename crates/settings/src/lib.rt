@@ -174,10 +174,10 @@ fn clamp_int16(i: usize, x: i16) -> i16
     ensures { λ r. ⌜ r ≡ clampOf (0x3000 + i) x ⌝ }
 {
     let low = int16_low(i);
+    let high = int16_high(i);
     if x < low {
         return low;
     }
-    let high = int16_high(i);
     if high < x {
         return high;
     }
@@ -189,13 +189,13 @@ fn clamp_uint16(i: usize, x: u16) -> u16
     requires { ⌜ i < 68 ⌝ }
     ensures { λ r. ⌜ pos r ≡ clampOf (0x4000 + i) (pos x) ⌝ }
 {
-    let low = uint16_low(i);
-    if x < low {
-        return low;
+    let least = uint16_low(i);
+    let most = uint16_high(i);
+    if x < least {
+        return least;
     }
-    let high = uint16_high(i);
-    if high < x {
-        return high;
+    if most < x {
+        return most;
     }
     x
 }

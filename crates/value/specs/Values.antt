@@ -35,7 +35,7 @@ spelt (Double x) = floatBits binary64 x
 unfoldable pub wireBytes : ParamValue → List ℕ
 wireBytes v = bytesOf (width (typeOf v)) (spelt v)
 
--- They in a room of eight, the rest of which is 0.
+-- Those bytes in a room of eight, the rest of it 0.
 unfoldable pub valueBytes : ParamValue → ValueBytes
 valueBytes v = record { len = width (typeOf v); bytes = wireBytes v ++ replicate (8 - width (typeOf v)) 0 }
 

@@ -1,5 +1,5 @@
 -- The test that led to each answer says on which side of the range the value lies.
-use mathlib.Core.Path.{sym, _∙_}
+use mathlib.Core.Path.{ap}
 use Prim.Native.Nat.{_+_}
 use native.Mathlib.Omega.{arith}
 use lib.IntN.{pos}
@@ -15,17 +15,18 @@ use Rattle.settings.proofs.clamp_uint16.Tie as tie
 uint16-low-requires : tie.Need-uint16-low-requires
 uint16-low-requires c κs = search needs
 
+uint16-high-requires : tie.Need-uint16-high-requires
+uint16-high-requires c κs = search needs
+
 returns : tie.Need-returns
 unfolding clampOf plus minus
 returns c =
-    let id = 0x4000 + c .before .before .args .i in
-    let x = pos (c .before .before .args .x) in
+    let id = 0x4000 + c .before .before .before .args .i in
+    let x = pos (c .before .before .before .args .x) in
     let h = held id Uint16 (uint16s id (omega arith) (omega arith)) in
-    let l = same (c .before .uint16-low .ensures) in
-    c .before .uint16-low .ensures ∙ sym (nearer-low (lowOf id) (highOf id) x (h .ordered) (yes-lt x (lowOf id) (omega order)))
-
-uint16-high-requires : tie.Need-uint16-high-requires
-uint16-high-requires c κs = search needs
+    let l = same (c .before .before .uint16-low .ensures) in
+    let g = same (c .before .uint16-high .ensures) in
+    rw (nearer-low (lowOf id) (highOf id) x (h .ordered) (yes-lt x (lowOf id) (omega order)), ← c .before .before .uint16-low .ensures) (ap pos (omega arith))
 
 returns-2 : tie.Need-returns-2
 unfolding clampOf plus minus
@@ -33,18 +34,20 @@ returns-2 c =
     let id = 0x4000 + c .before .before .before .before .args .i in
     let x = pos (c .before .before .before .before .args .x) in
     let h = held id Uint16 (uint16s id (omega arith) (omega arith)) in
-    let g = same (c .before .uint16-high .ensures) in
-    c .before .uint16-high .ensures ∙ sym (nearer-high (lowOf id) (highOf id) x (h .ordered) (yes-lt (highOf id) x (omega order)))
+    let l = same (c .before .before .before .uint16-low .ensures) in
+    let g = same (c .before .before .uint16-high .ensures) in
+    rw (nearer-high (lowOf id) (highOf id) x (h .ordered) (yes-lt (highOf id) x (omega order)), ← c .before .before .uint16-high .ensures) (ap pos (omega arith))
 
 returns-3 : tie.Need-returns-3
 unfolding clampOf plus minus
 returns-3 c =
     let id = 0x4000 + c .before .before .before .before .args .i in
     let x = pos (c .before .before .before .before .args .x) in
+    let h = held id Uint16 (uint16s id (omega arith) (omega arith)) in
     let l = same (c .before .before .before .uint16-low .ensures) in
-    let g = same (c .before .uint16-high .ensures) in
-    sym (kept (lowOf id) (highOf id) x (yes-le (lowOf id) x (omega order)) (yes-le x (highOf id) (omega order)))
+    let g = same (c .before .before .uint16-high .ensures) in
+    rw (kept (lowOf id) (highOf id) x (yes-le (lowOf id) x (omega order)) (yes-le x (highOf id) (omega order))) (ap pos (omega arith))
 
 pub clamp-uint16-spec : {M : Type 1} → statement M
 clamp-uint16-spec =
-    tie.close (tie.spec uint16-low-requires returns uint16-high-requires returns-2 returns-3)
+    tie.close (tie.spec uint16-low-requires uint16-high-requires returns returns-2 returns-3)

@@ -1,14 +1,13 @@
 -- The id's place is the one that is written, with the value at the nearer end of the id's range.
-use mathlib.Core.Path.{_≡_, refl, sym, _∙_}
+use Rattle.settings.proofs.Stores.{set-at, set-off, placed, moved}
+use mathlib.Core.Path.{_≡_, refl, sym, ap, _∙_}
 use native.Mathlib.Omega.{arith}
 use Rattle.value.specs.declared.ValueType.the-variants.{Int16}
 use Rattle.value.specs.declared.ParamValue.{ParamValue}
-use Rattle.settings.specs.Table.{same}
+use Rattle.settings.specs.Table.{same, clampOf}
 use Rattle.settings.specs.Values.{with-number}
 use Rattle.settings.proofs.Places.{at}
-use Rattle.settings.proofs.Stores.{set-at, set-off}
 use Rattle.settings.proofs.Rows.{lies-yes, lies-no, int16s}
-use Prim.Native.Nat.{_+_, _-_}
 use mir.Syntax.{w16}
 use mir.ValLaws.{toZ-ofZ}
 use borrow.Author.Needs.{needs}
@@ -37,9 +36,13 @@ returns : tie.Need-returns
 unfolding with-number same
 returns c =
     let h = lies-yes _ _ _ (sym (c .before .before .lie .ensures) ∙ c .before .if1 .taken) in
-    let e = int16s (c .before .before .before .args .id) (omega arith) (omega arith) in
-    let p : 0x3000 + (c .before .before .before .args .id - 0x3000) ≡ c .before .before .before .args .id = omega arith in
-    rw (toZ-ofZ w16 _ (record { sfits = c .clamp-int16 .ok }), c .clamp-int16 .ensures, toZ-ofZ w16 (c .before .before .before .args .x) (c .before .before .before .fits .x), p, set-at (c .before .before .before .args .t1) (ParamValue.Int16 (c .before .before .before .args .x)) (at (c .before .before .before .args .id) Int16 e) refl)
+    let s = c .before .before .before .args .t1 in
+    let id = c .before .before .before .args .id in
+    let x = c .before .before .before .args .x in
+    let e = int16s id (omega arith) (omega arith) in
+    let r = c .clamp-int16 .result in
+    let k : clampOf id x ≡ r = moved x (c .clamp-int16 .ensures ∙ ap (clampOf _) (toZ-ofZ w16 x (c .before .before .before .fits .x))) (omega arith) in
+    rw (toZ-ofZ w16 r (record { sfits = c .clamp-int16 .ok }), set-at s (ParamValue.Int16 x) (at id Int16 e) refl, k) (placed s Int16 r (omega arith))
 
 returns-2 : tie.Need-returns-2
 returns-2 c = sym (set-off (c .before .before .args .t1) (c .before .before .args .id) (ParamValue.Int16 (c .before .before .args .x)) (λ h h′. lies-no _ _ _ (sym (c .before .lie .ensures) ∙ c .if1 .left) (omega arith) (omega arith)))

@@ -1,4 +1,5 @@
 -- The id's place is the one that is written, with the value at the nearer end of the id's range.
+use Rattle.settings.proofs.Stores.{set-at, set-off, placed, moved}
 use mathlib.Core.Path.{_≡_, refl, sym, _∙_}
 use native.Mathlib.Omega.{arith}
 use Rattle.value.specs.declared.ValueType.the-variants.{Uint16}
@@ -6,9 +7,7 @@ use Rattle.value.specs.declared.ParamValue.{ParamValue}
 use Rattle.settings.specs.Table.{same, clampOf}
 use Rattle.settings.specs.Values.{with-number}
 use Rattle.settings.proofs.Places.{at}
-use Rattle.settings.proofs.Stores.{set-at, set-off}
 use Rattle.settings.proofs.Rows.{lies-yes, lies-no, uint16s}
-use Prim.Native.Nat.{_+_, _-_}
 use lib.IntN.{pos}
 use borrow.Author.Needs.{needs}
 use Rattle.settings.proofs.set_uint16.Statement.{statement}
@@ -36,10 +35,13 @@ returns : tie.Need-returns
 unfolding with-number same
 returns c =
     let h = lies-yes _ _ _ (sym (c .before .before .lie .ensures) ∙ c .before .if1 .taken) in
-    let e = uint16s (c .before .before .before .args .id) (omega arith) (omega arith) in
-    let p : 0x4000 + (c .before .before .before .args .id - 0x4000) ≡ c .before .before .before .args .id = omega arith in
-    let q : clampOf (c .before .before .before .args .id) (pos (c .before .before .before .args .x)) ≡ pos (c .clamp-uint16 .result) = rw p at (sym (c .clamp-uint16 .ensures)) in
-    rw (set-at (c .before .before .before .args .t1) (ParamValue.Uint16 (c .before .before .before .args .x)) (at (c .before .before .before .args .id) Uint16 e) refl, q)
+    let s = c .before .before .before .args .t1 in
+    let id = c .before .before .before .args .id in
+    let x = c .before .before .before .args .x in
+    let e = uint16s id (omega arith) (omega arith) in
+    let r = c .clamp-uint16 .result in
+    let k : clampOf id (pos x) ≡ pos r = moved (pos x) (c .clamp-uint16 .ensures) (omega arith) in
+    rw (set-at s (ParamValue.Uint16 x) (at id Uint16 e) refl, k) (placed s Uint16 (pos r) (omega arith))
 
 returns-2 : tie.Need-returns-2
 returns-2 c = sym (set-off (c .before .before .args .t1) (c .before .before .args .id) (ParamValue.Uint16 (c .before .before .args .x)) (λ h h′. lies-no _ _ _ (sym (c .before .lie .ensures) ∙ c .if1 .left) (omega arith) (omega arith)))

@@ -1,4 +1,5 @@
 -- The id's place is the one that is written, and no row of the type gives a range, so the value is kept as it is.
+use Rattle.settings.proofs.Stores.{set-at, set-off, placed}
 use mathlib.Core.Path.{refl, sym, _∙_}
 use native.Mathlib.Omega.{arith}
 use Rattle.value.specs.declared.ValueType.the-variants.{Uint32}
@@ -6,7 +7,6 @@ use Rattle.value.specs.declared.ParamValue.{ParamValue}
 use Rattle.settings.specs.Table.{same}
 use Rattle.settings.specs.Values.{with-number}
 use Rattle.settings.proofs.Places.{at}
-use Rattle.settings.proofs.Stores.{set-at, set-off}
 use Rattle.settings.proofs.Rows.{lies-yes, lies-no, uint32s, uint32-any}
 use Rattle.settings.proofs.Ranges.{any-kept, uint32-fits}
 use lib.IntN.{pos}
@@ -33,10 +33,12 @@ returns : tie.Need-returns
 unfolding with-number same
 returns c =
     let h = lies-yes _ _ _ (sym (c .before .lie .ensures) ∙ c .if1 .taken) in
+    let s = c .before .before .args .t1 in
     let id = c .before .before .args .id in
     let x = c .before .before .args .x in
     let e = uint32s id (omega arith) (omega arith) in
-    rw (set-at (c .before .before .args .t1) (ParamValue.Uint32 x) (at id Uint32 e) refl, any-kept id Uint32 (pos x) e (uint32-any id (omega arith) (omega arith)) (uint32-fits x (omega (arith, c .before .before .fits .x))))
+    let k = any-kept id Uint32 (pos x) e (uint32-any id (omega arith) (omega arith)) (uint32-fits x (omega (arith, c .before .before .fits .x))) in
+    rw (set-at s (ParamValue.Uint32 x) (at id Uint32 e) refl, k) (placed s Uint32 (pos x) (omega arith))
 
 returns-2 : tie.Need-returns-2
 returns-2 c = sym (set-off (c .before .before .args .t1) (c .before .before .args .id) (ParamValue.Uint32 (c .before .before .args .x)) (λ h h′. lies-no _ _ _ (sym (c .before .lie .ensures) ∙ c .if1 .left) (omega arith) (omega arith)))
