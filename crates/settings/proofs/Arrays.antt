@@ -1,5 +1,5 @@
 -- An element of a signed array that a function is handed fits the array's type, at any place: past the end it reads as 0. Assumes nothing.
-use Prim.Native.Nat.{ℕ, zero, suc, _^_}
+use Prim.Native.Nat.{ℕ, zero, suc}
 use mathlib.Core.Path.{subst}
 use mathlib.Core.List.{List, [], _∷_, map, map-id}
 use lib.IntN.{ℤ, pos}

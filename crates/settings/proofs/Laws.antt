@@ -1,7 +1,7 @@
 -- What holds of get, set, reset and the defaults, over every id and value. Assumes nothing.
 use mathlib.Core.Path.{_≡_, refl, sym, ap, _∙_, subst}
-use mathlib.Core.Bool.{Bool, true, false, cond, _&&_}
-use mathlib.Core.List.{List, [], _∷_, _++_, map}
+use mathlib.Core.Bool.{Bool, true, false}
+use mathlib.Core.List.{List, map}
 use Prim.Native.Nat.{ℕ, _+_, _-_, _≤_, _<_}
 use native.Mathlib.Omega.{arith}
 use native.Mathlib.Decide.{ℕ-discrete}
@@ -14,8 +14,8 @@ use Rattle.settings.specs.declared.Parameter.{Parameter}
 use Rattle.settings.specs.declared.Got.{Got}
 use Rattle.settings.specs.declared.Settings.{Settings}
 use Rattle.settings.specs.Table.{codeOf, same, readWriteRows, readOnlyRows, find, lies, rowOf, column, from, idsOf, ids, parameterOf, lowOf, highOf, insideOf, atLeast, atMost, clampOf, givenIn, defaultOf}
-use Rattle.settings.specs.Values.{typeIn, numberIn, valueOf, numberOf, stored, storedN, with-number, gotAs, getOf, setOf, resetOf, defaultN, defaultsOf, allInside, inRangeOf}
-use Rattle.settings.proofs.Rows.{countOf, and-true, Held, held, int8s, uint8s, int16s, uint16s, uint32s}
+use Rattle.settings.specs.Values.{typeIn, numberIn, valueOf, numberOf, stored, storedN, withNumber, gotAs, getOf, setOf, resetOf, defaultsOf, allInside, inRangeOf}
+use Rattle.settings.proofs.Rows.{countOf, and-true, held, int8s, uint8s, int16s, uint16s, uint32s}
 use Rattle.settings.proofs.Places.{at, none, gets}
 use Rattle.settings.proofs.Ranges.{Fit, in-kept, clamp-in, in-fits}
 use Rattle.settings.proofs.Stores.{Sized, Wrote, nothing, one, set-wrote, reset-wrote, set-at, number-same, number-other}
@@ -101,7 +101,7 @@ kept-lengthN true xs i z = length-set xs i _
 kept-lengthN false xs i z = refl
 
 wrote-sized : (s r : Settings) (id : ℕ) → Wrote s id r → Sized s → Sized r
-unfolding with-number
+unfolding withNumber
 wrote-sized s r id nothing k = k
 wrote-sized s r id (one t z e h) k = record {
   u32-size = kept-lengthN (same t Uint32) (s .u32s) (id - codeOf t) z ∙ k .u32-size;

@@ -1,6 +1,6 @@
 -- What is known of an id by the place of its value. Assumes nothing.
-use mathlib.Core.Path.{_≡_, refl, sym, ap, _∙_, subst}
-use Prim.Native.Nat.{ℕ, _+_, _-_, _≤_, _<_}
+use mathlib.Core.Path.{_≡_, refl, ap, _∙_, subst}
+use Prim.Native.Nat.{ℕ, _+_, _-_, _<_}
 use native.Mathlib.Omega.{arith}
 use mathlib.Core.List.{List, map}
 use lib.ListN.{getD, List·getD-map}
@@ -11,11 +11,11 @@ use Rattle.value.specs.declared.ParamValue.{ParamValue}
 use Rattle.settings.specs.declared.Parameter.{Parameter}
 use Rattle.settings.specs.declared.Place.{Place}
 use Rattle.settings.specs.Table.{codeOf, parameterOf}
-use Rattle.settings.specs.Places.{placeIn, placeAs, placeOf}
+use Rattle.settings.specs.Places.{placeAs, placeOf}
 use Rattle.settings.specs.declared.Got.{Got}
 use Rattle.settings.specs.declared.Settings.{Settings}
 use Rattle.settings.specs.Values.{numbers, numberOf, valueOf, getOf}
-use Rattle.settings.proofs.Rows.{countOf, Held, held, int8s, uint8s, int16s, uint16s, uint32s}
+use Rattle.settings.proofs.Rows.{countOf, held, int8s, uint8s, int16s, uint16s, uint32s}
 
 -- the id is a parameter of the type, and the place is within the type's array
 pub record At (id i : ℕ) (t : ValueType) : Type 0 where

@@ -1,7 +1,7 @@
 -- A number is brought into its range at the nearer end. Assumes nothing.
-use mathlib.Core.Path.{_≡_, refl, sym, ap, _∙_, subst}
-use mathlib.Core.Bool.{Bool, true, false, cond, _&&_}
-use Prim.Native.Nat.{ℕ, _+_, _≤_, _<_}
+use mathlib.Core.Path.{_≡_, refl}
+use mathlib.Core.Bool.{Bool, true, false, _&&_}
+use Prim.Native.Nat.{ℕ, _≤_, _<_}
 use native.Mathlib.Omega.{arith}
 use borrow.Author.Tests.{le-leb}
 use lib.Dec.{T, leb}
@@ -9,12 +9,12 @@ use lib.IntN.{ℤ, pos, negsuc}
 use mir.Syntax.{w8, w16}
 use mir.Val.{SFits}
 use lib.Signed.{ltZ, leZ, mag}
-use Rattle.laws.proofs.Signed.{order, yes-lt, no-lt, yes-le, plus, minus}
+use Rattle.laws.proofs.Signed.{order, no-lt, yes-le}
 use Rattle.value.specs.declared.ValueType.{ValueType}
 use Rattle.value.specs.declared.ValueType.the-variants.{Int8, Uint8, Int16, Uint16, Uint32}
 use Rattle.settings.specs.declared.Parameter.{Parameter}
 use Rattle.settings.specs.Table.{any, lowest, highest, parameterOf, rangeOf, lowOf, highOf, insideOf, atLeast, atMost, clampOf}
-use Rattle.settings.proofs.Rows.{and-true, any-ends, ends-ordered, Held, held}
+use Rattle.settings.proofs.Rows.{and-true, any-ends, ends-ordered, held}
 
 -- ---- the three ways
 module _ (low high z : ℤ) where

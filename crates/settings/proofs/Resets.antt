@@ -1,11 +1,11 @@
 -- The defaults, and a reset as a set of the default. Assumes nothing.
 use mathlib.Core.Path.{_≡_, refl, sym, ap, _∙_, subst}
-use mathlib.Core.Bool.{Bool, true, false, cond}
-use mathlib.Core.List.{List, [], _∷_, map}
-use Prim.Native.Nat.{ℕ, zero, suc, _+_, _-_, _≤_, _<_}
+use mathlib.Core.Bool.{true}
+use mathlib.Core.List.{List, map}
+use Prim.Native.Nat.{ℕ, _+_, _-_, _<_}
 use native.Mathlib.Omega.{arith}
 use lib.Dec.{T}
-use lib.IntN.{ℤ, pos, negsuc, natAbs}
+use lib.IntN.{ℤ, pos}
 use lib.Signed.{leZ}
 use lib.ListN.{getD, List·getD-map}
 use Rattle.value.specs.declared.ValueType.{ValueType}
@@ -14,10 +14,10 @@ use Rattle.value.specs.declared.ParamValue.{ParamValue}
 use Rattle.settings.specs.declared.Parameter.{Parameter}
 use Rattle.settings.specs.declared.Got.{Got}
 use Rattle.settings.specs.declared.Settings.{Settings}
-use Rattle.settings.specs.Table.{codeOf, lowest, parameterOf, insideOf, clampOf, defaultOf, column}
-use Rattle.settings.specs.Values.{typeIn, numberIn, valueOf, numbers, numberOf, with-number, getOf, setOf, resetAs, resetOf, defaultN, defaultsOf}
-use Rattle.settings.proofs.Rows.{countOf, column-at, Held, held}
-use Rattle.settings.proofs.Places.{At, at, none, number-at, gets, gets-read-only, gets-unknown}
+use Rattle.settings.specs.Table.{codeOf, parameterOf, insideOf, clampOf, defaultOf, column}
+use Rattle.settings.specs.Values.{typeIn, numberIn, valueOf, numbers, numberOf, withNumber, getOf, setOf, resetAs, resetOf, defaultN, defaultsOf}
+use Rattle.settings.proofs.Rows.{countOf, column-at}
+use Rattle.settings.proofs.Places.{at, none, number-at, gets, gets-read-only, gets-unknown}
 use Rattle.settings.proofs.Ranges.{Fit, clamp-in, in-kept, in-fits}
 use Rattle.settings.proofs.Stores.{not-below, set-at}
 
@@ -87,7 +87,7 @@ reset-sets s id v g = go (parameterOf id) refl
     go : (p : Parameter) → parameterOf id ≡ p → setOf s id v ≡ resetAs s id p
     go (Parameter.ReadWrite t) e =
         let k = value-is t (defaultOf id) v (sym (default-get id t e) ∙ g) (default-fits id t e) in
-        set-at s v (at id t e) (k .type) ∙ ap (with-number s t (id - codeOf t)) (ap (clampOf id) (k .number) ∙ in-kept id (defaultOf id) (default-inside id))
+        set-at s v (at id t e) (k .type) ∙ ap (withNumber s t (id - codeOf t)) (ap (clampOf id) (k .number) ∙ in-kept id (defaultOf id) (default-inside id))
     go (Parameter.ReadOnly t) e = let h = gets-read-only defaultsOf id t e in let z : _≡_ {A = ℕ} 0 1 = cc in absurd (omega arith)
     go Parameter.Unknown e = let h = gets-unknown defaultsOf id e in let z : _≡_ {A = ℕ} 0 1 = cc in absurd (omega arith)
 

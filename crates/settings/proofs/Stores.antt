@@ -16,8 +16,8 @@ use Rattle.value.specs.declared.ParamValue.{ParamValue}
 use Rattle.settings.specs.declared.Parameter.{Parameter}
 use Rattle.settings.specs.declared.Settings.{Settings}
 use Rattle.settings.specs.Table.{codeOf, same, lowest, parameterOf, insideOf, clampOf, defaultOf}
-use Rattle.settings.specs.Values.{typeIn, numberIn, numbers, numberAs, numberOf, stored, storedN, with-number, storeAs, setOf, resetAs, resetOf}
-use Rattle.settings.proofs.Rows.{countOf, Held, held}
+use Rattle.settings.specs.Values.{typeIn, numberIn, numbers, numberAs, numberOf, stored, storedN, withNumber, storeAs, setOf, resetAs, resetOf}
+use Rattle.settings.proofs.Rows.{countOf, held}
 use Rattle.settings.proofs.Places.{At, at, number-at}
 use Rattle.settings.proofs.Ranges.{Fit, clamp-in}
 
@@ -50,14 +50,14 @@ unfolding same
 same-type t u h = sym (type-at t) ∙ ap typeAt (eqb→eq (codeOf t) (codeOf u) (subst T (sym h) tt)) ∙ type-at u
 
 -- ---- a value of the id's type is stored at its place
-pub set-at : (s : Settings) (v : ParamValue) {id i : ℕ} {t : ValueType} → At id i t → typeIn v ≡ t → setOf s id v ≡ with-number s t i (clampOf id (numberIn v))
+pub set-at : (s : Settings) (v : ParamValue) {id i : ℕ} {t : ValueType} → At id i t → typeIn v ≡ t → setOf s id v ≡ withNumber s t i (clampOf id (numberIn v))
 unfolding setOf
 set-at s v {id} {i} {t} a e =
     let p : id - codeOf t ≡ i = omega (arith, a .id-is) in
-    rw (a .is, e, same-itself t) (ap (λ (j : ℕ). with-number s t j (clampOf id (numberIn v))) p)
+    rw (a .is, e, same-itself t) (ap (λ (j : ℕ). withNumber s t j (clampOf id (numberIn v))) p)
 
-pub placed : (s : Settings) (t : ValueType) (z : ℤ) {i j : ℕ} → i ≡ j → with-number s t i z ≡ with-number s t j z
-placed s t z e = ap (λ (k : ℕ). with-number s t k z) e
+pub placed : (s : Settings) (t : ValueType) (z : ℤ) {i j : ℕ} → i ≡ j → withNumber s t i z ≡ withNumber s t j z
+placed s t z e = ap (λ (k : ℕ). withNumber s t k z) e
 
 -- the number that was clamped for one id is that of another where the two are one
 pub moved : (z : ℤ) {a b : ℕ} {r : ℤ} → r ≡ clampOf a z → a ≡ b → clampOf b z ≡ r
@@ -68,7 +68,7 @@ pub set-off : (s : Settings) (id : ℕ) (v : ParamValue) → (codeOf (typeIn v) 
 unfolding setOf
 set-off s id v n = go (parameterOf id) refl
   where
-    no : (t : ValueType) → parameterOf id ≡ Parameter.ReadWrite t → (x : Bool) → same t (typeIn v) ≡ x → cond x (with-number s t (id - codeOf t) (clampOf id (numberIn v))) s ≡ s
+    no : (t : ValueType) → parameterOf id ≡ Parameter.ReadWrite t → (x : Bool) → same t (typeIn v) ≡ x → cond x (withNumber s t (id - codeOf t) (clampOf id (numberIn v))) s ≡ s
     no t e true q = let h = held id (typeIn v) (e ∙ ap Parameter.ReadWrite (same-type t (typeIn v) q)) in absurd (n (h .first) (h .last))
     no t e false q = refl
 
@@ -96,8 +96,8 @@ nowhere true i z = refl
 nowhere false i z = refl
 
 -- the numbers of the type have z at the place, and those of any other type are as they were
-pub numbers-with : (s : Settings) (t : ValueType) (i : ℕ) (z : ℤ) → Fit t z → (u : ValueType) → numbers (with-number s t i z) u ≡ stored (same t u) (numbers s u) i z
-unfolding with-number
+pub numbers-with : (s : Settings) (t : ValueType) (i : ℕ) (z : ℤ) → Fit t z → (u : ValueType) → numbers (withNumber s t i z) u ≡ stored (same t u) (numbers s u) i z
+unfolding withNumber
 numbers-with s t i z f Int8 = refl
 numbers-with s t i z f Uint8 = unsigned (same t Uint8) (s .u8s) i z (λ e. subst (λ (u : ValueType). leZ (lowest u) z ≡ true) (same-type t Uint8 e) (f .low))
 numbers-with s t i z f Int16 = refl
@@ -132,7 +132,7 @@ sized-at s z Double = refl
 -- ---- what a command on one id does: nothing, or it stores a number that lies in the id's range
 pub data Wrote (s : Settings) (id : ℕ) : Settings → Type 0 where
   nothing : Wrote s id s
-  one : (t : ValueType) (z : ℤ) → parameterOf id ≡ Parameter.ReadWrite t → insideOf id z ≡ true → Wrote s id (with-number s t (id - codeOf t) z)
+  one : (t : ValueType) (z : ℤ) → parameterOf id ≡ Parameter.ReadWrite t → insideOf id z ≡ true → Wrote s id (withNumber s t (id - codeOf t) z)
 
 pub set-wrote : (s : Settings) (id : ℕ) (v : ParamValue) → Wrote s id (setOf s id v)
 unfolding setOf
@@ -141,7 +141,7 @@ set-wrote s id v = go (parameterOf id) refl
     z : ℤ
     z = clampOf id (numberIn v)
 
-    at-type : (t : ValueType) → parameterOf id ≡ Parameter.ReadWrite t → (x : Bool) → Wrote s id (cond x (with-number s t (id - codeOf t) z) s)
+    at-type : (t : ValueType) → parameterOf id ≡ Parameter.ReadWrite t → (x : Bool) → Wrote s id (cond x (withNumber s t (id - codeOf t) z) s)
     at-type t e true = one t z e (clamp-in id (numberIn v))
     at-type t e false = nothing
 
@@ -160,15 +160,15 @@ reset-wrote s id = go (parameterOf id) refl
     go Parameter.Unknown e = nothing
 
 -- ---- its own number, and every other
-pub number-same : (s : Settings) (id : ℕ) (t : ValueType) (z : ℤ) → Sized s → parameterOf id ≡ Parameter.ReadWrite t → Fit t z → numberOf (with-number s t (id - codeOf t) z) id ≡ z
+pub number-same : (s : Settings) (id : ℕ) (t : ValueType) (z : ℤ) → Sized s → parameterOf id ≡ Parameter.ReadWrite t → Fit t z → numberOf (withNumber s t (id - codeOf t) z) id ≡ z
 number-same s id t z k e f =
     let a = at id t e in
     let l = sized-at s k t in
-    number-at (with-number s t (id - codeOf t) z) a ∙ ap (λ (l : List ℤ). getD l (id - codeOf t) (pos 0)) (numbers-with s t (id - codeOf t) z f t)
+    number-at (withNumber s t (id - codeOf t) z) a ∙ ap (λ (l : List ℤ). getD l (id - codeOf t) (pos 0)) (numbers-with s t (id - codeOf t) z f t)
     ∙ rw (same-itself t) (getD-set-same (numbers s t) (id - codeOf t) z (pos 0) (omega (arith, a .below)))
 
 pub number-other : (s : Settings) (id other : ℕ) (t : ValueType) (z : ℤ) → (other ≡ id → ⊥) → parameterOf id ≡ Parameter.ReadWrite t → Fit t z
-    → numberOf (with-number s t (id - codeOf t) z) other ≡ numberOf s other
+    → numberOf (withNumber s t (id - codeOf t) z) other ≡ numberOf s other
 unfolding numberOf
 number-other s id other t z n e f = go (parameterOf other) refl
   where
@@ -183,7 +183,7 @@ number-other s id other t z n e f = go (parameterOf other) refl
         let b = held other u q in
         getD-set-other (numbers s u) i (other - codeOf u) z (pos 0) (λ h. n (omega arith))
 
-    go : (p : Parameter) → parameterOf other ≡ p → numberAs (with-number s t i z) other p ≡ numberAs s other p
+    go : (p : Parameter) → parameterOf other ≡ p → numberAs (withNumber s t i z) other p ≡ numberAs s other p
     go (Parameter.ReadWrite u) q = ap (λ (l : List ℤ). getD l (other - codeOf u) (pos 0)) (numbers-with s t i z f u) ∙ by-type u q (same t u) refl
     go (Parameter.ReadOnly u) q = refl
     go Parameter.Unknown q = refl

@@ -1,6 +1,6 @@
 -- A walk over the ids of a type, and over all ids. Assumes nothing.
-use mathlib.Core.Path.{_≡_, refl, sym, ap, _∙_, subst}
-use mathlib.Core.Bool.{Bool, true, false, cond, _&&_}
+use mathlib.Core.Path.{_≡_, refl, sym, ap, subst}
+use mathlib.Core.Bool.{Bool, true, false, _&&_}
 use mathlib.Core.List.{List, [], _∷_, _++_}
 use Prim.Native.Nat.{ℕ, zero, suc, _+_, _-_, _≤_, _<_}
 use native.Mathlib.Omega.{arith}
@@ -9,9 +9,9 @@ use Rattle.laws.proofs.Lists.{lt-or-le}
 use lib.ListN.{length, getD, List·getD-map}
 use mir.Syntax.{w8, w32}
 use mir.Val.{Fits, SFits}
-use lib.IntN.{ℤ, pos}
+use lib.IntN.{pos}
 use Rattle.value.specs.declared.ValueType.{ValueType}
-use Rattle.value.specs.declared.ValueType.the-variants.{Int8, Uint8, Int16, Uint16, Int32, Uint32, Float, Int64, Uint64, Double}
+use Rattle.value.specs.declared.ValueType.the-variants.{Int8, Uint8, Int16, Uint16, Uint32}
 use Rattle.settings.specs.declared.Parameter.{Parameter}
 use Rattle.settings.specs.declared.Settings.{Settings}
 use Rattle.settings.specs.Table.{codeOf, any, parameterOf, rangeOf, insideOf, column, from, ids, idsOf, readWriteRows}

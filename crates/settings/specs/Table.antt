@@ -1,7 +1,8 @@
 -- Tables 3-24, 3-25 and 3-26 of the ICD: which parameters there are, and the type, range and default of each.
--- Whatever is said of an id is read from its row. A number is an integer: `pos 5` is 5, `negsuc 5` is -6. Assumes nothing.
+-- Whatever is said of an id is read from its row. A number is an integer: `pos 5` is 5, `negsuc 5` is -6. `a ∷ b ∷ []` is a list of two,
+-- and `cond b x y` is x where b holds, else y. Assumes nothing.
 use Prim.Native.Nat.{ℕ, zero, suc, _-_}
-use mathlib.Core.Bool.{Bool, true, false, cond, _&&_}
+use mathlib.Core.Bool.{Bool, cond, _&&_}
 use mathlib.Core.List.{List, [], _∷_, _++_}
 use lib.Dec.{leb, eqb}
 use lib.IntN.{ℤ, pos, negsuc}
@@ -24,6 +25,7 @@ codeOf Int64 = 0x8000
 codeOf Uint64 = 0x9000
 codeOf Double = 0xA000
 
+-- two types are one where their codes are
 unfoldable pub same : ValueType → ValueType → Bool
 same t u = eqb (codeOf t) (codeOf u)
 
@@ -161,6 +163,7 @@ readOnlyRows =
     ∷ []
 
 -- ---- the row of an id
+-- an id lies from the first to the last
 unfoldable pub lies : ℕ → ℕ → ℕ → Bool
 lies first last id = leb first id && leb id last
 
@@ -175,6 +178,7 @@ find [] id = missing
 find (a to b are t with r default d ∷ rows) id = cond (lies a b id) (readWrite t r d) (find rows id)
 find (a to b are-read t ∷ rows) id = cond (lies a b id) (readOnly t) (find rows id)
 
+-- the first row that has the id
 unfoldable pub rowOf : ℕ → Entry
 rowOf id = find (readWriteRows ++ readOnlyRows) id
 
@@ -183,7 +187,7 @@ unfoldable pub column {ℓ} : {A : Type ℓ} → (ℕ → A) → ℕ → ℕ →
 column f first zero = []
 column f first (suc n) = f first ∷ column f (suc first) n
 
--- n ids in a row
+-- the n ids from the first on
 unfoldable pub from : ℕ → ℕ → List ℕ
 from first n = column (λ id. id) first n
 

@@ -1,6 +1,6 @@
 -- What the read/write parameters hold, read, set and reset by id. Assumes nothing.
-use Prim.Native.Nat.{ℕ, zero, suc, _-_}
-use mathlib.Core.Bool.{Bool, true, false, cond, _&&_}
+use Prim.Native.Nat.{ℕ, _-_}
+use mathlib.Core.Bool.{Bool, true, cond, _&&_}
 use mathlib.Core.List.{List, [], _∷_, map}
 use lib.ListN.{getD, set}
 use lib.IntN.{ℤ, pos, natAbs}
@@ -74,15 +74,16 @@ numberAs s id Parameter.Unknown = pos 0
 unfoldable pub numberOf : Settings → ℕ → ℤ
 numberOf s id = numberAs s id (parameterOf id)
 
--- the settings with another number at one place of one type, and all others as they were
+-- an array with z at the place i where it is the one that is meant, and as it was where it is not; `storedN` is for unsigned types
 abbrev pub stored : Bool → List ℤ → ℕ → ℤ → List ℤ
 stored b xs i z = cond b (set xs i z) xs
 
 abbrev pub storedN : Bool → List ℕ → ℕ → ℤ → List ℕ
 storedN b xs i z = cond b (set xs i (natAbs z)) xs
 
-unfoldable pub with-number : Settings → ValueType → ℕ → ℤ → Settings
-with-number s t i z = record {
+-- the settings with z at the place i of the type t, and all else as it was
+unfoldable pub withNumber : Settings → ValueType → ℕ → ℤ → Settings
+withNumber s t i z = record {
   u32s = storedN (same t Uint32) (s .u32s) i z;
   u16s = storedN (same t Uint16) (s .u16s) i z;
   i16s = stored (same t Int16) (s .i16s) i z;
@@ -91,6 +92,7 @@ with-number s t i z = record {
 }
 
 -- ---- get, set, reset of one, defaults
+-- an id reads its value where it is a read/write parameter
 abbrev pub gotAs : Parameter → ℤ → Got
 gotAs (Parameter.ReadWrite t) z = valueOf t z
 gotAs (Parameter.ReadOnly t) z = Got.ReadOnly t
@@ -101,7 +103,7 @@ getOf s id = gotAs (parameterOf id) (numberOf s id)
 
 -- a number stored for an id, where it is a read/write parameter of that type
 abbrev pub storeAs : Settings → ℕ → Parameter → ValueType → ℤ → Settings
-storeAs s id (Parameter.ReadWrite t) u z = cond (same t u) (with-number s t (id - codeOf t) z) s
+storeAs s id (Parameter.ReadWrite t) u z = cond (same t u) (withNumber s t (id - codeOf t) z) s
 storeAs s id (Parameter.ReadOnly t) u z = s
 storeAs s id Parameter.Unknown u z = s
 
@@ -109,18 +111,19 @@ storeAs s id Parameter.Unknown u z = s
 unfoldable pub setOf : Settings → ℕ → ParamValue → Settings
 setOf s id v = storeAs s id (parameterOf id) (typeIn v) (clampOf id (numberIn v))
 
+-- a reset stores the default
 abbrev pub resetAs : Settings → ℕ → Parameter → Settings
-resetAs s id (Parameter.ReadWrite t) = with-number s t (id - codeOf t) (defaultOf id)
+resetAs s id (Parameter.ReadWrite t) = withNumber s t (id - codeOf t) (defaultOf id)
 resetAs s id (Parameter.ReadOnly t) = s
 resetAs s id Parameter.Unknown = s
 
 unfoldable pub resetOf : Settings → ℕ → Settings
 resetOf s id = resetAs s id (parameterOf id)
 
+-- every parameter at its default; `defaultN` is for unsigned types
 unfoldable pub defaultN : ℕ → ℕ
 defaultN id = natAbs (defaultOf id)
 
--- every parameter at its default
 unfoldable pub defaultsOf : Settings
 defaultsOf = record {
   u32s = column defaultN 0x6000 6;

@@ -5,7 +5,7 @@ use native.Mathlib.Omega.{arith}
 use Rattle.value.specs.declared.ValueType.the-variants.{Int16}
 use Rattle.value.specs.declared.ParamValue.{ParamValue}
 use Rattle.settings.specs.Table.{same, clampOf}
-use Rattle.settings.specs.Values.{with-number}
+use Rattle.settings.specs.Values.{withNumber}
 use Rattle.settings.proofs.Places.{at}
 use Rattle.settings.proofs.Rows.{lies-yes, lies-no, int16s}
 use mir.Syntax.{w16}
@@ -33,7 +33,7 @@ element-set-from-s : tie.Need-element-set-from-s
 element-set-from-s c = let h = lies-yes _ _ _ (sym (c .before .before .lie .ensures) ∙ c .before .if1 .taken) in omega arith
 
 returns : tie.Need-returns
-unfolding with-number same
+unfolding withNumber same
 returns c =
     let h = lies-yes _ _ _ (sym (c .before .before .lie .ensures) ∙ c .before .if1 .taken) in
     let s = c .before .before .before .args .t1 in

@@ -5,7 +5,7 @@ use native.Mathlib.Omega.{arith}
 use Rattle.value.specs.declared.ValueType.the-variants.{Int8}
 use Rattle.value.specs.declared.ParamValue.{ParamValue}
 use Rattle.settings.specs.Table.{same}
-use Rattle.settings.specs.Values.{with-number}
+use Rattle.settings.specs.Values.{withNumber}
 use Rattle.settings.proofs.Places.{at}
 use Rattle.settings.proofs.Rows.{lies-yes, lies-no, int8s, int8-any}
 use Rattle.settings.proofs.Ranges.{any-kept, int8-fits}
@@ -28,7 +28,7 @@ element-set-from-x : tie.Need-element-set-from-x
 element-set-from-x c = let h = lies-yes _ _ _ (sym (c .before .lie .ensures) ∙ c .if1 .taken) in omega arith
 
 returns : tie.Need-returns
-unfolding with-number same
+unfolding withNumber same
 returns c =
     let h = lies-yes _ _ _ (sym (c .before .lie .ensures) ∙ c .if1 .taken) in
     let s = c .before .before .args .t1 in
