@@ -57,23 +57,23 @@ module _ {A : Type 0} (g : ℕ → A) (p : A → ℕ) (w : ℕ) (d : A) (f : ℕ
 -- ---- the bytes of each type's values
 module _ (s : Settings) (k : ℕ) where
   int8-bytes : k < 21 → parameterBytes s (0x1000 + k) ≡ bytesOf 1 (pattern 1 (getD (s .i8s) k (pos 0)))
-  unfolding parameterBytes wireBytes width typeOf table spelt
+  unfolding parameterBytes wireBytes width spelt
   int8-bytes h = ap gotBytes (int8-get s k h)
 
   uint8-bytes : k < 3 → parameterBytes s (0x2000 + k) ≡ bytesOf 1 (getD (s .u8s) k 0)
-  unfolding parameterBytes wireBytes width typeOf table spelt
+  unfolding parameterBytes wireBytes width spelt
   uint8-bytes h = ap gotBytes (uint8-get s k h)
 
   int16-bytes : k < 42 → parameterBytes s (0x3000 + k) ≡ bytesOf 2 (pattern 2 (getD (s .i16s) k (pos 0)))
-  unfolding parameterBytes wireBytes width typeOf table spelt
+  unfolding parameterBytes wireBytes width spelt
   int16-bytes h = ap gotBytes (int16-get s k h)
 
   uint16-bytes : k < 68 → parameterBytes s (0x4000 + k) ≡ bytesOf 2 (getD (s .u16s) k 0)
-  unfolding parameterBytes wireBytes width typeOf table spelt
+  unfolding parameterBytes wireBytes width spelt
   uint16-bytes h = ap gotBytes (uint16-get s k h)
 
   uint32-bytes : k < 6 → parameterBytes s (0x6000 + k) ≡ bytesOf 4 (getD (s .u32s) k 0)
-  unfolding parameterBytes wireBytes width typeOf table spelt
+  unfolding parameterBytes wireBytes width spelt
   uint32-bytes h = ap gotBytes (uint32-get s k h)
 
 -- ---- the settings of the types: as many values of each as its array has, and each fits

@@ -76,7 +76,7 @@ unfolding widths widthIn parameterOf rowOf find lies readWriteRows readOnlyRows 
 all-widths = refl
 
 length-parameter : (s : Settings) (id : ℕ) → length (parameterBytes s id) ≡ widthIn (parameterOf id)
-unfolding parameterBytes getOf widthIn wireBytes width typeOf table bytesOf
+unfolding parameterBytes getOf widthIn wireBytes width bytesOf
 length-parameter s id = go (parameterOf id) (numberOf s id)
   where
     go : (p : Parameter) (z : ℤ) → length (gotBytes (gotAs p z)) ≡ widthIn p

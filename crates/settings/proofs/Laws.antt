@@ -7,14 +7,15 @@ use native.Mathlib.Omega.{arith}
 use native.Mathlib.Decide.{ℕ-discrete}
 use lib.IntN.{ℤ, pos}
 use lib.ListN.{length, length-set, set}
+use Rattle.value.specs.Types.{codeOf, typeOf}
 use Rattle.value.specs.declared.ValueType.{ValueType}
 use Rattle.value.specs.declared.ValueType.the-variants.{Int8, Uint8, Int16, Uint16, Int32, Uint32, Float, Int64, Uint64, Double}
 use Rattle.value.specs.declared.ParamValue.{ParamValue}
 use Rattle.settings.specs.declared.Parameter.{Parameter}
 use Rattle.settings.specs.declared.Got.{Got}
 use Rattle.settings.specs.declared.Settings.{Settings}
-use Rattle.settings.specs.Table.{codeOf, same, readWriteRows, readOnlyRows, find, lies, rowOf, column, from, idsOf, ids, parameterOf, lowOf, highOf, insideOf, atLeast, atMost, clampOf, givenIn, defaultOf}
-use Rattle.settings.specs.Values.{typeIn, numberIn, valueOf, numberOf, stored, storedN, withNumber, gotAs, getOf, setOf, resetOf, defaultsOf, allInside, inRangeOf}
+use Rattle.settings.specs.Table.{same, readWriteRows, readOnlyRows, find, lies, rowOf, column, from, idsOf, ids, parameterOf, lowOf, highOf, insideOf, atLeast, atMost, clampOf, givenIn, defaultOf}
+use Rattle.settings.specs.Values.{numberIn, valueOf, numberOf, stored, storedN, withNumber, gotAs, getOf, setOf, resetOf, defaultsOf, allInside, inRangeOf}
 use Rattle.settings.proofs.Rows.{countOf, and-true, held, int8s, uint8s, int16s, uint16s, uint32s}
 use Rattle.settings.proofs.Places.{at, none, gets}
 use Rattle.settings.proofs.Ranges.{Fit, in-kept, clamp-in, in-fits}
@@ -23,18 +24,18 @@ use Rattle.settings.proofs.Walks.{ids-by-type, ids-of-type, inside-appe
 use Rattle.settings.proofs.Resets.{default-inside, default-fits, default-number, default-get}
 
 -- ---- what is set is read back, at the nearer end of its range
-module _ (s : Settings) (id : ℕ) (v : ParamValue) (z : Sized s) (e : parameterOf id ≡ Parameter.ReadWrite (typeIn v)) where
-  pub set-get : getOf (setOf s id v) id ≡ valueOf (typeIn v) (clampOf id (numberIn v))
+module _ (s : Settings) (id : ℕ) (v : ParamValue) (z : Sized s) (e : parameterOf id ≡ Parameter.ReadWrite (typeOf v)) where
+  pub set-get : getOf (setOf s id v) id ≡ valueOf (typeOf v) (clampOf id (numberIn v))
   set-get =
-      let f = in-fits id (typeIn v) (clampOf id (numberIn v)) e (clamp-in id (numberIn v)) in
-      ap (λ (x : Settings). getOf x id) (set-at s v (at id (typeIn v) e) refl) ∙ gets _ id (typeIn v) e
-      ∙ ap (valueOf (typeIn v)) (number-same s id (typeIn v) (clampOf id (numberIn v)) z e f)
+      let f = in-fits id (typeOf v) (clampOf id (numberIn v)) e (clamp-in id (numberIn v)) in
+      ap (λ (x : Settings). getOf x id) (set-at s v (at id (typeOf v) e) refl) ∙ gets _ id (typeOf v) e
+      ∙ ap (valueOf (typeOf v)) (number-same s id (typeOf v) (clampOf id (numberIn v)) z e f)
 
   -- and unchanged where it lies in its range
   pub set-get-inside : insideOf id (numberIn v) ≡ true → getOf (setOf s id v) id ≡ Got.Value v
-  set-get-inside h = set-get ∙ ap (valueOf (typeIn v)) (in-kept id (numberIn v) h) ∙ value-of v e
+  set-get-inside h = set-get ∙ ap (valueOf (typeOf v)) (in-kept id (numberIn v) h) ∙ value-of v e
     where
-      value-of : (v : ParamValue) → parameterOf id ≡ Parameter.ReadWrite (typeIn v) → valueOf (typeIn v) (numberIn v) ≡ Got.Value v
+      value-of : (v : ParamValue) → parameterOf id ≡ Parameter.ReadWrite (typeOf v) → valueOf (typeOf v) (numberIn v) ≡ Got.Value v
       value-of (ParamValue.Int8 x) e = refl
       value-of (ParamValue.Uint8 x) e = refl
       value-of (ParamValue.Int16 x) e = refl
@@ -79,7 +80,7 @@ module _ (s : Settings) (id : ℕ) where
   unfolding setOf
   set-unknown v e = rw e
 
-  pub set-other-type : (v : ParamValue) (t : ValueType) → parameterOf id ≡ Parameter.ReadWrite t → same t (typeIn v) ≡ false → setOf s id v ≡ s
+  pub set-other-type : (v : ParamValue) (t : ValueType) → parameterOf id ≡ Parameter.ReadWrite t → same t (typeOf v) ≡ false → setOf s id v ≡ s
   unfolding setOf
   set-other-type v t e n = rw (e, n)
 

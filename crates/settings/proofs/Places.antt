@@ -5,12 +5,13 @@ use native.Mathlib.Omega.{arith}
 use mathlib.Core.List.{List, map}
 use lib.ListN.{getD, List·getD-map}
 use lib.IntN.{pos, natAbs}
+use Rattle.value.specs.Types.{codeOf}
 use Rattle.value.specs.declared.ValueType.{ValueType}
 use Rattle.value.specs.declared.ValueType.the-variants.{Int8, Uint8, Int16, Uint16, Int32, Uint32, Float, Int64, Uint64, Double}
 use Rattle.value.specs.declared.ParamValue.{ParamValue}
 use Rattle.settings.specs.declared.Parameter.{Parameter}
 use Rattle.settings.specs.declared.Place.{Place}
-use Rattle.settings.specs.Table.{codeOf, parameterOf}
+use Rattle.settings.specs.Table.{parameterOf}
 use Rattle.settings.specs.Places.{placeAs, placeOf}
 use Rattle.settings.specs.declared.Got.{Got}
 use Rattle.settings.specs.declared.Settings.{Settings}

@@ -8,14 +8,15 @@ use lib.Dec.{T}
 use lib.IntN.{ℤ, pos}
 use lib.Signed.{leZ}
 use lib.ListN.{getD, List·getD-map}
+use Rattle.value.specs.Types.{codeOf, typeOf}
 use Rattle.value.specs.declared.ValueType.{ValueType}
 use Rattle.value.specs.declared.ValueType.the-variants.{Int8, Uint8, Int16, Uint16, Int32, Uint32, Float, Int64, Uint64, Double}
 use Rattle.value.specs.declared.ParamValue.{ParamValue}
 use Rattle.settings.specs.declared.Parameter.{Parameter}
 use Rattle.settings.specs.declared.Got.{Got}
 use Rattle.settings.specs.declared.Settings.{Settings}
-use Rattle.settings.specs.Table.{codeOf, parameterOf, insideOf, clampOf, defaultOf, column}
-use Rattle.settings.specs.Values.{typeIn, numberIn, valueOf, numbers, numberOf, withNumber, getOf, setOf, resetAs, resetOf, defaultN, defaultsOf}
+use Rattle.settings.specs.Table.{parameterOf, insideOf, clampOf, defaultOf, column}
+use Rattle.settings.specs.Values.{numberIn, valueOf, numbers, numberOf, withNumber, getOf, setOf, resetAs, resetOf, defaultN, defaultsOf}
 use Rattle.settings.proofs.Rows.{countOf, column-at}
 use Rattle.settings.proofs.Places.{at, none, number-at, gets, gets-read-only, gets-unknown}
 use Rattle.settings.proofs.Ranges.{Fit, clamp-in, in-kept, in-fits}
@@ -55,11 +56,11 @@ default-number id t e =
 
 -- ---- the value that a number is has the type and the number
 pub record Is (t : ValueType) (z : ℤ) (v : ParamValue) : Type 0 where
-  pub type : typeIn v ≡ t
+  pub type : typeOf v ≡ t
   pub number : numberIn v ≡ z
 
-signed-is : (t : ValueType) (z : ℤ) (v w : ParamValue) → Got.Value w ≡ Got.Value v → typeIn w ≡ t → numberIn w ≡ z → Is t z v
-signed-is t z v w e p q = let f : v ≡ w = cc in record { type = ap typeIn f ∙ p; number = ap numberIn f ∙ q }
+signed-is : (t : ValueType) (z : ℤ) (v w : ParamValue) → Got.Value w ≡ Got.Value v → typeOf w ≡ t → numberIn w ≡ z → Is t z v
+signed-is t z v w e p q = let f : v ≡ w = cc in record { type = ap typeOf f ∙ p; number = ap numberIn f ∙ q }
 
 not-read : {A : Type 0} (v : ParamValue) → Got.Unknown ≡ Got.Value v → A
 not-read v e = let z : _≡_ {A = ℕ} 0 1 = cc in absurd (omega arith)

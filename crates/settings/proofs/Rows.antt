@@ -10,10 +10,11 @@ use lib.Dec.{T, leb, ltb}
 use lib.IntN.{ℤ, pos, natAbs}
 use lib.Signed.{leZ}
 use lib.ListN.{getD, List·getD-map, replicate, getD-replicate}
+use Rattle.value.specs.Types.{codeOf}
 use Rattle.value.specs.declared.ValueType.{ValueType}
 use Rattle.value.specs.declared.ValueType.the-variants.{Int8, Uint8, Int16, Uint16, Int32, Uint32, Float, Int64, Uint64, Double}
 use Rattle.settings.specs.declared.Parameter.{Parameter}
-use Rattle.settings.specs.Table.{codeOf, lowest, highest, Range, any, Row, _to_are_with_default_, _to_are-read_, readWriteRows, readOnlyRows, lies, Entry, readWrite, readOnly, missing, find, rowOf, column, parameterIn, parameterOf, rangeIn, rangeOf, lowEnd, highEnd, lowIn, highIn, lowOf, highOf}
+use Rattle.settings.specs.Table.{lowest, highest, Range, any, Row, _to_are_with_default_, _to_are-read_, readWriteRows, readOnlyRows, lies, Entry, readWrite, readOnly, missing, find, rowOf, column, parameterIn, parameterOf, rangeIn, rangeOf, lowEnd, highEnd, lowIn, highIn, lowOf, highOf}
 
 -- ---- a function of ids that is computed at each id of a block
 pub column-at {ℓ} : {A : Type ℓ} (f : ℕ → A) (lo n k : ℕ) (d : A) → k < n → getD (column f lo n) k d ≡ f (lo + k)

@@ -10,13 +10,14 @@ use lib.IntN.{ℤ, pos, negsuc, natAbs}
 use lib.Signed.{leZ}
 use lib.ListN.{length, length-map, getD, set}
 use lib.Seq.{getD-set-same, getD-set-other}
+use Rattle.value.specs.Types.{codeOf, typeOf}
 use Rattle.value.specs.declared.ValueType.{ValueType}
 use Rattle.value.specs.declared.ValueType.the-variants.{Int8, Uint8, Int16, Uint16, Int32, Uint32, Float, Int64, Uint64, Double}
 use Rattle.value.specs.declared.ParamValue.{ParamValue}
 use Rattle.settings.specs.declared.Parameter.{Parameter}
 use Rattle.settings.specs.declared.Settings.{Settings}
-use Rattle.settings.specs.Table.{codeOf, same, lowest, parameterOf, insideOf, clampOf, defaultOf}
-use Rattle.settings.specs.Values.{typeIn, numberIn, numbers, numberAs, numberOf, stored, storedN, withNumber, storeAs, setOf, resetAs, resetOf}
+use Rattle.settings.specs.Table.{same, lowest, parameterOf, insideOf, clampOf, defaultOf}
+use Rattle.settings.specs.Values.{numberIn, numbers, numberAs, numberOf, stored, storedN, withNumber, storeAs, setOf, resetAs, resetOf}
 use Rattle.settings.proofs.Rows.{countOf, held}
 use Rattle.settings.proofs.Places.{At, at, number-at}
 use Rattle.settings.proofs.Ranges.{Fit, clamp-in}
@@ -50,7 +51,7 @@ unfolding same
 same-type t u h = sym (type-at t) ∙ ap typeAt (eqb→eq (codeOf t) (codeOf u) (subst T (sym h) tt)) ∙ type-at u
 
 -- ---- a value of the id's type is stored at its place
-pub set-at : (s : Settings) (v : ParamValue) {id i : ℕ} {t : ValueType} → At id i t → typeIn v ≡ t → setOf s id v ≡ withNumber s t i (clampOf id (numberIn v))
+pub set-at : (s : Settings) (v : ParamValue) {id i : ℕ} {t : ValueType} → At id i t → typeOf v ≡ t → setOf s id v ≡ withNumber s t i (clampOf id (numberIn v))
 unfolding setOf
 set-at s v {id} {i} {t} a e =
     let p : id - codeOf t ≡ i = omega (arith, a .id-is) in
@@ -64,16 +65,16 @@ pub moved : (z : ℤ) {a b : ℕ} {r : ℤ} → r ≡ clampOf a z → a ≡ b �
 moved z h e = ap (λ (id : ℕ). clampOf id z) (sym e) ∙ sym h
 
 -- a value changes nothing where the id is not among the ids of its type
-pub set-off : (s : Settings) (id : ℕ) (v : ParamValue) → (codeOf (typeIn v) ≤ id → id < codeOf (typeIn v) + countOf (typeIn v) → ⊥) → setOf s id v ≡ s
+pub set-off : (s : Settings) (id : ℕ) (v : ParamValue) → (codeOf (typeOf v) ≤ id → id < codeOf (typeOf v) + countOf (typeOf v) → ⊥) → setOf s id v ≡ s
 unfolding setOf
 set-off s id v n = go (parameterOf id) refl
   where
-    no : (t : ValueType) → parameterOf id ≡ Parameter.ReadWrite t → (x : Bool) → same t (typeIn v) ≡ x → cond x (withNumber s t (id - codeOf t) (clampOf id (numberIn v))) s ≡ s
-    no t e true q = let h = held id (typeIn v) (e ∙ ap Parameter.ReadWrite (same-type t (typeIn v) q)) in absurd (n (h .first) (h .last))
+    no : (t : ValueType) → parameterOf id ≡ Parameter.ReadWrite t → (x : Bool) → same t (typeOf v) ≡ x → cond x (withNumber s t (id - codeOf t) (clampOf id (numberIn v))) s ≡ s
+    no t e true q = let h = held id (typeOf v) (e ∙ ap Parameter.ReadWrite (same-type t (typeOf v) q)) in absurd (n (h .first) (h .last))
     no t e false q = refl
 
-    go : (p : Parameter) → parameterOf id ≡ p → storeAs s id p (typeIn v) (clampOf id (numberIn v)) ≡ s
-    go (Parameter.ReadWrite t) e = no t e (same t (typeIn v)) refl
+    go : (p : Parameter) → parameterOf id ≡ p → storeAs s id p (typeOf v) (clampOf id (numberIn v)) ≡ s
+    go (Parameter.ReadWrite t) e = no t e (same t (typeOf v)) refl
     go (Parameter.ReadOnly t) e = refl
     go Parameter.Unknown e = refl
 
@@ -145,8 +146,8 @@ set-wrote s id v = go (parameterOf id) refl
     at-type t e true = one t z e (clamp-in id (numberIn v))
     at-type t e false = nothing
 
-    go : (p : Parameter) → parameterOf id ≡ p → Wrote s id (storeAs s id p (typeIn v) z)
-    go (Parameter.ReadWrite t) e = at-type t e (same t (typeIn v))
+    go : (p : Parameter) → parameterOf id ≡ p → Wrote s id (storeAs s id p (typeOf v) z)
+    go (Parameter.ReadWrite t) e = at-type t e (same t (typeOf v))
     go (Parameter.ReadOnly t) e = nothing
     go Parameter.Unknown e = nothing
 

@@ -5,6 +5,7 @@ use mathlib.Core.List.{List, [], _∷_, _++_}
 use Prim.Native.Nat.{ℕ, zero, suc, _+_, _-_, _≤_, _<_}
 use native.Mathlib.Omega.{arith}
 use mathlib.Core.Logic.{⊎-elim}
+use Rattle.value.specs.Types.{codeOf}
 use Rattle.laws.proofs.Lists.{lt-or-le}
 use lib.ListN.{length, getD, List·getD-map}
 use mir.Syntax.{w8, w32}
@@ -14,7 +15,7 @@ use Rattle.value.specs.declared.ValueType.{ValueType}
 use Rattle.value.specs.declared.ValueType.the-variants.{Int8, Uint8, Int16, Uint16, Uint32}
 use Rattle.settings.specs.declared.Parameter.{Parameter}
 use Rattle.settings.specs.declared.Settings.{Settings}
-use Rattle.settings.specs.Table.{codeOf, any, parameterOf, rangeOf, insideOf, column, from, ids, idsOf, readWriteRows}
+use Rattle.settings.specs.Table.{any, parameterOf, rangeOf, insideOf, column, from, ids, idsOf, readWriteRows}
 use Rattle.settings.specs.Values.{numbers, numberOf, allInside, inRangeOf}
 use Rattle.settings.proofs.Rows.{countOf, and-true, int8s, uint8s, uint32s, int8-any, uint8-any, uint32-any}
 use Rattle.settings.proofs.Places.{at, number-at}

@@ -9,23 +9,10 @@ use lib.IntN.{ℤ, pos, negsuc}
 use lib.Signed.{ltZ, leZ}
 use Rattle.value.specs.declared.ValueType.{ValueType}
 use Rattle.value.specs.declared.ValueType.the-variants.{Int8, Uint8, Int16, Uint16, Int32, Uint32, Float, Int64, Uint64, Double}
+use Rattle.value.specs.Types.{codeOf}
 use Rattle.settings.specs.declared.Parameter.{Parameter}
 
--- ---- Table 3-24: the types
--- the code of a type, which is the lowest id of a parameter of that type
-abbrev pub codeOf : ValueType → ℕ
-codeOf Int8 = 0x1000
-codeOf Uint8 = 0x2000
-codeOf Int16 = 0x3000
-codeOf Uint16 = 0x4000
-codeOf Int32 = 0x5000
-codeOf Uint32 = 0x6000
-codeOf Float = 0x7000
-codeOf Int64 = 0x8000
-codeOf Uint64 = 0x9000
-codeOf Double = 0xA000
-
--- two types are one where their codes are
+-- ---- the types of Table 3-24: two are one where their codes are
 unfoldable pub same : ValueType → ValueType → Bool
 same t u = eqb (codeOf t) (codeOf u)
 

@@ -4,27 +4,16 @@ use mathlib.Core.Bool.{Bool, true, cond, _&&_}
 use mathlib.Core.List.{List, [], _∷_, map}
 use lib.ListN.{getD, set}
 use lib.IntN.{ℤ, pos, natAbs}
+use Rattle.value.specs.Types.{codeOf, typeOf}
 use Rattle.value.specs.declared.ValueType.{ValueType}
 use Rattle.value.specs.declared.ValueType.the-variants.{Int8, Uint8, Int16, Uint16, Int32, Uint32, Float, Int64, Uint64, Double}
 use Rattle.value.specs.declared.ParamValue.{ParamValue}
-use Rattle.settings.specs.Table.{codeOf, same, parameterOf, insideOf, clampOf, defaultOf, column, ids}
+use Rattle.settings.specs.Table.{same, parameterOf, insideOf, clampOf, defaultOf, column, ids}
 use Rattle.settings.specs.declared.Parameter.{Parameter}
 use Rattle.settings.specs.declared.Got.{Got}
 use Rattle.settings.specs.declared.Settings.{Settings}
 
 -- ---- a value and its number
-abbrev pub typeIn : ParamValue → ValueType
-typeIn (ParamValue.Int8 x) = Int8
-typeIn (ParamValue.Uint8 x) = Uint8
-typeIn (ParamValue.Int16 x) = Int16
-typeIn (ParamValue.Uint16 x) = Uint16
-typeIn (ParamValue.Int32 x) = Int32
-typeIn (ParamValue.Uint32 x) = Uint32
-typeIn (ParamValue.Float x) = Float
-typeIn (ParamValue.Int64 x) = Int64
-typeIn (ParamValue.Uint64 x) = Uint64
-typeIn (ParamValue.Double x) = Double
-
 -- a float or a double is stored nowhere, and what stands there is not used
 abbrev pub numberIn : ParamValue → ℤ
 numberIn (ParamValue.Int8 x) = x
@@ -109,7 +98,7 @@ storeAs s id Parameter.Unknown u z = s
 
 -- a value is stored at the nearer end of the id's range; one of another type changes nothing
 unfoldable pub setOf : Settings → ℕ → ParamValue → Settings
-setOf s id v = storeAs s id (parameterOf id) (typeIn v) (clampOf id (numberIn v))
+setOf s id v = storeAs s id (parameterOf id) (typeOf v) (clampOf id (numberIn v))
 
 -- a reset stores the default
 abbrev pub resetAs : Settings → ℕ → Parameter → Settings

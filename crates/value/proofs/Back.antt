@@ -28,7 +28,7 @@ use Rattle.value.specs.declared.ValueType.{ValueType}
 -- ---- a value that fits its type: its bytes hold it, and spell it
 
 pub spelt-lt : (v : ParamValue) → Proper v → spelt v < 256 ^ width (typeOf v)
-unfolding Proper spelt typeOf width table
+unfolding Proper spelt width
 spelt-lt (Int8 x) f = pattern-fits w8 x f .fits
 spelt-lt (Uint8 x) f = f .fits
 spelt-lt (Int16 x) f = pattern-fits w16 x f .fits
@@ -41,7 +41,7 @@ spelt-lt (Uint64 x) f = f .fits
 spelt-lt (Double x) f = floatBits-lt binary64 x (f .0)
 
 pub spelt-back : (v : ParamValue) → Proper v → valueOf (typeOf v) (spelt v) ≡ Value v
-unfolding Proper spelt typeOf valueOf
+unfolding Proper spelt valueOf
 spelt-back (Int8 x) f = rw (signed-pattern w8 x f)
 spelt-back (Uint8 x) f = refl
 spelt-back (Int16 x) f = rw (signed-pattern w16 x f)
@@ -82,7 +82,7 @@ numbered true w v e = absurd (let z : _≡_ {A = ℕ} 0 1 = cc in omega arith)
 numbered false w v e = (refl, e)
 
 pub value-spelt : (t : ValueType) (x : ℕ) (v : ParamValue) → x < 256 ^ width t → valueOf t x ≡ Value v → (typeOf v ≡ t) × (spelt v ≡ x)
-unfolding valueOf typeOf spelt width table Kept
+unfolding valueOf spelt width Kept
 value-spelt ValueType.Int8 x v h e = agree ValueType.Int8 x (Int8 (signed 1 x)) v e (refl, pattern-signed w8 x (record { fits = h }))
 value-spelt ValueType.Uint8 x v h e = agree ValueType.Uint8 x (Uint8 x) v e (refl, refl)
 value-spelt ValueType.Int16 x v h e = agree ValueType.Int16 x (Int16 (signed 2 x)) v e (refl, pattern-signed w16 x (record { fits = h }))
@@ -155,19 +155,19 @@ read-bytes t s v b e =
 
 module _ (x : ℕ) (rest : List ℕ) where
   pub float-refused : x < 2 ^ 32 → nanPattern binary32 x ≡ true → readOf ValueType.Float (bytesOf 4 x ++ rest) ≡ NotANumber
-  unfolding valueOf width table
+  unfolding valueOf width
   float-refused h n = rw n at (read-number ValueType.Float x rest h)
 
   pub double-refused : x < 2 ^ 64 → nanPattern binary64 x ≡ true → readOf ValueType.Double (bytesOf 8 x ++ rest) ≡ NotANumber
-  unfolding valueOf width table
+  unfolding valueOf width
   double-refused h n = rw n at (read-number ValueType.Double x rest h)
 
   pub float-taken : x < 2 ^ 32 → nanPattern binary32 x ≡ false
       → (readOf ValueType.Float (bytesOf 4 x ++ rest) ≡ Value (Float (ofBits binary32 x))) × (wireBytes (Float (ofBits binary32 x)) ≡ bytesOf 4 x)
-  unfolding valueOf wireBytes typeOf spelt width table
+  unfolding valueOf wireBytes spelt width
   float-taken h n = (rw n at (read-number ValueType.Float x rest h), ap (bytesOf 4) (floatBits-ofBits binary32 x h n))
 
   pub double-taken : x < 2 ^ 64 → nanPattern binary64 x ≡ false
       → (readOf ValueType.Double (bytesOf 8 x ++ rest) ≡ Value (Double (ofBits binary64 x))) × (wireBytes (Double (ofBits binary64 x)) ≡ bytesOf 8 x)
-  unfolding valueOf wireBytes typeOf spelt width table
+  unfolding valueOf wireBytes spelt width
   double-taken h n = (rw n at (read-number ValueType.Double x rest h), ap (bytesOf 8) (floatBits-ofBits binary64 x h n))

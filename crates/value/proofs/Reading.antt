@@ -63,7 +63,7 @@ wider (suc n) k x h =
     rw (suc-add n k) (ap (λ (l : List ℕ). x % 256 ∷ l) (wider n k (x / 256) (omega arith)))
 
 pub width-room : (t : ValueType) → width t ≤ 8
-unfolding width table
+unfolding width
 width-room ValueType.Int8 = omega arith
 width-room ValueType.Uint8 = omega arith
 width-room ValueType.Int16 = omega arith

@@ -11,7 +11,7 @@ pub data Sign : Type 0 where
 pub data Row : Type 0 where
   row : Sign → ℕ → ℕ → Row
 
-unfoldable pub table : ValueType → Row
+abbrev pub table : ValueType → Row
 table Int8 = row Signed 1 0x1000
 table Uint8 = row Unsigned 1 0x2000
 table Int16 = row Signed 2 0x3000
@@ -32,12 +32,16 @@ bytesIn (row sign bytes code) = bytes
 abbrev pub codeIn : Row → ℕ
 codeIn (row sign bytes code) = code
 
+-- The code of a type, which is the lowest id of a parameter of that type.
+abbrev pub codeOf : ValueType → ℕ
+codeOf t = codeIn (table t)
+
 -- How many bytes a value of a type has.
 unfoldable pub width : ValueType → ℕ
 width t = bytesIn (table t)
 
 -- The type that a value keeps.
-unfoldable pub typeOf : ParamValue → ValueType
+abbrev pub typeOf : ParamValue → ValueType
 typeOf (ParamValue.Int8 x) = Int8
 typeOf (ParamValue.Uint8 x) = Uint8
 typeOf (ParamValue.Int16 x) = Int16

@@ -100,7 +100,7 @@ double-requires : tie.Need-double-requires
 double-requires c κs = search needs
 
 returns-2 : tie.Need-returns-2
-unfolding table width valueOf
+unfolding width valueOf
 returns-2 c =
     let s = now (c .before .before .before .before .before .before .before .args .s) in
     let r = c .twos8 .result in
@@ -109,14 +109,14 @@ returns-2 c =
     rw e (sym (long-enough (c .before .before .before .before .before .before .before .args .t) ValueType.Int8 s (c .before .before .enum-told .given .1) (omega (arith, c .before .before .before .before .before .width .ensures))))
 
 returns-3 : tie.Need-returns-3
-unfolding table width valueOf
+unfolding width valueOf
 returns-3 c =
     let s = now (c .before .before .before .before .before .before .args .s) in
     let e : c .byte2 .result ≡ number 1 s = c .byte2 .ensures ∙ sym (number-one s) in
     rw e (sym (long-enough (c .before .before .before .before .before .before .args .t) ValueType.Uint8 s (c .before .enum-told2 .given .1) (omega (arith, c .before .before .before .before .width .ensures))))
 
 returns-4 : tie.Need-returns-4
-unfolding table width valueOf
+unfolding width valueOf
 returns-4 c =
     let s = now (c .before .before .before .before .before .before .before .args .s) in
     let r = c .twos16 .result in
@@ -125,14 +125,14 @@ returns-4 c =
     rw e (sym (long-enough (c .before .before .before .before .before .before .before .args .t) ValueType.Int16 s (c .before .before .enum-told3 .given .1) (omega (arith, c .before .before .before .before .before .width .ensures))))
 
 returns-5 : tie.Need-returns-5
-unfolding table width valueOf
+unfolding width valueOf
 returns-5 c =
     let s = now (c .before .before .before .before .before .before .args .s) in
     let e : c .le162 .result ≡ number 2 s = c .le162 .ensures in
     rw e (sym (long-enough (c .before .before .before .before .before .before .args .t) ValueType.Uint16 s (c .before .enum-told4 .given .1) (omega (arith, c .before .before .before .before .width .ensures))))
 
 returns-6 : tie.Need-returns-6
-unfolding table width valueOf
+unfolding width valueOf
 returns-6 c =
     let s = now (c .before .before .before .before .before .before .before .args .s) in
     let r = c .twos32 .result in
@@ -141,20 +141,20 @@ returns-6 c =
     rw e (sym (long-enough (c .before .before .before .before .before .before .before .args .t) ValueType.Int32 s (c .before .before .enum-told5 .given .1) (omega (arith, c .before .before .before .before .before .width .ensures))))
 
 returns-7 : tie.Need-returns-7
-unfolding table width valueOf
+unfolding width valueOf
 returns-7 c =
     let s = now (c .before .before .before .before .before .before .args .s) in
     let e : c .le322 .result ≡ number 4 s = c .le322 .ensures in
     rw e (sym (long-enough (c .before .before .before .before .before .before .args .t) ValueType.Uint32 s (c .before .enum-told6 .given .1) (omega (arith, c .before .before .before .before .width .ensures))))
 
 returns-8 : tie.Need-returns-8
-unfolding table width valueOf
+unfolding width valueOf
 returns-8 c =
     let s = now (c .before .before .before .before .before .before .before .args .s) in
     c .float .ensures ∙ ap (valueOf ValueType.Float) (c .before .le323 .ensures) ∙ sym (long-enough (c .before .before .before .before .before .before .before .args .t) ValueType.Float s (c .before .before .enum-told7 .given .1) (omega (arith, c .before .before .before .before .before .width .ensures)))
 
 returns-9 : tie.Need-returns-9
-unfolding table width valueOf
+unfolding width valueOf
 returns-9 c =
     let s = now (c .before .before .before .before .before .before .before .args .s) in
     let r = c .twos64 .result in
@@ -163,14 +163,14 @@ returns-9 c =
     rw e (sym (long-enough (c .before .before .before .before .before .before .before .args .t) ValueType.Int64 s (c .before .before .enum-told8 .given .1) (omega (arith, c .before .before .before .before .before .width .ensures))))
 
 returns-10 : tie.Need-returns-10
-unfolding table width valueOf
+unfolding width valueOf
 returns-10 c =
     let s = now (c .before .before .before .before .before .before .args .s) in
     let e : c .le642 .result ≡ number 8 s = c .le642 .ensures in
     rw e (sym (long-enough (c .before .before .before .before .before .before .args .t) ValueType.Uint64 s (c .before .enum-told9 .given .1) (omega (arith, c .before .before .before .before .width .ensures))))
 
 returns-11 : tie.Need-returns-11
-unfolding table width valueOf
+unfolding width valueOf
 returns-11 c =
     let s = now (c .before .before .before .before .before .before .before .args .s) in
     c .double .ensures ∙ ap (valueOf ValueType.Double) (c .before .le643 .ensures) ∙ sym (long-enough (c .before .before .before .before .before .before .before .args .t) ValueType.Double s (c .before .before .enum-told10 .given .1) (omega (arith, c .before .before .before .before .before .width .ensures)))

@@ -81,55 +81,55 @@ float-bits64-requires : tie.Need-float-bits64-requires
 float-bits64-requires c κs = search needs
 
 returns : tie.Need-returns
-unfolding table width typeOf spelt
+unfolding width spelt
 returns c =
     let z = c .before .before .v .given .0 .0 in
     let f : SFits w8 z = search needs in
     rw (c .before .before .v .given .1) (c .bits8 .ensures ∙ ap (pattern 1) (toZ-ofZ w8 z f), omega arith)
 
 returns-2 : tie.Need-returns-2
-unfolding table width typeOf spelt
+unfolding width spelt
 returns-2 c = rw (c .before .v2 .given .1) (refl, omega arith)
 
 returns-3 : tie.Need-returns-3
-unfolding table width typeOf spelt
+unfolding width spelt
 returns-3 c =
     let z = c .before .before .v3 .given .0 .0 in
     let f : SFits w16 z = search needs in
     rw (c .before .before .v3 .given .1) (c .bits16 .ensures ∙ ap (pattern 2) (toZ-ofZ w16 z f), omega arith)
 
 returns-4 : tie.Need-returns-4
-unfolding table width typeOf spelt
+unfolding width spelt
 returns-4 c = rw (c .before .v4 .given .1) (refl, omega arith)
 
 returns-5 : tie.Need-returns-5
-unfolding table width typeOf spelt
+unfolding width spelt
 returns-5 c =
     let z = c .before .before .v5 .given .0 .0 in
     let f : SFits w32 z = search needs in
     rw (c .before .before .v5 .given .1) (c .bits32 .ensures ∙ ap (pattern 4) (toZ-ofZ w32 z f), omega arith)
 
 returns-6 : tie.Need-returns-6
-unfolding table width typeOf spelt
+unfolding width spelt
 returns-6 c = rw (c .before .v6 .given .1) (refl, omega arith)
 
 returns-7 : tie.Need-returns-7
-unfolding table width typeOf spelt
+unfolding width spelt
 returns-7 c = rw (c .before .before .v7 .given .1) (c .float-bits32 .ensures, omega arith)
 
 returns-8 : tie.Need-returns-8
-unfolding table width typeOf spelt
+unfolding width spelt
 returns-8 c =
     let z = c .before .before .v8 .given .0 .0 in
     let f : SFits w64 z = search needs in
     rw (c .before .before .v8 .given .1) (c .bits64 .ensures ∙ ap (pattern 8) (toZ-ofZ w64 z f), omega arith)
 
 returns-9 : tie.Need-returns-9
-unfolding table width typeOf spelt
+unfolding width spelt
 returns-9 c = rw (c .before .v9 .given .1) (refl, omega arith)
 
 returns-10 : tie.Need-returns-10
-unfolding table width typeOf spelt
+unfolding width spelt
 returns-10 c = rw (c .before .before .v10 .given .1) (c .float-bits64 .ensures, omega arith)
 
 pub spelt-spec : {M : Type 1} → statement M

@@ -35,43 +35,33 @@ enum-told-10 : tie.Need-enum-told-10
 enum-told-10 c = search needs
 
 returns : tie.Need-returns
-unfolding typeOf
 returns c = rw (c .enum-told .given .1)
 
 returns-2 : tie.Need-returns-2
-unfolding typeOf
 returns-2 c = rw (c .enum-told2 .given .1)
 
 returns-3 : tie.Need-returns-3
-unfolding typeOf
 returns-3 c = rw (c .enum-told3 .given .1)
 
 returns-4 : tie.Need-returns-4
-unfolding typeOf
 returns-4 c = rw (c .enum-told4 .given .1)
 
 returns-5 : tie.Need-returns-5
-unfolding typeOf
 returns-5 c = rw (c .enum-told5 .given .1)
 
 returns-6 : tie.Need-returns-6
-unfolding typeOf
 returns-6 c = rw (c .enum-told6 .given .1)
 
 returns-7 : tie.Need-returns-7
-unfolding typeOf
 returns-7 c = rw (c .enum-told7 .given .1)
 
 returns-8 : tie.Need-returns-8
-unfolding typeOf
 returns-8 c = rw (c .enum-told8 .given .1)
 
 returns-9 : tie.Need-returns-9
-unfolding typeOf
 returns-9 c = rw (c .enum-told9 .given .1)
 
 returns-10 : tie.Need-returns-10
-unfolding typeOf
 returns-10 c = rw (c .enum-told10 .given .1)
 
 pub type-of-spec : {M : Type 1} → statement M
