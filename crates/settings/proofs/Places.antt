@@ -1,8 +1,8 @@
 -- What is known of an id by the place of its value. Assumes nothing.
 use mathlib.Core.Path.{_≡_, refl, ap, _∙_, subst}
-use Prim.Native.Nat.{ℕ, _+_, _-_, _<_}
-use native.Mathlib.Omega.{arith}
 use mathlib.Core.List.{List, map}
+use Prim.Native.Nat.{ℕ, _+_, _-_, _≤_, _<_}
+use native.Mathlib.Omega.{arith}
 use lib.ListN.{getD, List·getD-map}
 use lib.IntN.{pos, natAbs}
 use Rattle.value.specs.Types.{codeOf}
@@ -16,7 +16,7 @@ use Rattle.settings.specs.Places.{placeAs, placeOf}
 use Rattle.settings.specs.declared.Got.{Got}
 use Rattle.settings.specs.declared.Settings.{Settings}
 use Rattle.settings.specs.Values.{numbers, numberOf, valueOf, getOf}
-use Rattle.settings.proofs.Rows.{countOf, held, int8s, uint8s, int16s, uint16s, uint32s}
+use Rattle.settings.proofs.Rows.{countOf, held, shown, int8s, uint8s, int16s, uint16s, uint32s}
 
 -- the id is a parameter of the type, and the place is within the type's array
 pub record At (id i : ℕ) (t : ValueType) : Type 0 where
@@ -60,6 +60,32 @@ stands id = go (parameterOf id) refl
 
 pub stands-at : (id : ℕ) {p : Place} → placeOf id ≡ p → Stands id p
 stands-at id e = subst (Stands id) e (stands id)
+
+-- ---- an id outside all ten blocks has no place
+abbrev pub Out : ℕ → ℕ → ℕ → Type 0
+Out first last id = first ≤ id → id ≤ last → ⊥
+
+pub nowhere : (id : ℕ) → Out 0x1000 0x1014 id → Out 0x2000 0x2002 id → Out 0x3000 0x3029 id → Out 0x4000 0x4043 id → Out 0x6000 0x6005 id
+    → Out 0x1800 0x1800 id → Out 0x2800 0x2803 id → Out 0x3800 0x3801 id → Out 0x4800 0x4813 id → Out 0x6800 0x6814 id → Place.Unknown ≡ placeOf id
+nowhere id a b c d e f g h i j = go (placeOf id) (stands id)
+  where
+    go : (p : Place) → Stands id p → Place.Unknown ≡ p
+    go (Place.Int8 k) w = absurd (a (omega arith) (omega arith))
+    go (Place.Uint8 k) w = absurd (b (omega arith) (omega arith))
+    go (Place.Int16 k) w = absurd (c (omega arith) (omega arith))
+    go (Place.Uint16 k) w = absurd (d (omega arith) (omega arith))
+    go (Place.Uint32 k) w = absurd (e (omega arith) (omega arith))
+    go (Place.ReadOnly Int8) w = let k = shown id Int8 w in absurd (f (omega arith) (omega arith))
+    go (Place.ReadOnly Uint8) w = let k = shown id Uint8 w in absurd (g (omega arith) (omega arith))
+    go (Place.ReadOnly Int16) w = let k = shown id Int16 w in absurd (h (omega arith) (omega arith))
+    go (Place.ReadOnly Uint16) w = let k = shown id Uint16 w in absurd (i (omega arith) (omega arith))
+    go (Place.ReadOnly Uint32) w = let k = shown id Uint32 w in absurd (j (omega arith) (omega arith))
+    go (Place.ReadOnly Int32) w = let k = shown id Int32 w in absurd (omega arith)
+    go (Place.ReadOnly Float) w = let k = shown id Float w in absurd (omega arith)
+    go (Place.ReadOnly Int64) w = let k = shown id Int64 w in absurd (omega arith)
+    go (Place.ReadOnly Uint64) w = let k = shown id Uint64 w in absurd (omega arith)
+    go (Place.ReadOnly Double) w = let k = shown id Double w in absurd (omega arith)
+    go Place.Unknown w = refl
 
 -- ---- what is read of an id by what it is
 pub gets : (s : Settings) (id : ℕ) (t : ValueType) → parameterOf id ≡ Parameter.ReadWrite t → getOf s id ≡ valueOf t (numberOf s id)

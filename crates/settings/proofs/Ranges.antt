@@ -6,9 +6,9 @@ use native.Mathlib.Omega.{arith}
 use borrow.Author.Tests.{le-leb}
 use lib.Dec.{T, leb}
 use lib.IntN.{ℤ, pos, negsuc}
+use lib.Signed.{ltZ, leZ, mag}
 use mir.Syntax.{w8, w16}
 use mir.Val.{SFits}
-use lib.Signed.{ltZ, leZ, mag}
 use Rattle.laws.proofs.Signed.{order, no-lt, yes-le}
 use Rattle.value.specs.declared.ValueType.{ValueType}
 use Rattle.value.specs.declared.ValueType.the-variants.{Int8, Uint8, Int16, Uint16, Uint32}

@@ -2,15 +2,15 @@
 use mathlib.Core.Path.{_≡_, refl, sym, ap, subst}
 use mathlib.Core.Bool.{Bool, true, false, _&&_}
 use mathlib.Core.List.{List, [], _∷_, _++_}
+use mathlib.Core.Logic.{⊎-elim}
 use Prim.Native.Nat.{ℕ, zero, suc, _+_, _-_, _≤_, _<_}
 use native.Mathlib.Omega.{arith}
-use mathlib.Core.Logic.{⊎-elim}
-use Rattle.value.specs.Types.{codeOf}
-use Rattle.laws.proofs.Lists.{lt-or-le}
 use lib.ListN.{length, getD, List·getD-map}
+use lib.IntN.{pos}
 use mir.Syntax.{w8, w32}
 use mir.Val.{Fits, SFits}
-use lib.IntN.{pos}
+use Rattle.laws.proofs.Lists.{lt-or-le}
+use Rattle.value.specs.Types.{codeOf}
 use Rattle.value.specs.declared.ValueType.{ValueType}
 use Rattle.value.specs.declared.ValueType.the-variants.{Int8, Uint8, Int16, Uint16, Uint32}
 use Rattle.settings.specs.declared.Parameter.{Parameter}

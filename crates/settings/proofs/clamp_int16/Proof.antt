@@ -2,6 +2,7 @@
 use mathlib.Core.Path.{sym, _∙_}
 use Prim.Native.Nat.{_+_}
 use native.Mathlib.Omega.{arith}
+use borrow.Author.Needs.{needs}
 use mir.Syntax.{w16}
 use mir.ValLaws.{toZ-ofZ}
 use Rattle.laws.proofs.Signed.{order, same, yes-lt, yes-le}
@@ -9,7 +10,6 @@ use Rattle.value.specs.declared.ValueType.the-variants.{Int16}
 use Rattle.settings.specs.Table.{lowOf, highOf, clampOf}
 use Rattle.settings.proofs.Rows.{int16s, held}
 use Rattle.settings.proofs.Ranges.{nearer-low, nearer-high, kept}
-use borrow.Author.Needs.{needs}
 use Rattle.settings.proofs.clamp_int16.Statement.{statement}
 use Rattle.settings.proofs.clamp_int16.Tie as tie
 

@@ -2,13 +2,13 @@
 use mathlib.Core.Path.{ap}
 use Prim.Native.Nat.{_+_}
 use native.Mathlib.Omega.{arith}
+use borrow.Author.Needs.{needs}
 use lib.IntN.{pos}
 use Rattle.laws.proofs.Signed.{order, same, yes-lt, yes-le, plus, minus}
 use Rattle.value.specs.declared.ValueType.the-variants.{Uint16}
 use Rattle.settings.specs.Table.{lowOf, highOf, clampOf}
 use Rattle.settings.proofs.Rows.{uint16s, held}
 use Rattle.settings.proofs.Ranges.{nearer-low, nearer-high, kept}
-use borrow.Author.Needs.{needs}
 use Rattle.settings.proofs.clamp_uint16.Statement.{statement}
 use Rattle.settings.proofs.clamp_uint16.Tie as tie
 

@@ -1,14 +1,14 @@
 -- Each way out reads the array and the place where the id's value stands.
 use mathlib.Core.Path.{sym, _∙_}
 use native.Mathlib.Omega.{arith}
+use borrow.Author.Needs.{needs}
+use lib.ListN.{getD}
+use lib.IntN.{pos}
 use mir.Syntax.{w8, w16}
 use mir.Val.{SFits}
 use mir.ValLaws.{toZ-ofZ}
-use lib.ListN.{getD}
-use lib.IntN.{pos}
 use Rattle.settings.specs.Values.{getOf}
 use Rattle.settings.proofs.Places.{stands-at, reads, readsN}
-use borrow.Author.Needs.{needs}
 use Rattle.settings.proofs.get.Statement.{statement}
 use Rattle.settings.proofs.get.Tie as tie
 

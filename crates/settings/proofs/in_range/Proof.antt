@@ -1,15 +1,13 @@
 -- Numbers of the types that have no ranges fit them, so the two types that have ranges decide.
+use mathlib.Core.Path.{sym, _∙_}
+use Prim.Native.Nat.{ℕ}
+use borrow.Author.Needs.{needs}
+use lib.IntN.{pos}
+use lib.ListN.{getD}
 use mir.Syntax.{w8, w32}
 use mir.Val.{Fits, SFits}
 use Rattle.settings.proofs.Arrays.{element-fits}
-use mathlib.Core.Path.{sym, _∙_}
-use Prim.Native.Nat.{ℕ}
-use lib.IntN.{pos}
-use lib.ListN.{getD}
-use mir.Syntax.{w8}
-use mir.Val.{SFits}
 use Rattle.settings.proofs.Walks.{in-range-of-two}
-use borrow.Author.Needs.{needs}
 use Rattle.settings.proofs.in_range.Statement.{statement}
 use Rattle.settings.proofs.in_range.Tie as tie
 

@@ -1,11 +1,11 @@
 -- The table is the column of the ends that the rows give.
 use mathlib.Core.Path.{_∙_}
+use borrow.Author.Needs.{needs}
 use lib.IntN.{pos}
-use Rattle.settings.specs.Table.{highOf, rowOf, find, lies, readWriteRows, readOnlyRows, column}
-use Rattle.settings.proofs.Rows.{column-at}
 use mir.Syntax.{w16}
 use mir.ValLaws.{toZ-ofZ}
-use borrow.Author.Needs.{needs}
+use Rattle.settings.specs.Table.{highOf, rowOf, find, lies, readWriteRows, readOnlyRows, column}
+use Rattle.settings.proofs.Rows.{column-at}
 use Rattle.settings.proofs.int16_high.Statement.{statement}
 use Rattle.settings.proofs.int16_high.Tie as tie
 

@@ -1,11 +1,11 @@
 -- The tests that led to each answer say how the value compares with the two ends.
 use mathlib.Core.Path.{_∙_}
 use Prim.Native.Nat.{_+_}
+use borrow.Author.Needs.{needs}
 use mir.Syntax.{w16}
 use mir.ValLaws.{toZ-ofZ}
 use Rattle.laws.proofs.Signed.{order, same, yes-le, no-le}
 use Rattle.settings.specs.Table.{lowOf, highOf, insideOf}
-use borrow.Author.Needs.{needs}
 use Rattle.settings.proofs.int16_inside.Statement.{statement}
 use Rattle.settings.proofs.int16_inside.Tie as tie
 

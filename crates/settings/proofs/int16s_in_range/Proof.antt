@@ -1,6 +1,5 @@
 -- The ids passed lie in range, so that all do exactly where those from the loop's place on do.
 use mathlib.Core.Bool.{true, false}
-use Rattle.settings.proofs.Places.{int16-number}
 use mathlib.Core.Path.{_≡_, refl, sym, ap, _∙_}
 use mathlib.Core.List.{List}
 use Prim.Native.Nat.{_+_, _-_, _≤_}
@@ -14,6 +13,7 @@ use mir.ValLaws.{toZ-ofZ}
 use Rattle.settings.specs.declared.Settings.{Settings}
 use Rattle.settings.specs.Table.{from, insideOf}
 use Rattle.settings.specs.Values.{allInside}
+use Rattle.settings.proofs.Places.{int16-number}
 use Rattle.settings.proofs.Walks.{from-start, next-in, next-out, none-left}
 use Rattle.settings.proofs.int16s_in_range.Statement.{statement}
 use Rattle.settings.proofs.int16s_in_range.Tie as tie
@@ -38,11 +38,12 @@ int16-inside-requires c κs = search needs
 
 returns : tie.Need-returns Inv-loop μ-loop
 returns c =
-    let x = getD (c .before .before .before .before .before .before .args .s .i16s) (c .before .before .before .before .loop .i) (pos 0) in
+    let s = c .before .before .before .before .before .before .args .s in
+    let i = c .before .before .before .before .loop .i in
+    let x = getD (s .i16s) i (pos 0) in
     let f : toZ w16 (ofZ w16 x) ≡ x = toZ-ofZ w16 x (record { sfits = c .before .before .int16-inside-arg .given }) in
-    let r : insideOf (0x3000 + c .before .before .before .before .loop .i) x ≡ false = ap (insideOf (0x3000 + c .before .before .before .before .loop .i)) (sym f) ∙ sym (c .before .int16-inside .ensures) ∙ c .if1 .left in
-    sym (next-out (c .before .before .before .before .before .before .args .s) 0x3000 42 (c .before .before .before .before .loop .i) (omega arith) (ap (insideOf (0x3000 + c .before .before .before .before .loop .i)) (int16-number (c .before .before .before .before .before .before .args .s) (c .before .before .before .before .loop .i) (omega arith)) ∙ r))
-    ∙ c .before .before .before .before .loop .inv .1 (c .before .before .before .before .before .before .args .s) refl
+    let r : insideOf (0x3000 + i) x ≡ false = ap (insideOf (0x3000 + i)) (sym f) ∙ sym (c .before .int16-inside .ensures) ∙ c .if1 .left in
+    sym (next-out s 0x3000 42 i (omega arith) (ap (insideOf (0x3000 + i)) (int16-number s i (omega arith)) ∙ r)) ∙ c .before .before .before .before .loop .inv .1 s refl
 
 add-i : tie.Need-add-i Inv-loop μ-loop
 add-i c = search needs
@@ -52,10 +53,12 @@ loop-less c = search needs
 
 loop-again : tie.Need-loop-again Inv-loop μ-loop
 loop-again c =
-    let x = getD (c .before .before .before .before .before .before .args .s .i16s) (c .before .before .before .before .loop .i) (pos 0) in
+    let s = c .before .before .before .before .before .before .args .s in
+    let i = c .before .before .before .before .loop .i in
+    let x = getD (s .i16s) i (pos 0) in
     let f : toZ w16 (ofZ w16 x) ≡ x = toZ-ofZ w16 x (record { sfits = c .before .before .int16-inside-arg .given }) in
-    let r : insideOf (0x3000 + c .before .before .before .before .loop .i) x ≡ true = ap (insideOf (0x3000 + c .before .before .before .before .loop .i)) (sym f) ∙ sym (c .before .int16-inside .ensures) ∙ c .if1 .taken in
-    (omega arith, λ s e. next-in s 0x3000 42 (c .before .before .before .before .loop .i) (omega arith) (ap (insideOf (0x3000 + c .before .before .before .before .loop .i)) (int16-number s (c .before .before .before .before .loop .i) (omega arith) ∙ ap (λ (l : List ℤ). getD l (c .before .before .before .before .loop .i) (pos 0)) e) ∙ r) ∙ c .before .before .before .before .loop .inv .1 s e)
+    let r : insideOf (0x3000 + i) x ≡ true = ap (insideOf (0x3000 + i)) (sym f) ∙ sym (c .before .int16-inside .ensures) ∙ c .if1 .taken in
+    (omega arith, λ s e. next-in s 0x3000 42 i (omega arith) (ap (insideOf (0x3000 + i)) (int16-number s i (omega arith) ∙ ap (λ (l : List ℤ). getD l i (pos 0)) e) ∙ r) ∙ c .before .before .before .before .loop .inv .1 s e)
 
 returns-2 : tie.Need-returns-2 Inv-loop μ-loop
 returns-2 c = sym (none-left (c .before .before .before .args .s) 0x3000 42 (c .before .loop .i) (omega arith)) ∙ c .before .loop .inv .1 (c .before .before .before .args .s) refl

@@ -1,7 +1,7 @@
 -- The place of an id's value says what the id is.
 use mathlib.Core.Path.{sym, _∙_}
-use Rattle.settings.proofs.Places.{stands-at}
 use borrow.Author.Needs.{needs}
+use Rattle.settings.proofs.Places.{stands-at}
 use Rattle.settings.proofs.parameter_of.Statement.{statement}
 use Rattle.settings.proofs.parameter_of.Tie as tie
 

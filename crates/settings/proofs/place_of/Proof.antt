@@ -1,12 +1,11 @@
 -- Each way out has the id in one block of the rows; the last has it in none, since it would have left before.
-use mathlib.Core.Path.{_≡_, refl, sym, ap, _∙_}
+use mathlib.Core.Path.{sym, ap, _∙_}
 use native.Mathlib.Omega.{arith}
-use Rattle.value.specs.declared.ValueType.the-variants.{Int8, Uint8, Int16, Uint16, Int32, Uint32, Float, Int64, Uint64, Double}
+use borrow.Author.Needs.{needs}
 use Rattle.settings.specs.declared.Place.{Place}
 use Rattle.settings.specs.Places.{placeOf}
-use Rattle.settings.proofs.Rows.{lies-yes, lies-no, shown, int8s, uint8s, int16s, uint16s, uint32s, int8s-read, uint8s-read, int16s-read, uint16s-read, uint32s-read}
-use Rattle.settings.proofs.Places.{Stands, stands}
-use borrow.Author.Needs.{needs}
+use Rattle.settings.proofs.Rows.{lies-yes, lies-no, int8s, uint8s, int16s, uint16s, uint32s, int8s-read, uint8s-read, int16s-read, uint16s-read, uint32s-read}
+use Rattle.settings.proofs.Places.{nowhere}
 use Rattle.settings.proofs.place_of.Statement.{statement}
 use Rattle.settings.proofs.place_of.Tie as tie
 
@@ -131,26 +130,18 @@ returns-10 c =
     rw (uint32s-read (c .before .before .before .before .before .before .before .before .before .before .before .before .before .before .before .before .before .before .before .before .args .id) (omega arith) (omega arith))
 
 returns-11 : tie.Need-returns-11
-unfolding placeOf
-returns-11 c = go (placeOf (c .before .before .before .before .before .before .before .before .before .before .before .before .before .before .before .before .before .before .before .before .args .id)) (stands (c .before .before .before .before .before .before .before .before .before .before .before .before .before .before .before .before .before .before .before .before .args .id))
-  where
-    go : (p : Place) → Stands (c .before .before .before .before .before .before .before .before .before .before .before .before .before .before .before .before .before .before .before .before .args .id) p → Place.Unknown ≡ p
-    go (Place.Int8 i) h = absurd (lies-no _ _ _ (sym (c .before .before .before .before .before .before .before .before .before .before .before .before .before .before .before .before .before .before .before .lie .ensures) ∙ c .before .before .before .before .before .before .before .before .before .before .before .before .before .before .before .before .before .before .if1 .left) (omega arith) (omega arith))
-    go (Place.Uint8 i) h = absurd (lies-no _ _ _ (sym (c .before .before .before .before .before .before .before .before .before .before .before .before .before .before .before .before .before .lie2 .ensures) ∙ c .before .before .before .before .before .before .before .before .before .before .before .before .before .before .before .before .if2 .left) (omega arith) (omega arith))
-    go (Place.Int16 i) h = absurd (lies-no _ _ _ (sym (c .before .before .before .before .before .before .before .before .before .before .before .before .before .before .before .lie3 .ensures) ∙ c .before .before .before .before .before .before .before .before .before .before .before .before .before .before .if3 .left) (omega arith) (omega arith))
-    go (Place.Uint16 i) h = absurd (lies-no _ _ _ (sym (c .before .before .before .before .before .before .before .before .before .before .before .before .before .lie4 .ensures) ∙ c .before .before .before .before .before .before .before .before .before .before .before .before .if4 .left) (omega arith) (omega arith))
-    go (Place.Uint32 i) h = absurd (lies-no _ _ _ (sym (c .before .before .before .before .before .before .before .before .before .before .before .lie5 .ensures) ∙ c .before .before .before .before .before .before .before .before .before .before .if5 .left) (omega arith) (omega arith))
-    go (Place.ReadOnly Int8) e = let h = shown (c .before .before .before .before .before .before .before .before .before .before .before .before .before .before .before .before .before .before .before .before .args .id) Int8 e in absurd (lies-no _ _ _ (sym (c .before .before .before .before .before .before .before .before .before .lie6 .ensures) ∙ c .before .before .before .before .before .before .before .before .if6 .left) (omega arith) (omega arith))
-    go (Place.ReadOnly Uint8) e = let h = shown (c .before .before .before .before .before .before .before .before .before .before .before .before .before .before .before .before .before .before .before .before .args .id) Uint8 e in absurd (lies-no _ _ _ (sym (c .before .before .before .before .before .before .before .lie7 .ensures) ∙ c .before .before .before .before .before .before .if7 .left) (omega arith) (omega arith))
-    go (Place.ReadOnly Int16) e = let h = shown (c .before .before .before .before .before .before .before .before .before .before .before .before .before .before .before .before .before .before .before .before .args .id) Int16 e in absurd (lies-no _ _ _ (sym (c .before .before .before .before .before .lie8 .ensures) ∙ c .before .before .before .before .if8 .left) (omega arith) (omega arith))
-    go (Place.ReadOnly Uint16) e = let h = shown (c .before .before .before .before .before .before .before .before .before .before .before .before .before .before .before .before .before .before .before .before .args .id) Uint16 e in absurd (lies-no _ _ _ (sym (c .before .before .before .lie9 .ensures) ∙ c .before .before .if9 .left) (omega arith) (omega arith))
-    go (Place.ReadOnly Uint32) e = let h = shown (c .before .before .before .before .before .before .before .before .before .before .before .before .before .before .before .before .before .before .before .before .args .id) Uint32 e in absurd (lies-no _ _ _ (sym (c .before .lie10 .ensures) ∙ c .if10 .left) (omega arith) (omega arith))
-    go (Place.ReadOnly Int32) e = let h = shown (c .before .before .before .before .before .before .before .before .before .before .before .before .before .before .before .before .before .before .before .before .args .id) Int32 e in absurd (omega arith)
-    go (Place.ReadOnly Float) e = let h = shown (c .before .before .before .before .before .before .before .before .before .before .before .before .before .before .before .before .before .before .before .before .args .id) Float e in absurd (omega arith)
-    go (Place.ReadOnly Int64) e = let h = shown (c .before .before .before .before .before .before .before .before .before .before .before .before .before .before .before .before .before .before .before .before .args .id) Int64 e in absurd (omega arith)
-    go (Place.ReadOnly Uint64) e = let h = shown (c .before .before .before .before .before .before .before .before .before .before .before .before .before .before .before .before .before .before .before .before .args .id) Uint64 e in absurd (omega arith)
-    go (Place.ReadOnly Double) e = let h = shown (c .before .before .before .before .before .before .before .before .before .before .before .before .before .before .before .before .before .before .before .before .args .id) Double e in absurd (omega arith)
-    go Place.Unknown h = refl
+returns-11 c =
+    nowhere (c .before .before .before .before .before .before .before .before .before .before .before .before .before .before .before .before .before .before .before .before .args .id)
+    (λ h h′. lies-no _ _ _ (sym (c .before .before .before .before .before .before .before .before .before .before .before .before .before .before .before .before .before .before .before .lie .ensures) ∙ c .before .before .before .before .before .before .before .before .before .before .before .before .before .before .before .before .before .before .if1 .left) (omega arith) (omega arith))
+    (λ h h′. lies-no _ _ _ (sym (c .before .before .before .before .before .before .before .before .before .before .before .before .before .before .before .before .before .lie2 .ensures) ∙ c .before .before .before .before .before .before .before .before .before .before .before .before .before .before .before .before .if2 .left) (omega arith) (omega arith))
+    (λ h h′. lies-no _ _ _ (sym (c .before .before .before .before .before .before .before .before .before .before .before .before .before .before .before .lie3 .ensures) ∙ c .before .before .before .before .before .before .before .before .before .before .before .before .before .before .if3 .left) (omega arith) (omega arith))
+    (λ h h′. lies-no _ _ _ (sym (c .before .before .before .before .before .before .before .before .before .before .before .before .before .lie4 .ensures) ∙ c .before .before .before .before .before .before .before .before .before .before .before .before .if4 .left) (omega arith) (omega arith))
+    (λ h h′. lies-no _ _ _ (sym (c .before .before .before .before .before .before .before .before .before .before .before .lie5 .ensures) ∙ c .before .before .before .before .before .before .before .before .before .before .if5 .left) (omega arith) (omega arith))
+    (λ h h′. lies-no _ _ _ (sym (c .before .before .before .before .before .before .before .before .before .lie6 .ensures) ∙ c .before .before .before .before .before .before .before .before .if6 .left) (omega arith) (omega arith))
+    (λ h h′. lies-no _ _ _ (sym (c .before .before .before .before .before .before .before .lie7 .ensures) ∙ c .before .before .before .before .before .before .if7 .left) (omega arith) (omega arith))
+    (λ h h′. lies-no _ _ _ (sym (c .before .before .before .before .before .lie8 .ensures) ∙ c .before .before .before .before .if8 .left) (omega arith) (omega arith))
+    (λ h h′. lies-no _ _ _ (sym (c .before .before .before .lie9 .ensures) ∙ c .before .before .if9 .left) (omega arith) (omega arith))
+    (λ h h′. lies-no _ _ _ (sym (c .before .lie10 .ensures) ∙ c .if10 .left) (omega arith) (omega arith))
 
 pub place-of-spec : {M : Type 1} → statement M
 place-of-spec =

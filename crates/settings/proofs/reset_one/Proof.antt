@@ -1,11 +1,11 @@
 -- The default that the id reads is set; an id that reads none changes nothing.
-use native.Mathlib.Omega.{arith}
 use mathlib.Core.Path.{_≡_, sym, ap, _∙_}
 use Prim.Native.Nat.{ℕ}
-use Rattle.settings.specs.Values.{getOf}
+use native.Mathlib.Omega.{arith}
+use borrow.Author.Needs.{needs}
+use Rattle.settings.specs.Values.{getOf, defaultsOf}
 use Rattle.settings.specs.declared.Settings.{Settings}
 use Rattle.settings.proofs.Resets.{reset-sets, reset-unread}
-use borrow.Author.Needs.{needs}
 use Rattle.settings.proofs.reset_one.Statement.{statement}
 use Rattle.settings.proofs.reset_one.Tie as tie
 
@@ -29,23 +29,26 @@ enum-told-2 c = search needs
 
 returns : tie.Need-returns
 returns c =
-    c .set .ensures ∙ reset-sets (c .before .before .before .before .before .before .args .s) (c .before .before .before .before .before .before .args .id) _ (sym (c .before .before .before .before .get .ensures ∙ ap (λ (d : Settings). getOf d (c .before .before .before .before .before .before .args .id)) (c .before .before .before .before .before .defaults .ensures)) ∙ c .before .before .default .given .1)
+    let s = c .before .before .before .before .before .before .args .s in
+    let id = c .before .before .before .before .before .before .args .id in
+    let g : getOf defaultsOf id ≡ c .before .before .before .before .get .result = sym (c .before .before .before .before .get .ensures ∙ ap (λ (d : Settings). getOf d id) (c .before .before .before .before .before .defaults .ensures)) in
+    c .set .ensures ∙ reset-sets s id _ (g ∙ c .before .before .default .given .1)
 
 returns-2 : tie.Need-returns-2
 returns-2 c =
-    sym (reset-unread (c .before .before .before .before .args .s) (c .before .before .before .before .args .id)
-    (λ v h.
-    let e = sym (c .before .before .get .ensures ∙ ap (λ (d : Settings). getOf d (c .before .before .before .before .args .id)) (c .before .before .before .defaults .ensures)) ∙ c .enum-told .given .1 in
-    let z : _≡_ {A = ℕ} 0 1 = cc in
-    omega arith))
+    let s = c .before .before .before .before .args .s in
+    let id = c .before .before .before .before .args .id in
+    let g : getOf defaultsOf id ≡ c .before .before .get .result = sym (c .before .before .get .ensures ∙ ap (λ (d : Settings). getOf d id) (c .before .before .before .defaults .ensures)) in
+    let n = c .enum-told .given .1 in
+    sym (reset-unread s id (λ v h. let z : _≡_ {A = ℕ} 0 1 = cc in omega arith))
 
 returns-3 : tie.Need-returns-3
 returns-3 c =
-    sym (reset-unread (c .before .before .before .before .args .s) (c .before .before .before .before .args .id)
-    (λ v h.
-    let e = sym (c .before .before .get .ensures ∙ ap (λ (d : Settings). getOf d (c .before .before .before .before .args .id)) (c .before .before .before .defaults .ensures)) ∙ c .enum-told2 .given .1 in
-    let z : _≡_ {A = ℕ} 0 1 = cc in
-    omega arith))
+    let s = c .before .before .before .before .args .s in
+    let id = c .before .before .before .before .args .id in
+    let g : getOf defaultsOf id ≡ c .before .before .get .result = sym (c .before .before .get .ensures ∙ ap (λ (d : Settings). getOf d id) (c .before .before .before .defaults .ensures)) in
+    let n = c .enum-told2 .given .1 in
+    sym (reset-unread s id (λ v h. let z : _≡_ {A = ℕ} 0 1 = cc in omega arith))
 
 pub reset-one-spec : {M : Type 1} → statement M
 reset-one-spec =

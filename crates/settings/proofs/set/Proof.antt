@@ -1,12 +1,12 @@
 -- A value of a type that the settings hold goes to that type's setter; no parameter has one of the other types.
 use mathlib.Core.Path.{sym}
 use native.Mathlib.Omega.{arith}
+use borrow.Author.Needs.{needs}
 use mir.Syntax.{w8, w16}
 use mir.Val.{SFits}
 use mir.ValLaws.{toZ-ofZ}
 use Rattle.value.specs.declared.ParamValue.{ParamValue}
 use Rattle.settings.proofs.Stores.{set-off}
-use borrow.Author.Needs.{needs}
 use Rattle.settings.proofs.set.Statement.{statement}
 use Rattle.settings.proofs.set.Tie as tie
 

@@ -1,16 +1,16 @@
 -- The id's place is the one that is written, with the value at the nearer end of the id's range.
-use Rattle.settings.proofs.Stores.{set-at, set-off, placed, moved}
 use mathlib.Core.Path.{_≡_, refl, sym, ap, _∙_}
 use native.Mathlib.Omega.{arith}
+use borrow.Author.Needs.{needs}
+use mir.Syntax.{w16}
+use mir.ValLaws.{toZ-ofZ}
 use Rattle.value.specs.declared.ValueType.the-variants.{Int16}
 use Rattle.value.specs.declared.ParamValue.{ParamValue}
 use Rattle.settings.specs.Table.{same, clampOf}
 use Rattle.settings.specs.Values.{withNumber}
+use Rattle.settings.proofs.Stores.{set-at, set-off, placed, moved}
 use Rattle.settings.proofs.Places.{at}
 use Rattle.settings.proofs.Rows.{lies-yes, lies-no, int16s}
-use mir.Syntax.{w16}
-use mir.ValLaws.{toZ-ofZ}
-use borrow.Author.Needs.{needs}
 use Rattle.settings.proofs.set_int16.Statement.{statement}
 use Rattle.settings.proofs.set_int16.Tie as tie
 

@@ -1,17 +1,17 @@
 -- The id's place is the one that is written, and no row of the type gives a range, so the value is kept as it is.
-use Rattle.settings.proofs.Stores.{set-at, set-off, placed}
 use mathlib.Core.Path.{refl, sym, _∙_}
 use native.Mathlib.Omega.{arith}
+use borrow.Author.Needs.{needs}
+use mir.Syntax.{w8}
+use mir.ValLaws.{toZ-ofZ}
 use Rattle.value.specs.declared.ValueType.the-variants.{Int8}
 use Rattle.value.specs.declared.ParamValue.{ParamValue}
 use Rattle.settings.specs.Table.{same}
 use Rattle.settings.specs.Values.{withNumber}
+use Rattle.settings.proofs.Stores.{set-at, set-off, placed}
 use Rattle.settings.proofs.Places.{at}
 use Rattle.settings.proofs.Rows.{lies-yes, lies-no, int8s, int8-any}
 use Rattle.settings.proofs.Ranges.{any-kept, int8-fits}
-use mir.Syntax.{w8}
-use mir.ValLaws.{toZ-ofZ}
-use borrow.Author.Needs.{needs}
 use Rattle.settings.proofs.set_int8.Statement.{statement}
 use Rattle.settings.proofs.set_int8.Tie as tie
 

@@ -1,15 +1,15 @@
 -- The id's place is the one that is written, with the value at the nearer end of the id's range.
-use Rattle.settings.proofs.Stores.{set-at, set-off, placed, moved}
 use mathlib.Core.Path.{_≡_, refl, sym, _∙_}
 use native.Mathlib.Omega.{arith}
+use borrow.Author.Needs.{needs}
+use lib.IntN.{pos}
 use Rattle.value.specs.declared.ValueType.the-variants.{Uint16}
 use Rattle.value.specs.declared.ParamValue.{ParamValue}
 use Rattle.settings.specs.Table.{same, clampOf}
 use Rattle.settings.specs.Values.{withNumber}
+use Rattle.settings.proofs.Stores.{set-at, set-off, placed, moved}
 use Rattle.settings.proofs.Places.{at}
 use Rattle.settings.proofs.Rows.{lies-yes, lies-no, uint16s}
-use lib.IntN.{pos}
-use borrow.Author.Needs.{needs}
 use Rattle.settings.proofs.set_uint16.Statement.{statement}
 use Rattle.settings.proofs.set_uint16.Tie as tie
 

@@ -1,16 +1,16 @@
 -- The id's place is the one that is written, and no row of the type gives a range, so the value is kept as it is.
-use Rattle.settings.proofs.Stores.{set-at, set-off, placed}
 use mathlib.Core.Path.{refl, sym, _∙_}
 use native.Mathlib.Omega.{arith}
+use borrow.Author.Needs.{needs}
+use lib.IntN.{pos}
 use Rattle.value.specs.declared.ValueType.the-variants.{Uint32}
 use Rattle.value.specs.declared.ParamValue.{ParamValue}
 use Rattle.settings.specs.Table.{same}
 use Rattle.settings.specs.Values.{withNumber}
+use Rattle.settings.proofs.Stores.{set-at, set-off, placed}
 use Rattle.settings.proofs.Places.{at}
 use Rattle.settings.proofs.Rows.{lies-yes, lies-no, uint32s, uint32-any}
 use Rattle.settings.proofs.Ranges.{any-kept, uint32-fits}
-use lib.IntN.{pos}
-use borrow.Author.Needs.{needs}
 use Rattle.settings.proofs.set_uint32.Statement.{statement}
 use Rattle.settings.proofs.set_uint32.Tie as tie
 

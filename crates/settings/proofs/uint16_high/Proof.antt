@@ -1,8 +1,8 @@
 -- The table is the column of the ends that the rows give.
 use mathlib.Core.Path.{refl}
+use borrow.Author.Needs.{needs}
 use Rattle.settings.specs.Table.{highOf, rowOf, find, lies, readWriteRows, readOnlyRows, column}
 use Rattle.settings.proofs.Rows.{column-of}
-use borrow.Author.Needs.{needs}
 use Rattle.settings.proofs.uint16_high.Statement.{statement}
 use Rattle.settings.proofs.uint16_high.Tie as tie
 

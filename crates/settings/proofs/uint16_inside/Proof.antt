@@ -1,9 +1,9 @@
 -- The tests that led to each answer say how the value compares with the two ends.
 use Prim.Native.Nat.{_+_}
+use borrow.Author.Needs.{needs}
 use lib.IntN.{pos}
 use Rattle.laws.proofs.Signed.{order, same, plus, minus, yes-le, no-le}
 use Rattle.settings.specs.Table.{lowOf, highOf, insideOf}
-use borrow.Author.Needs.{needs}
 use Rattle.settings.proofs.uint16_inside.Statement.{statement}
 use Rattle.settings.proofs.uint16_inside.Tie as tie
 

@@ -1,6 +1,5 @@
 -- The ids passed lie in range, so that all do exactly where those from the loop's place on do.
 use mathlib.Core.Bool.{true, false}
-use Rattle.settings.proofs.Places.{uint16-number}
 use mathlib.Core.Path.{_≡_, refl, sym, ap, _∙_}
 use mathlib.Core.List.{List}
 use Prim.Native.Nat.{ℕ, _+_, _-_, _≤_}
@@ -11,6 +10,7 @@ use lib.ListN.{getD}
 use Rattle.settings.specs.declared.Settings.{Settings}
 use Rattle.settings.specs.Table.{from, insideOf}
 use Rattle.settings.specs.Values.{allInside}
+use Rattle.settings.proofs.Places.{uint16-number}
 use Rattle.settings.proofs.Walks.{from-start, next-in, next-out, none-left}
 use Rattle.settings.proofs.uint16s_in_range.Statement.{statement}
 use Rattle.settings.proofs.uint16s_in_range.Tie as tie
@@ -35,9 +35,10 @@ uint16-inside-requires c κs = search needs
 
 returns : tie.Need-returns Inv-loop μ-loop
 returns c =
-    let r : insideOf (0x4000 + c .before .before .before .loop .i) (pos (getD (c .before .before .before .before .before .args .s .u16s) (c .before .before .before .loop .i) 0)) ≡ false = sym (c .before .uint16-inside .ensures) ∙ c .if1 .left in
-    sym (next-out (c .before .before .before .before .before .args .s) 0x4000 68 (c .before .before .before .loop .i) (omega arith) (ap (insideOf (0x4000 + c .before .before .before .loop .i)) (uint16-number (c .before .before .before .before .before .args .s) (c .before .before .before .loop .i) (omega arith)) ∙ r))
-    ∙ c .before .before .before .loop .inv .1 (c .before .before .before .before .before .args .s) refl
+    let s = c .before .before .before .before .before .args .s in
+    let i = c .before .before .before .loop .i in
+    let r : insideOf (0x4000 + i) (pos (getD (s .u16s) i 0)) ≡ false = sym (c .before .uint16-inside .ensures) ∙ c .if1 .left in
+    sym (next-out s 0x4000 68 i (omega arith) (ap (insideOf (0x4000 + i)) (uint16-number s i (omega arith)) ∙ r)) ∙ c .before .before .before .loop .inv .1 s refl
 
 add-i : tie.Need-add-i Inv-loop μ-loop
 add-i c = search needs
@@ -47,8 +48,10 @@ loop-less c = search needs
 
 loop-again : tie.Need-loop-again Inv-loop μ-loop
 loop-again c =
-    let r : insideOf (0x4000 + c .before .before .before .loop .i) (pos (getD (c .before .before .before .before .before .args .s .u16s) (c .before .before .before .loop .i) 0)) ≡ true = sym (c .before .uint16-inside .ensures) ∙ c .if1 .taken in
-    (omega arith, λ s e. next-in s 0x4000 68 (c .before .before .before .loop .i) (omega arith) (ap (insideOf (0x4000 + c .before .before .before .loop .i)) (uint16-number s (c .before .before .before .loop .i) (omega arith) ∙ ap (λ (l : List ℕ). pos (getD l (c .before .before .before .loop .i) 0)) e) ∙ r) ∙ c .before .before .before .loop .inv .1 s e)
+    let s = c .before .before .before .before .before .args .s in
+    let i = c .before .before .before .loop .i in
+    let r : insideOf (0x4000 + i) (pos (getD (s .u16s) i 0)) ≡ true = sym (c .before .uint16-inside .ensures) ∙ c .if1 .taken in
+    (omega arith, λ s e. next-in s 0x4000 68 i (omega arith) (ap (insideOf (0x4000 + i)) (uint16-number s i (omega arith) ∙ ap (λ (l : List ℕ). pos (getD l i 0)) e) ∙ r) ∙ c .before .before .before .loop .inv .1 s e)
 
 returns-2 : tie.Need-returns-2 Inv-loop μ-loop
 returns-2 c = sym (none-left (c .before .before .before .args .s) 0x4000 68 (c .before .loop .i) (omega arith)) ∙ c .before .loop .inv .1 (c .before .before .before .args .s) refl
