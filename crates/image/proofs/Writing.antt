@@ -21,6 +21,7 @@ use Rattle.settings.specs.Values.{numberOf, gotAs, getOf}
 use Rattle.settings.specs.declared.Parameter.{Parameter}
 use Rattle.settings.specs.declared.Got.{Got}
 use Rattle.settings.specs.declared.Settings.{Settings}
+use Rattle.settings.proofs.Walks.{ids-count}
 use Rattle.image.specs.Image.{gotBytes, parameterBytes, inRow, imageOf}
 use Rattle.image.specs.Room.{roomed}
 
@@ -108,10 +109,6 @@ unfolding inRow
 row-append f [] ys = refl
 row-append f (x ∷ xs) ys = ap (λ (l : List ℕ). f x ++ l) (row-append f xs ys) ∙ sym (append-assoc (f x) (inRow f xs) (inRow f ys))
 
-length-ids : length ids ≡ 140
-unfolding readWriteRows ids idsOf from column
-length-ids = refl
-
 module _ (s : Settings) where
   abbrev before : ℕ → List ℕ
   before k = inRow (parameterBytes s) (take k ids)
@@ -120,7 +117,7 @@ module _ (s : Settings) where
   one-more : (k : ℕ) → k < 140 → before (k + 1) ≡ before k ++ parameterBytes s (getD ids k 0)
   unfolding inRow
   one-more k h =
-      rw (add-one k, take-suc ids k 0 (omega (arith, length-ids)), row-append (parameterBytes s) (take k ids) (getD ids k 0 ∷ []))
+      rw (add-one k, take-suc ids k 0 (omega (arith, ids-count)), row-append (parameterBytes s) (take k ids) (getD ids k 0 ∷ []))
       (ap (λ (l : List ℕ). before k ++ l) (append-nil (parameterBytes s (getD ids k 0))))
 
   -- no more bytes than the image has
@@ -166,7 +163,7 @@ module _ (s : Settings) where
   pub whole : (image : List ℕ) (at k : ℕ) → Walked image at k → 140 ≤ k → image ≡ imageOf s
   unfolding imageOf
   whole image at k p h =
-      let all : take k ids ≡ ids = take-all k ids (omega (arith, length-ids)) in
+      let all : take k ids ≡ ids = take-all k ids (omega (arith, ids-count)) in
       let full : at ≡ 268 = p .at-is ∙ ap (λ (l : List ℕ). length (inRow (parameterBytes s) l)) all ∙ length-image s in
       sym (take-all at image (omega (arith, p .sized))) ∙ p .front ∙ ap (inRow (parameterBytes s)) all
 
