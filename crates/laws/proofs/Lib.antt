@@ -1,2 +1,3 @@
 pub mod Signed
 pub mod Lists
+pub mod Arrays

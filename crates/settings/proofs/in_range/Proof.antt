@@ -6,7 +6,7 @@ use lib.IntN.{pos}
 use lib.ListN.{getD}
 use mir.Syntax.{w8, w32}
 use mir.Val.{Fits, SFits}
-use Rattle.settings.proofs.Arrays.{element-fits}
+use Rattle.laws.proofs.Arrays.{element-fits}
 use Rattle.settings.proofs.Walks.{in-range-of-two}
 use Rattle.settings.proofs.in_range.Statement.{statement}
 use Rattle.settings.proofs.in_range.Tie as tie
