@@ -1,4 +1,4 @@
--- The checksum of document 01: what is left of the bytes, high bit first, on division by x^16 + x^12 + x^5 + 1, from a start of 0xFFFF.
+-- The checksum of document 01: what is left of the bytes, high bit first and times x^16, on division by x^16 + x^12 + x^5 + 1, from a start of 0xFFFF.
 -- A polynomial over the two-element field is a number: the coefficient of x^k is its binary digit k. There a sum and a difference are both `bitXor`.
 -- Assumes nothing: these are definitions.
 use Prim.Native.Nat.{ℕ, _+_, _*_, _/_, _%_, _^_}
@@ -11,7 +11,7 @@ use lib.Dec.{leb}
 abbrev pub polynomial : ℕ
 polynomial = 2 ^ 16 + 2 ^ 12 + 2 ^ 5 + 1
 
--- a remainder times x, and the message's next bit, which stands at x^16
+-- a remainder times x, and the message's next bit, which for the factor x^16 stands there
 abbrev pub raised : ℕ → ℕ → ℕ
 raised left bit = bitXor (left * 2) (bit * 2 ^ 16)
 

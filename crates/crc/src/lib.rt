@@ -41,7 +41,7 @@ fn wide(b: u8) -> u16
     b as u16
 }
 
-// The checksum of bytes that stand behind others whose checksum is known: a list can be walked in parts.
+// The checksum of some bytes and of those behind them, from the checksum of the first: so a list can be walked in parts.
 pub fn continued(from: u16, bytes: &[u8]) -> u16
     ensures { λ r. ⌜ r ≡ continuedOf from (now (bytes .entry)) ⌝ }
 {

@@ -1,4 +1,4 @@
--- Where the value of an id stands: in the array of its type, at the id less the type's code. Assumes nothing.
+-- Where the value of an id stands: in the array of its type, at the id less the type's code. Only private functions' contracts cite this. Assumes nothing.
 use Prim.Native.Nat.{ℕ, _-_}
 use Rattle.value.specs.Types.{codeOf}
 use Rattle.value.specs.declared.ValueType.{ValueType}

@@ -1,7 +1,7 @@
 -- Tables 3-24, 3-25 and 3-26 of the ICD: which parameters there are, and the type, range and default of each.
 -- Whatever is said of an id is read from its row. A number is an integer: `pos 5` is 5, `negsuc 5` is -6. `a ∷ b ∷ []` is a list of two,
 -- and `cond b x y` is x where b holds, else y. Assumes nothing.
-use Prim.Native.Nat.{ℕ, zero, suc, _-_}
+use Prim.Native.Nat.{ℕ, zero, suc, _-_, _/_, _^_}
 use mathlib.Core.Bool.{Bool, cond, _&&_}
 use mathlib.Core.List.{List, [], _∷_, _++_}
 use lib.Dec.{leb, eqb}
@@ -9,7 +9,7 @@ use lib.IntN.{ℤ, pos, negsuc}
 use lib.Signed.{ltZ, leZ}
 use Rattle.value.specs.declared.ValueType.{ValueType}
 use Rattle.value.specs.declared.ValueType.the-variants.{Int8, Uint8, Int16, Uint16, Int32, Uint32, Float, Int64, Uint64, Double}
-use Rattle.value.specs.Types.{codeOf}
+use Rattle.value.specs.Types.{Sign, Signed, Unsigned, signIn, bytesIn, codeOf, table as types}
 use Rattle.settings.specs.declared.Parameter.{Parameter}
 
 -- ---- the types of Table 3-24: two are one where their codes are
@@ -17,29 +17,19 @@ unfoldable pub same : ValueType → ValueType → Bool
 same t u = eqb (codeOf t) (codeOf u)
 
 -- the least and the greatest number of a type, by its sign and its bytes; no parameter is a float or a double, and what stands there is not used
+abbrev pub lowestBy : Sign → ℕ → ℤ
+lowestBy Signed bytes = negsuc (256 ^ bytes / 2 - 1)
+lowestBy Unsigned bytes = pos 0
+
+abbrev pub highestBy : Sign → ℕ → ℤ
+highestBy Signed bytes = pos (256 ^ bytes / 2 - 1)
+highestBy Unsigned bytes = pos (256 ^ bytes - 1)
+
 abbrev pub lowest : ValueType → ℤ
-lowest Int8 = negsuc 0x7F
-lowest Uint8 = pos 0
-lowest Int16 = negsuc 0x7FFF
-lowest Uint16 = pos 0
-lowest Int32 = negsuc 0x7FFFFFFF
-lowest Uint32 = pos 0
-lowest Float = pos 0
-lowest Int64 = negsuc 0x7FFFFFFFFFFFFFFF
-lowest Uint64 = pos 0
-lowest Double = pos 0
+lowest t = lowestBy (signIn (types t)) (bytesIn (types t))
 
 abbrev pub highest : ValueType → ℤ
-highest Int8 = pos 0x7F
-highest Uint8 = pos 0xFF
-highest Int16 = pos 0x7FFF
-highest Uint16 = pos 0xFFFF
-highest Int32 = pos 0x7FFFFFFF
-highest Uint32 = pos 0xFFFFFFFF
-highest Float = pos 0
-highest Int64 = pos 0x7FFFFFFFFFFFFFFF
-highest Uint64 = pos 0xFFFFFFFFFFFFFFFF
-highest Double = pos 0
+highest t = highestBy (signIn (types t)) (bytesIn (types t))
 
 -- ---- the form of a row
 -- a range as the page gives it: none, a min, a max, or both

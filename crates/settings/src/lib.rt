@@ -261,7 +261,7 @@ fn set_uint32(mut s: Settings, id: u16, x: u32) -> Settings
 }
 
 // The settings with a value stored for the id, at the nearer end of the id's range where it lies outside; a value of another type than
-// the id's, and an id that is read-only or unknown, change nothing.
+// the id's, and an id that is read-only or unknown, change nothing: whether a set is refused is told by `parameter_of`, asked before.
 pub fn set(s: Settings, id: u16, value: ParamValue) -> Settings
     ensures { λ r. ⌜ r ≡ setOf s id value ⌝ }
 {
@@ -279,7 +279,7 @@ pub fn set(s: Settings, id: u16, value: ParamValue) -> Settings
     }
 }
 
-// The settings with one parameter at its default, brought into range; an id that is read-only or unknown changes nothing.
+// The settings with one parameter at its default, brought into range; an id that is read-only or unknown, which `parameter_of` tells, changes nothing.
 pub fn reset_one(s: Settings, id: u16) -> Settings
     ensures { λ r. ⌜ r ≡ resetOf s id ⌝ }
 {

@@ -19,6 +19,7 @@ use Rattle.wire.specs.Floats.{nanPattern}
 use Rattle.wire.specs.Numbers.{Bytes, number, bytesOf, signed}
 use Rattle.value.proofs.Reading.{too-short, long-enough}
 use Rattle.value.specs.Types.{table, width, typeOf}
+use Rattle.value.specs.Answers.{readNumber}
 use Rattle.value.specs.Values.{spelt, wireBytes, valueOf, readOf, Proper}
 use Rattle.value.specs.declared.ParamValue.{ParamValue}
 use Rattle.value.specs.declared.ParamValue.the-variants.{Int8, Uint8, Int16, Uint16, Int32, Uint32, Float, Int64, Uint64, Double}
@@ -171,3 +172,13 @@ module _ (x : ℕ) (rest : List ℕ) where
       → (readOf ValueType.Double (bytesOf 8 x ++ rest) ≡ Value (Double (ofBits binary64 x))) × (wireBytes (Double (ofBits binary64 x)) ≡ bytesOf 8 x)
   unfolding valueOf wireBytes spelt width
   double-taken h n = (rw n at (read-number ValueType.Double x rest h), ap (bytesOf 8) (floatBits-ofBits binary64 x h n))
+
+-- ---- document 01's numbers: 5 where bytes are missing, 7 for a NaN, and no other
+pub read-5 : (t : ValueType) (s : List ℕ) → length s < width t → readNumber (readOf t s) ≡ 5
+read-5 t s h = ap readNumber (too-short t s h)
+
+pub float-7 : (x : ℕ) (rest : List ℕ) → x < 2 ^ 32 → nanPattern binary32 x ≡ true → readNumber (readOf ValueType.Float (bytesOf 4 x ++ rest)) ≡ 7
+float-7 x rest h n = ap readNumber (float-refused x rest h n)
+
+pub double-7 : (x : ℕ) (rest : List ℕ) → x < 2 ^ 64 → nanPattern binary64 x ≡ true → readNumber (readOf ValueType.Double (bytesOf 8 x ++ rest)) ≡ 7
+double-7 x rest h n = ap readNumber (double-refused x rest h n)

@@ -32,7 +32,7 @@ bytesIn (row sign bytes code) = bytes
 abbrev pub codeIn : Row → ℕ
 codeIn (row sign bytes code) = code
 
--- The code of a type, which is the lowest id of a parameter of that type.
+-- The code of a type, from which the ids of its parameters count.
 abbrev pub codeOf : ValueType → ℕ
 codeOf t = codeIn (table t)
 
