@@ -3,10 +3,11 @@ ghost use mathlib.Core.Path.{_≡_};
 ghost use mathlib.Core.Bool.{not};
 ghost use Rattle.channels.specs.Operations.{countOne, countAll, overcurrentAt, groupOn, groupOff, groupState, switchOn, switchOff, commandEnabledOff, allOff, forcedOn, cleared, wrongToSwitchOn, wrongToSwitchOff};
 
+// The fields are private, so that nobody but this crate writes a count: overcurrent raises one, a reset sets all to 0, and nothing else does either.
 pub struct Channels {
-    pub on: u32,
-    pub latched: u32,
-    pub counts: [u16; 32],
+    on: u32,
+    latched: u32,
+    counts: [u16; 32],
 }
 
 // A channel's count after a tick in which it trips or does not: one more where it trips, and never above 65,535.
@@ -68,6 +69,27 @@ impl Channels {
             latched: 0,
             counts: [0; 32],
         }
+    }
+
+    // The set of the channels that are on.
+    pub fn on(self) -> u32
+        ensures { λ r. ⌜ r ≡ self .on ⌝ }
+    {
+        self.on
+    }
+
+    // The set of the channels that are latched.
+    pub fn latched(self) -> u32
+        ensures { λ r. ⌜ r ≡ self .latched ⌝ }
+    {
+        self.latched
+    }
+
+    // How often overcurrent turned each channel off since the last reset.
+    pub fn counts(self) -> [u16; 32]
+        ensures { λ r. ⌜ r ≡ self .counts ⌝ }
+    {
+        self.counts
     }
 
     // The channels after those named reported overcurrent: each that was on is off, latched and counted.
