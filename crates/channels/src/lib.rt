@@ -1,6 +1,7 @@
 // The 32 output channels: which are on, which are latched, and how often overcurrent turned each one off. Channel c is bit c of a set.
 ghost use mathlib.Core.Path.{_≡_};
 ghost use mathlib.Core.Bool.{not};
+ghost use Rattle.channels.specs.Sets.{has, isWithin, withChannel};
 ghost use Rattle.channels.specs.Operations.{countOne, countAll, overcurrentAt, groupOn, groupOff, groupState, switchOn, switchOff, commandEnabledOff, allOff, forcedOn, cleared, wrongToSwitchOn, wrongToSwitchOff};
 
 // The fields are private, so that nobody but this crate writes a count: overcurrent raises one, a reset sets all to 0, and nothing else does either.
@@ -8,6 +9,35 @@ pub struct Channels {
     on: u32,
     latched: u32,
     counts: [u16; 32],
+}
+
+// Whether channel c is in the set; a number above 31 is no channel, and in no set.
+pub fn contains(set: u32, c: u8) -> bool
+    ensures { λ r. ⌜ r ≡ has set c ⌝ }
+{
+    if c > 31 {
+        return false;
+    }
+    (set >> c) % 2 == 1
+}
+
+// Whether every channel of `inner` is in `outer`, as the force-enabled ones of a profile have to be in the fitted ones.
+pub fn within(inner: u32, outer: u32) -> bool
+    ensures { λ r. ⌜ r ≡ isWithin inner outer ⌝ }
+{
+    let left_over = inner & !outer;
+    left_over == 0
+}
+
+// The set with channel c put in; a number above 31 is no channel and changes nothing.
+pub fn with_channel(set: u32, c: u8) -> u32
+    ensures { λ r. ⌜ r ≡ withChannel set c ⌝ }
+{
+    if c > 31 {
+        return set;
+    }
+    let one: u32 = 1 << c;
+    set | one
 }
 
 // A channel's count after a tick in which it trips or does not: one more where it trips, and never above 65,535.
@@ -42,21 +72,15 @@ fn all_counted(before: [u16; 32], tripping: u32) -> [u16; 32]
 pub fn may_switch_on(fitted: u32, c: u8) -> bool
     ensures { λ r. ⌜ r ≡ not (wrongToSwitchOn fitted c) ⌝ }
 {
-    if c > 31 {
-        return false;
-    }
-    (fitted >> c) % 2 == 1
+    contains(fitted, c)
 }
 
 // Whether refusal 7 does not apply to 0x18: the channel is there, fitted and not forced.
 pub fn may_switch_off(fitted: u32, forced: u32, c: u8) -> bool
     ensures { λ r. ⌜ r ≡ not (wrongToSwitchOff fitted forced c) ⌝ }
 {
-    if c > 31 {
-        return false;
-    }
     let command_enabled = fitted & !forced;
-    (command_enabled >> c) % 2 == 1
+    contains(command_enabled, c)
 }
 
 impl Channels {
@@ -149,10 +173,7 @@ impl Channels {
     pub fn switch_on(self, fitted: u32, c: u8) -> Channels
         ensures { λ r. ⌜ r ≡ switchOn fitted c self ⌝ }
     {
-        if c > 31 {
-            return self;
-        }
-        let one: u32 = 1 << c;
+        let one = with_channel(0, c);
         self.group_on(fitted, one, one)
     }
 
@@ -160,10 +181,7 @@ impl Channels {
     pub fn switch_off(self, fitted: u32, forced: u32, c: u8) -> Channels
         ensures { λ r. ⌜ r ≡ switchOff fitted forced c self ⌝ }
     {
-        if c > 31 {
-            return self;
-        }
-        let one: u32 = 1 << c;
+        let one = with_channel(0, c);
         self.group_off(fitted, forced, one, one)
     }
 
