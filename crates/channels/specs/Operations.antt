@@ -63,9 +63,9 @@ groupStateOne fitted forced spoken mask ch =
 abbrev pub commandEnabledOffOne : Bool → Bool → Chan → Chan
 commandEnabledOffOne fitted forced ch = if commandEnabled fitted forced then offAndLatchKept ch else ch
 
--- startup or emergency left by the table: no latch is left, and on are the forced channels and no other
-abbrev pub forcedOnOne : Bool → Chan → Chan
-forcedOnOne forced ch = record { on = forced; latched = false; count = ch .count }
+-- startup or emergency left by the table: a force-enabled channel is on, any other off, and no latch is left
+abbrev pub forcedOnOne : Bool → Bool → Chan → Chan
+forcedOnOne fitted forced ch = record { on = forceEnabled fitted forced; latched = false; count = ch .count }
 
 -- a reset: off, no latch, a count of 0
 abbrev pub clearOne : Chan
@@ -99,8 +99,8 @@ commandEnabledOff fitted forced s = whole (λ c. commandEnabledOffOne (has fitte
 unfoldable pub allOff : Channels → Channels
 allOff s = whole (λ c. offAndLatchKept (chan s c))
 
-unfoldable pub forcedOn : ℕ → Channels → Channels
-forcedOn forced s = whole (λ c. forcedOnOne (has forced c) (chan s c))
+unfoldable pub forcedOn : ℕ → ℕ → Channels → Channels
+forcedOn fitted forced s = whole (λ c. forcedOnOne (has fitted c) (has forced c) (chan s c))
 
 unfoldable pub cleared : Channels
 cleared = whole (λ c. clearOne)

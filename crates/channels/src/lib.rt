@@ -202,11 +202,11 @@ impl Channels {
         self
     }
 
-    // The channels where startup or emergency is left by the table: exactly the forced ones are on, no latch is left.
-    pub fn forced_on(mut self, forced: u32) -> Channels
-        ensures { λ r. ⌜ r ≡ forcedOn forced self ⌝ }
+    // The channels where startup or emergency is left by the table: on are those that are fitted and forced, and no other; no latch is left.
+    pub fn forced_on(mut self, fitted: u32, forced: u32) -> Channels
+        ensures { λ r. ⌜ r ≡ forcedOn fitted forced self ⌝ }
     {
-        self.on = forced;
+        self.on = fitted & forced;
         self.latched = 0;
         self
     }
