@@ -2,9 +2,10 @@
 ghost use mathlib.Core.Path.{_≡_};
 ghost use mathlib.Core.Bool.{not};
 ghost use Rattle.channels.specs.Sets.{has, isWithin, withChannel};
-ghost use Rattle.channels.specs.Operations.{countOne, countAll, overcurrentAt, groupOn, groupOff, groupState, switchOn, switchOff, commandEnabledOff, allOff, forcedOn, cleared, wrongToSwitchOn, wrongToSwitchOff};
+ghost use Rattle.channels.specs.Counting.{countOne, countAll};
+ghost use Rattle.channels.specs.Operations.{overcurrentAt, groupOn, groupOff, groupState, switchOn, switchOff, commandEnabledOff, allOff, forcedOn, cleared, wrongToSwitchOn, wrongToSwitchOff};
 
-// The fields are private, so that nobody but this crate writes a count: overcurrent raises one, a reset sets all to 0, and nothing else does either.
+// The fields are private, so that no other crate writes a count: overcurrent raises it, a reset sets it to 0, and nothing else changes it.
 pub struct Channels {
     on: u32,
     latched: u32,
@@ -116,7 +117,7 @@ impl Channels {
         self.counts
     }
 
-    // The channels after those named reported overcurrent: each that was on is off, latched and counted.
+    // The channels after those named reported overcurrent: each of them that was on is off, latched and counted; the others stay as they are.
     pub fn overcurrent(self, named: u32) -> Channels
         ensures { λ r. ⌜ r ≡ overcurrentAt named self ⌝ }
     {
@@ -136,7 +137,7 @@ impl Channels {
         }
     }
 
-    // The channels after 0x10: each fitted channel in the mask is on, its latch cleared.
+    // The channels after 0x10: each one in the mask that is fitted and spoken of is on, its latch cleared; the others stay as they are, latches too.
     pub fn group_on(mut self, fitted: u32, spoken: u32, mask: u32) -> Channels
         ensures { λ r. ⌜ r ≡ groupOn fitted spoken mask self ⌝ }
     {
@@ -146,7 +147,7 @@ impl Channels {
         self
     }
 
-    // The channels after 0x12: each command-enabled channel in the mask is off, its latch cleared.
+    // The channels after 0x12: each one in the mask that is command-enabled and spoken of is off, its latch cleared; the others stay as they are, latches too.
     pub fn group_off(mut self, fitted: u32, forced: u32, spoken: u32, mask: u32) -> Channels
         ensures { λ r. ⌜ r ≡ groupOff fitted forced spoken mask self ⌝ }
     {
@@ -157,7 +158,8 @@ impl Channels {
         self
     }
 
-    // The channels after 0x14: what is in the mask comes on, and of the rest only command-enabled channels go off.
+    // The channels after 0x14. Of those that are fitted and spoken of, the ones in the mask are on and the command-enabled ones outside it are off,
+    // their latches cleared. A forced one outside the mask, and every channel that is not fitted or not spoken of, stays as it is, its latch too.
     pub fn group_state(mut self, fitted: u32, forced: u32, spoken: u32, mask: u32) -> Channels
         ensures { λ r. ⌜ r ≡ groupState fitted forced spoken mask self ⌝ }
     {
@@ -169,7 +171,7 @@ impl Channels {
         self
     }
 
-    // The channels after 0x16. A channel that is not there or not fitted changes nothing.
+    // The channels after 0x16: the one channel is on, its latch cleared. Where it is not there or not fitted, nothing changes.
     pub fn switch_on(self, fitted: u32, c: u8) -> Channels
         ensures { λ r. ⌜ r ≡ switchOn fitted c self ⌝ }
     {
@@ -177,7 +179,7 @@ impl Channels {
         self.group_on(fitted, one, one)
     }
 
-    // The channels after 0x18. A channel that is not there, not fitted or forced changes nothing.
+    // The channels after 0x18: the one channel is off, its latch cleared. Where it is not there, not fitted or forced, nothing changes.
     pub fn switch_off(self, fitted: u32, forced: u32, c: u8) -> Channels
         ensures { λ r. ⌜ r ≡ switchOff fitted forced c self ⌝ }
     {
