@@ -21,11 +21,14 @@ or-fits = B.or-lt 32
 pub not-fits : (a : ℕ) → (2 ^ 32 - 1) - a < 2 ^ 32
 not-fits = ones-sub-lt 32
 
+pub shifted-fits : (x : ℕ) → x % 2 ^ 32 < 2 ^ 32
+shifted-fits x = mod-lt x (pow-pos 32)
+
 -- which channels a computed set holds
 pub ruleset holds = (has-and, has-or, not-has, has-none, and-true, and-false, or-true, or-false)
 
 -- a computed set is a set of 32 channels
-pub ruleset fits = (and-fits, or-fits, not-fits)
+pub ruleset fits = (and-fits, or-fits, not-fits, shifted-fits)
 
 module _ {A : Type 0} where
   pub cases : (x : Bool) → (x ≡ true → A) → (x ≡ false → A) → A

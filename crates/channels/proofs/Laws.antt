@@ -8,11 +8,11 @@ use native.Mathlib.Omega.{arith}
 use borrow.Author.Tests.{eqb-true, le-ltb}
 use lib.Dec.{eqb, ltb}
 use lib.ListN.{getD}
-use Rattle.channels.specs.Sets.{has}
+use Rattle.channels.specs.Sets.{has, isWithin}
 use Rattle.channels.specs.Chan.{Chan, chan, whole}
 use Rattle.channels.specs.Operations.{commandEnabled, forceEnabled, onAndCleared, offAndCleared, offAndLatchKept, overcurrentOne, groupOnOne, groupOffOne, groupStateOne, commandEnabledOffOne, forcedOnOne, overcurrentAt, groupOn, groupOff, groupState, switchOn, switchOff, commandEnabledOff, allOff, forcedOn, clearOne, cleared, wrongToSwitchOn, wrongToSwitchOff}
 use Rattle.channels.specs.declared.Channels.{Channels}
-use Rattle.channels.proofs.Sets.{ext, has-none, is-listOf}
+use Rattle.channels.proofs.Sets.{ext, has-none, within-each, is-listOf}
 use Rattle.channels.proofs.Whole.{Held, whole-held, chan-whole, same-channels}
 use Rattle.channels.proofs.Cases.{cases}
 
@@ -80,7 +80,7 @@ module _ (fitted forced : ℕ) where
   abbrev pub after : Event → Channels → Channels
   after (commanded o) s = obeyed o s
   after emergency-entered s = allOff s
-  after forced-come-on s = forcedOn forced s
+  after forced-come-on s = forcedOn fitted forced s
   after (overcurrent named) s = overcurrentAt named s
 
   -- the same, for channel c alone
@@ -95,7 +95,7 @@ module _ (fitted forced : ℕ) where
   abbrev pub afterOne : Event → ℕ → Chan → Chan
   afterOne (commanded o) c ch = obeyedOne o c ch
   afterOne emergency-entered c ch = offAndLatchKept ch
-  afterOne forced-come-on c ch = forcedOnOne (has forced c) ch
+  afterOne forced-come-on c ch = forcedOnOne (has fitted c) (has forced c) ch
   afterOne (overcurrent named) c ch = overcurrentOne (has named c) ch
 
   obeyed-whole : (o : Command) (s : Channels) → obeyed o s ≡ whole (λ c. obeyedOne o c (chan s c))
@@ -186,12 +186,12 @@ module _ (fitted forced : ℕ) where
   pub overcurrent-stays-dark : (named : ℕ) (s : Channels) (c : ℕ) → c < 32 → Dark (chan s c) → Dark (chan (overcurrentAt named s) c)
   overcurrent-stays-dark named s c h d = rw (overcurrent-untouched named s c h (simp (d .off, and-false))) d
 
-  -- and under every event where it is not forced either, as no profile has it
-  pub stays-dark : (e : Event) (s : Channels) (c : ℕ) → c < 32 → has fitted c ≡ false → has forced c ≡ false → Dark (chan s c) → Dark (chan (after e s) c)
-  stays-dark (commanded o) s c h f g d = unfitted-stays-dark o s c h f d
-  stays-dark emergency-entered s c h f g d = rw (each emergency-entered s c h) (record { off = refl; unlatched = d .unlatched })
-  stays-dark forced-come-on s c h f g d = rw (each forced-come-on s c h) (record { off = g; unlatched = refl })
-  stays-dark (overcurrent named) s c h f g d = overcurrent-stays-dark named s c h d
+  -- and under every other event, whatever the sets are
+  pub stays-dark : (e : Event) (s : Channels) (c : ℕ) → c < 32 → has fitted c ≡ false → Dark (chan s c) → Dark (chan (after e s) c)
+  stays-dark (commanded o) s c h f d = unfitted-stays-dark o s c h f d
+  stays-dark emergency-entered s c h f d = rw (each emergency-entered s c h) (record { off = refl; unlatched = d .unlatched })
+  stays-dark forced-come-on s c h f d = rw (each forced-come-on s c h) (record { off = simp f; unlatched = refl })
+  stays-dark (overcurrent named) s c h f d = overcurrent-stays-dark named s c h d
 
   -- ---- the counts change by overcurrent alone
   same-counts : (f : ℕ → Chan → Chan) (s : Channels) → Held s → ((c : ℕ) (ch : Chan) → f c ch .count ≡ ch .count) → whole (λ c. f c (chan s c)) .counts ≡ s .counts
@@ -215,8 +215,8 @@ module _ (fitted forced : ℕ) where
   pub emergency-counts : (s : Channels) → Held s → allOff s .counts ≡ s .counts
   emergency-counts s k = ap (λ (x : Channels). x .counts) (after-whole emergency-entered s) ∙ same-counts (λ c. offAndLatchKept) s k (λ c ch. refl)
 
-  pub forced-on-counts : (s : Channels) → Held s → forcedOn forced s .counts ≡ s .counts
-  forced-on-counts s k = ap (λ (x : Channels). x .counts) (after-whole forced-come-on s) ∙ same-counts (λ c. forcedOnOne (has forced c)) s k (λ c ch. refl)
+  pub forced-on-counts : (s : Channels) → Held s → forcedOn fitted forced s .counts ≡ s .counts
+  forced-on-counts s k = ap (λ (x : Channels). x .counts) (after-whole forced-come-on s) ∙ same-counts (λ c. forcedOnOne (has fitted c) (has forced c)) s k (λ c ch. refl)
 
   -- and by exactly 1, up to 65,535, for a channel that is named and on
   pub overcurrent-counts : (named : ℕ) (s : Channels) (c : ℕ) → c < 32
@@ -231,15 +231,21 @@ module _ (fitted forced : ℕ) where
   counts-below (overcurrent named) s k c h b =
       rw (overcurrent-counts named s c h) (cases (has named c && has (s .on) c) (λ a. rw a (omega arith)) (λ a. rw a b))
 
-  -- ---- the whole sets where the mode decides them
+  -- ---- the sets where the mode decides them
   pub emergency-on : (s : Channels) → allOff s .on ≡ 0
   emergency-on s = ext 32 (allOff s .on) 0 (after-held emergency-entered s .on) (omega arith) (λ c h. ap (λ (x : Chan). x .on) (each emergency-entered s c h) ∙ sym (has-none c))
 
-  pub forced-on-on : (s : Channels) → forced < 2 ^ 32 → forcedOn forced s .on ≡ forced
-  forced-on-on s b = ext 32 (forcedOn forced s .on) forced (after-held forced-come-on s .on) b (λ c h. ap (λ (x : Chan). x .on) (each forced-come-on s c h))
+  pub forced-on-on : (s : Channels) (c : ℕ) → c < 32 → has (forcedOn fitted forced s .on) c ≡ forceEnabled (has fitted c) (has forced c)
+  forced-on-on s c h = ap (λ (x : Chan). x .on) (each forced-come-on s c h)
 
-  pub forced-on-latched : (s : Channels) → forcedOn forced s .latched ≡ 0
-  forced-on-latched s = ext 32 (forcedOn forced s .latched) 0 (after-held forced-come-on s .latched) (omega arith) (λ c h. ap (λ (x : Chan). x .latched) (each forced-come-on s c h) ∙ sym (has-none c))
+  -- where the forced channels are all fitted, as a profile has them, they are the whole set
+  pub forced-on-exactly : (s : Channels) → forced < 2 ^ 32 → isWithin forced fitted ≡ true → forcedOn fitted forced s .on ≡ forced
+  forced-on-exactly s b w =
+      ext 32 (forcedOn fitted forced s .on) forced (after-held forced-come-on s .on) b
+      (λ c h. forced-on-on s c h ∙ cases (has forced c) (λ a. simp (a, within-each forced fitted w c h a)) (λ a. simp (a, and-false)))
+
+  pub forced-on-latched : (s : Channels) → forcedOn fitted forced s .latched ≡ 0
+  forced-on-latched s = ext 32 (forcedOn fitted forced s .latched) 0 (after-held forced-come-on s .latched) (omega arith) (λ c h. ap (λ (x : Chan). x .latched) (each forced-come-on s c h) ∙ sym (has-none c))
 
 -- after a reset
 pub cleared-held : Held cleared

@@ -1,7 +1,8 @@
 -- What is in a set that is computed, at any width: `has` of a set that a rule picks, of `&`, `|`, `!` and `1 << c`, and that no two numbers hold the same channels.
+-- A caller cites `has-out` for numbers above 31, `within-each` and `each-within`, `has-withChannel` and `withChannel-above`.
 -- Assumes nothing.
 use mathlib.Core.Path.{_≡_, refl, sym, ap, _∙_, subst}
-use mathlib.Core.Bool.{Bool, true, false, not, _&&_, _||_, xor}
+use mathlib.Core.Bool.{Bool, true, false, not, _&&_, _||_, xor, or-false, false≢true}
 use mathlib.Core.Logic.{⊎-elim}
 use mathlib.Core.List.{List}
 use Prim.Native.Nat.{ℕ, zero, suc, _+_, _-_, _*_, _/_, _%_, _^_, _≤_, _<_, min, max, suc-le-suc}
@@ -15,7 +16,19 @@ use lib.Bits.{bitAnd, bitOr, bitXor, differ, and-shr, or-shr, xor-shr, and-step,
 use lib.ListN.{length, getD}
 use lib.Seq.{ext-getD}
 use Rattle.laws.proofs.Lists.{lt-or-le}
-use Rattle.channels.specs.Sets.{has, bit, setOf, listOf}
+use Rattle.channels.specs.Sets.{has, bit, setOf, allBelow, isWithin, withChannel, listOf}
+
+and-left : (x y : Bool) → (x && y) ≡ true → x ≡ true
+and-left true y e = refl
+and-left false y e = e
+
+and-right : (x y : Bool) → (x && y) ≡ true → y ≡ true
+and-right true y e = e
+and-right false y e = absurd (false≢true e)
+
+not-true : (x : Bool) → not x ≡ true → x ≡ false
+not-true true e = absurd (false≢true e)
+not-true false e = refl
 
 two-pos : zero < 2
 two-pos = zero-lt-suc 1
@@ -200,6 +213,65 @@ has-bit c k =
 
 pub has-one : (n c k : ℕ) → c < n → has (1 * 2 ^ c % 2 ^ n) k ≡ eqb k c
 has-one n c k h = ap (λ (s : ℕ). has s k) (ap (λ (x : ℕ). x % 2 ^ n) (one-mul (2 ^ c)) ∙ mod-eq-of-lt (pow-lt h)) ∙ has-bit c k
+
+-- ---- what holds of all channels below n, one by one and both ways
+pub allBelow-each : (n : ℕ) (p : ℕ → Bool) → allBelow n p ≡ true → (c : ℕ) → c < n → p c ≡ true
+unfolding allBelow
+allBelow-each zero p e c h = absurd (not-suc-le-zero h)
+allBelow-each (suc n) p e c h =
+    ⊎-elim
+    (λ (q : c ≡ n). rw q (and-left (p n) (allBelow n p) e))
+    (λ (l : c < n). allBelow-each n p (and-right (p n) (allBelow n p) e) c l)
+    (eq-or-lt-of-le (le-of-suc-le-suc h))
+
+pub each-allBelow : (n : ℕ) (p : ℕ → Bool) → ((c : ℕ) → c < n → p c ≡ true) → allBelow n p ≡ true
+unfolding allBelow
+each-allBelow zero p e = refl
+each-allBelow (suc n) p e = rw (e n (le-refl (suc n)), each-allBelow n p (λ c h. e c (omega arith))) refl
+
+pub allBelow-ext : (n : ℕ) (p q : ℕ → Bool) → ((c : ℕ) → c < n → p c ≡ q c) → allBelow n p ≡ allBelow n q
+unfolding allBelow
+allBelow-ext zero p q e = refl
+allBelow-ext (suc n) p q e = rw (e n (le-refl (suc n)), allBelow-ext n p q (λ c h. e c (omega arith))) refl
+
+-- ---- the test `s == 0`: no channel is in the set
+pub is-none : (n s : ℕ) → s < 2 ^ n → eqb s 0 ≡ allBelow n (λ c. not (has s c))
+is-none n s b = by-test (allBelow n (λ c. not (has s c))) refl
+  where
+    by-test : (x : Bool) → allBelow n (λ c. not (has s c)) ≡ x → eqb s 0 ≡ x
+    by-test true a = eq-eqb s 0 (ext n s 0 b (pow-pos n) (λ c h. not-true (has s c) (allBelow-each n (λ c. not (has s c)) a c h) ∙ sym (has-none c)))
+    by-test false a = ne-eqb s 0 (λ (z : s ≡ 0). false≢true (sym a ∙ each-allBelow n (λ c. not (has s c)) (λ c h. rw (z, has-none c) refl)))
+
+-- ---- the set `inner` lies within `outer`, said of each channel, both ways
+implied : (x y : Bool) → (not x || y) ≡ true → x ≡ true → y ≡ true
+implied true y e h = e
+implied false y e h = absurd (false≢true h)
+
+implies : (x y : Bool) → (x ≡ true → y ≡ true) → (not x || y) ≡ true
+implies true y e = e refl
+implies false y e = refl
+
+pub within-each : (inner outer : ℕ) → isWithin inner outer ≡ true → (c : ℕ) → c < 32 → has inner c ≡ true → has outer c ≡ true
+unfolding isWithin
+within-each inner outer e c h = implied (has inner c) (has outer c) (allBelow-each 32 (λ k. not (has inner k) || has outer k) e c h)
+
+pub each-within : (inner outer : ℕ) → ((c : ℕ) → c < 32 → has inner c ≡ true → has outer c ≡ true) → isWithin inner outer ≡ true
+unfolding isWithin
+each-within inner outer e = each-allBelow 32 (λ k. not (has inner k) || has outer k) (λ c h. implies (has inner c) (has outer c) (e c h))
+
+-- ---- the set with channel c put in
+pub has-withChannel : (s c k : ℕ) → k < 32 → has (withChannel s c) k ≡ (has s k || eqb k c)
+unfolding withChannel
+has-withChannel s c k h = has-setOf 32 (λ j. has s j || eqb j c) k h
+
+pub withChannel-lt : (s c : ℕ) → withChannel s c < 2 ^ 32
+unfolding withChannel
+withChannel-lt s c = setOf-lt 32 (λ k. has s k || eqb k c)
+
+pub withChannel-above : (s c : ℕ) → s < 2 ^ 32 → 31 < c → withChannel s c ≡ s
+withChannel-above s c b l =
+    ext 32 (withChannel s c) s (withChannel-lt s c) b
+    (λ k h. has-withChannel s c k h ∙ rw (ne-eqb k c (omega arith)) (or-false (has s k)))
 
 -- ---- bounds
 pub and-below : (n a b : ℕ) → a < 2 ^ n → bitAnd a b < 2 ^ n

@@ -2,3 +2,4 @@
 pub mod Sets
 pub mod Chan
 pub mod Operations
+pub mod Counting

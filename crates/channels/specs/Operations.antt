@@ -1,12 +1,11 @@
 -- What document 01 lets happen to the channels: each sentence first for one channel, from what the sets say of it, then for all 32.
--- `fitted` and `forced` are the profile's sets, `mask` is the command's, and `spoken` holds the channels that the command speaks of.
+-- `fitted` and `forced` are the profile's sets, `mask` is the command's, and `spoken` holds the channels that the command speaks of: all 32, or 0 to 15 where its
+-- extended mask is not there. Where a rule says nothing of a channel, as of one that is not fitted or not spoken of, it stays as it is, its latch too.
 -- Assumes nothing.
 use mathlib.Core.Bool.{Bool, true, false, cond, not, _&&_, _||_}
-use mathlib.Core.List.{List}
 use Prim.Native.Nat.{ℕ, _+_, min}
 use lib.Dec.{eqb, ltb}
-use lib.ListN.{getD}
-use Rattle.channels.specs.Sets.{has, listOf}
+use Rattle.channels.specs.Sets.{has}
 use Rattle.channels.specs.Chan.{Chan, chan, whole}
 use Rattle.channels.specs.declared.Channels.{Channels}
 
@@ -43,16 +42,16 @@ commandEnabled fitted forced = fitted && not forced
 abbrev pub overcurrentOne : Bool → Chan → Chan
 overcurrentOne named ch = if named && ch .on then tripped ch else ch
 
--- 0x10: a fitted channel in the mask is then on, with no latch
+-- 0x10: a channel that is fitted, spoken of and in the mask is then on, with no latch
 abbrev pub groupOnOne : Bool → Bool → Bool → Chan → Chan
 groupOnOne fitted spoken mask ch = if fitted && spoken && mask then onAndCleared ch else ch
 
--- 0x12: a command-enabled channel in the mask is then off, with no latch
+-- 0x12: a command-enabled channel that is spoken of and in the mask is then off, with no latch; a force-enabled one keeps its latch
 abbrev pub groupOffOne : Bool → Bool → Bool → Bool → Chan → Chan
 groupOffOne fitted forced spoken mask ch = if commandEnabled fitted forced && spoken && mask then offAndCleared ch else ch
 
--- 0x14: a command-enabled channel is on or off as the mask has it or not, with no latch;
--- a force-enabled one in the mask is on, with no latch, and one outside it stays as it is
+-- 0x14: a command-enabled channel that is spoken of is on or off as the mask has it or not, with no latch either way;
+-- a force-enabled one that is spoken of is on, with no latch, where the mask has it, and stays as it is, its latch too, where not
 abbrev pub groupStateOne : Bool → Bool → Bool → Bool → Chan → Chan
 groupStateOne fitted forced spoken mask ch =
     if commandEnabled fitted forced && spoken
@@ -63,9 +62,9 @@ groupStateOne fitted forced spoken mask ch =
 abbrev pub commandEnabledOffOne : Bool → Bool → Chan → Chan
 commandEnabledOffOne fitted forced ch = if commandEnabled fitted forced then offAndLatchKept ch else ch
 
--- startup or emergency left by the table: no latch is left, and on are the forced channels and no other
-abbrev pub forcedOnOne : Bool → Chan → Chan
-forcedOnOne forced ch = record { on = forced; latched = false; count = ch .count }
+-- startup or emergency left by the table: a force-enabled channel is on, any other off, and no latch is left
+abbrev pub forcedOnOne : Bool → Bool → Chan → Chan
+forcedOnOne fitted forced ch = record { on = forceEnabled fitted forced; latched = false; count = ch .count }
 
 -- a reset: off, no latch, a count of 0
 abbrev pub clearOne : Chan
@@ -99,25 +98,18 @@ commandEnabledOff fitted forced s = whole (λ c. commandEnabledOffOne (has fitte
 unfoldable pub allOff : Channels → Channels
 allOff s = whole (λ c. offAndLatchKept (chan s c))
 
-unfoldable pub forcedOn : ℕ → Channels → Channels
-forcedOn forced s = whole (λ c. forcedOnOne (has forced c) (chan s c))
+unfoldable pub forcedOn : ℕ → ℕ → Channels → Channels
+forcedOn fitted forced s = whole (λ c. forcedOnOne (has fitted c) (has forced c) (chan s c))
 
 unfoldable pub cleared : Channels
 cleared = whole (λ c. clearOne)
 
--- the counts alone, after some channels tripped
-abbrev pub countOne : Bool → ℕ → ℕ
-countOne trips count = if trips then min (count + 1) 65535 else count
-
-unfoldable pub countAll : ℕ → List ℕ → List ℕ
-countAll tripping counts = listOf 32 (λ c. countOne (has tripping c) (getD counts c 0))
-
 -- ---- refusal 7 of the two single commands
 
--- 0x16: an index above 31, or a channel that is not fitted
+-- 0x16: the channel is not there, as the last one is 31, or it is not fitted
 abbrev pub wrongToSwitchOn : ℕ → ℕ → Bool
 wrongToSwitchOn fitted c = ltb 31 c || not (has fitted c)
 
--- 0x18: the same, or a force-enabled channel
+-- 0x18: the same, or it is forced
 abbrev pub wrongToSwitchOff : ℕ → ℕ → ℕ → Bool
 wrongToSwitchOff fitted forced c = wrongToSwitchOn fitted c || has forced c

@@ -1,6 +1,7 @@
--- A set of channels is a number whose bit c says whether channel c is in it. Assumes nothing.
+-- A set of channels is a number whose bit c says whether channel c is in it. The channels are 0 to 31, so a set is below 2 ^ 32 and holds none above 31.
+-- Assumes nothing.
 use Prim.Native.Nat.{ℕ, zero, suc, _+_, _*_, _/_, _%_, _^_}
-use mathlib.Core.Bool.{Bool, true, false}
+use mathlib.Core.Bool.{Bool, true, false, not, _&&_, _||_}
 use mathlib.Core.List.{List, [], _∷_}
 use lib.Dec.{eqb}
 
@@ -16,6 +17,19 @@ bit false = 0
 unfoldable pub setOf : ℕ → (ℕ → Bool) → ℕ
 setOf zero p = 0
 setOf (suc n) p = bit (p n) * 2 ^ n + setOf n p
+
+-- p holds of every channel below n
+unfoldable pub allBelow : ℕ → (ℕ → Bool) → Bool
+allBelow zero p = true
+allBelow (suc n) p = p n && allBelow n p
+
+-- every channel of inner is in outer: each channel is not in inner, or it is in outer
+unfoldable pub isWithin : ℕ → ℕ → Bool
+isWithin inner outer = allBelow 32 (λ c. not (has inner c) || has outer c)
+
+-- the channels of s, and channel c besides, where there is such a channel
+unfoldable pub withChannel : ℕ → ℕ → ℕ
+withChannel s c = setOf 32 (λ k. has s k || eqb k c)
 
 -- the list f 0, f 1, .. of n numbers
 unfoldable pub listOf : ℕ → (ℕ → ℕ) → List ℕ

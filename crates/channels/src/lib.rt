@@ -1,12 +1,44 @@
 // The 32 output channels: which are on, which are latched, and how often overcurrent turned each one off. Channel c is bit c of a set.
 ghost use mathlib.Core.Path.{_≡_};
 ghost use mathlib.Core.Bool.{not};
-ghost use Rattle.channels.specs.Operations.{countOne, countAll, overcurrentAt, groupOn, groupOff, groupState, switchOn, switchOff, commandEnabledOff, allOff, forcedOn, cleared, wrongToSwitchOn, wrongToSwitchOff};
+ghost use Rattle.channels.specs.Sets.{has, isWithin, withChannel};
+ghost use Rattle.channels.specs.Counting.{countOne, countAll};
+ghost use Rattle.channels.specs.Operations.{overcurrentAt, groupOn, groupOff, groupState, switchOn, switchOff, commandEnabledOff, allOff, forcedOn, cleared, wrongToSwitchOn, wrongToSwitchOff};
 
+// The fields are private, so that no other crate writes a count: overcurrent raises it, a reset sets it to 0, and nothing else changes it.
 pub struct Channels {
-    pub on: u32,
-    pub latched: u32,
-    pub counts: [u16; 32],
+    on: u32,
+    latched: u32,
+    counts: [u16; 32],
+}
+
+// Whether channel c is in the set; a number above 31 is no channel, and in no set.
+pub fn contains(set: u32, c: u8) -> bool
+    ensures { λ r. ⌜ r ≡ has set c ⌝ }
+{
+    if c > 31 {
+        return false;
+    }
+    (set >> c) % 2 == 1
+}
+
+// Whether every channel of `inner` is in `outer`, as the force-enabled ones of a profile have to be in the fitted ones.
+pub fn within(inner: u32, outer: u32) -> bool
+    ensures { λ r. ⌜ r ≡ isWithin inner outer ⌝ }
+{
+    let left_over = inner & !outer;
+    left_over == 0
+}
+
+// The set with channel c put in; a number above 31 is no channel and changes nothing.
+pub fn with_channel(set: u32, c: u8) -> u32
+    ensures { λ r. ⌜ r ≡ withChannel set c ⌝ }
+{
+    if c > 31 {
+        return set;
+    }
+    let one: u32 = 1 << c;
+    set | one
 }
 
 // A channel's count after a tick in which it trips or does not: one more where it trips, and never above 65,535.
@@ -41,21 +73,15 @@ fn all_counted(before: [u16; 32], tripping: u32) -> [u16; 32]
 pub fn may_switch_on(fitted: u32, c: u8) -> bool
     ensures { λ r. ⌜ r ≡ not (wrongToSwitchOn fitted c) ⌝ }
 {
-    if c > 31 {
-        return false;
-    }
-    (fitted >> c) % 2 == 1
+    contains(fitted, c)
 }
 
 // Whether refusal 7 does not apply to 0x18: the channel is there, fitted and not forced.
 pub fn may_switch_off(fitted: u32, forced: u32, c: u8) -> bool
     ensures { λ r. ⌜ r ≡ not (wrongToSwitchOff fitted forced c) ⌝ }
 {
-    if c > 31 {
-        return false;
-    }
     let command_enabled = fitted & !forced;
-    (command_enabled >> c) % 2 == 1
+    contains(command_enabled, c)
 }
 
 impl Channels {
@@ -70,7 +96,28 @@ impl Channels {
         }
     }
 
-    // The channels after those named reported overcurrent: each that was on is off, latched and counted.
+    // The set of the channels that are on.
+    pub fn on(self) -> u32
+        ensures { λ r. ⌜ r ≡ self .on ⌝ }
+    {
+        self.on
+    }
+
+    // The set of the channels that are latched.
+    pub fn latched(self) -> u32
+        ensures { λ r. ⌜ r ≡ self .latched ⌝ }
+    {
+        self.latched
+    }
+
+    // How often overcurrent turned each channel off since the last reset.
+    pub fn counts(self) -> [u16; 32]
+        ensures { λ r. ⌜ r ≡ self .counts ⌝ }
+    {
+        self.counts
+    }
+
+    // The channels after those named reported overcurrent: each of them that was on is off, latched and counted; the others stay as they are.
     pub fn overcurrent(self, named: u32) -> Channels
         ensures { λ r. ⌜ r ≡ overcurrentAt named self ⌝ }
     {
@@ -90,7 +137,7 @@ impl Channels {
         }
     }
 
-    // The channels after 0x10: each fitted channel in the mask is on, its latch cleared.
+    // The channels after 0x10: each one in the mask that is fitted and spoken of is on, its latch cleared; the others stay as they are, latches too.
     pub fn group_on(mut self, fitted: u32, spoken: u32, mask: u32) -> Channels
         ensures { λ r. ⌜ r ≡ groupOn fitted spoken mask self ⌝ }
     {
@@ -100,7 +147,7 @@ impl Channels {
         self
     }
 
-    // The channels after 0x12: each command-enabled channel in the mask is off, its latch cleared.
+    // The channels after 0x12: each one in the mask that is command-enabled and spoken of is off, its latch cleared; the others stay as they are, latches too.
     pub fn group_off(mut self, fitted: u32, forced: u32, spoken: u32, mask: u32) -> Channels
         ensures { λ r. ⌜ r ≡ groupOff fitted forced spoken mask self ⌝ }
     {
@@ -111,7 +158,8 @@ impl Channels {
         self
     }
 
-    // The channels after 0x14: what is in the mask comes on, and of the rest only command-enabled channels go off.
+    // The channels after 0x14. Of those that are fitted and spoken of, the ones in the mask are on and the command-enabled ones outside it are off,
+    // their latches cleared. A forced one outside the mask, and every channel that is not fitted or not spoken of, stays as it is, its latch too.
     pub fn group_state(mut self, fitted: u32, forced: u32, spoken: u32, mask: u32) -> Channels
         ensures { λ r. ⌜ r ≡ groupState fitted forced spoken mask self ⌝ }
     {
@@ -123,25 +171,19 @@ impl Channels {
         self
     }
 
-    // The channels after 0x16. A channel that is not there or not fitted changes nothing.
+    // The channels after 0x16: the one channel is on, its latch cleared. Where it is not there or not fitted, nothing changes.
     pub fn switch_on(self, fitted: u32, c: u8) -> Channels
         ensures { λ r. ⌜ r ≡ switchOn fitted c self ⌝ }
     {
-        if c > 31 {
-            return self;
-        }
-        let one: u32 = 1 << c;
+        let one = with_channel(0, c);
         self.group_on(fitted, one, one)
     }
 
-    // The channels after 0x18. A channel that is not there, not fitted or forced changes nothing.
+    // The channels after 0x18: the one channel is off, its latch cleared. Where it is not there, not fitted or forced, nothing changes.
     pub fn switch_off(self, fitted: u32, forced: u32, c: u8) -> Channels
         ensures { λ r. ⌜ r ≡ switchOff fitted forced c self ⌝ }
     {
-        if c > 31 {
-            return self;
-        }
-        let one: u32 = 1 << c;
+        let one = with_channel(0, c);
         self.group_off(fitted, forced, one, one)
     }
 
@@ -162,11 +204,11 @@ impl Channels {
         self
     }
 
-    // The channels where startup or emergency is left by the table: exactly the forced ones are on, no latch is left.
-    pub fn forced_on(mut self, forced: u32) -> Channels
-        ensures { λ r. ⌜ r ≡ forcedOn forced self ⌝ }
+    // The channels where startup or emergency is left by the table: on are those that are fitted and forced, and no other; no latch is left.
+    pub fn forced_on(mut self, fitted: u32, forced: u32) -> Channels
+        ensures { λ r. ⌜ r ≡ forcedOn fitted forced self ⌝ }
     {
-        self.on = forced;
+        self.on = fitted & forced;
         self.latched = 0;
         self
     }

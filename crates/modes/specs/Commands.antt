@@ -1,4 +1,4 @@
--- The commanded changes of mode, in the words of document 01's list of effects. Startup obeys no command, so there both are unavailable too. Assumes nothing.
+-- The commanded changes of mode, as document 01's list of effects has them. Startup obeys no command, so there both are unavailable too. Assumes nothing.
 use Prim.Native.Nat.{ℕ}
 use mathlib.Core.Bool.{cond}
 use lib.IntN.{ℤ}
@@ -33,7 +33,8 @@ toNominalFrom Startup s rail limits = Unavailable
 unfoldable pub toNominal : ModeAge → ℤ → Limits → Commanded
 toNominal s rail limits = toNominalFrom (s .mode) s rail limits
 
--- the answer in document 01's numbers, and the mode and age that are left: 0 with the new ones, or 6, not available in this mode, with the old
+-- The answer in document 01's numbers, and the mode and age that are left: 0 with the new ones, or 6, not available in this mode, with the old.
+-- Both commands are asked for only where check 2 let the command through, which it does in no startup: so what stands for startup above never becomes an answer.
 abbrev pub answer : Commanded → ℕ
 answer (Accepted s) = 0
 answer Unavailable = 6

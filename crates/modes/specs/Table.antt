@@ -55,7 +55,7 @@ table age rail limits =
     ∷ (from Emergency when rail above limits .«emergency_high» || age reaches limits .period to Safety)
     ∷ []
 
--- whether two are the same mode
+-- whether two are the same mode: `number` only tells modes apart, it is no number of document 01
 abbrev pub number : Mode → ℕ
 number Startup = 0
 number Nominal = 1

@@ -11,10 +11,10 @@ pub enum Mode {
     Emergency,
 }
 
-// A mode, and the ticks since it was entered.
+// A mode, and the ticks since it was entered. The fields are private, so that the two change together, and only as this crate has it.
 pub struct ModeAge {
-    pub age: u64,
-    pub mode: Mode,
+    age: u64,
+    mode: Mode,
 }
 
 // What the table compares with: times in ticks, thresholds in millivolts. A threshold is wider than the rail, so that an unsigned one counts by value.
@@ -69,6 +69,20 @@ impl ModeAge {
         ensures { λ r. ⌜ r ≡ entered Startup ⌝ }
     {
         enter(Mode::Startup)
+    }
+
+    // The mode that the board is in.
+    pub fn mode(self) -> Mode
+        ensures { λ r. ⌜ r ≡ self .mode ⌝ }
+    {
+        self.mode
+    }
+
+    // The ticks since that mode was entered.
+    pub fn age(self) -> u64
+        ensures { λ r. ⌜ r ≡ self .age ⌝ }
+    {
+        self.age
     }
 
     // The same mode, one tick older; the age stops at the top.

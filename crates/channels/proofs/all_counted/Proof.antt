@@ -5,7 +5,7 @@ use native.Mathlib.Omega.{arith}
 use borrow.Author.Needs.{needs}
 use lib.ListN.{getD}
 use Rattle.channels.specs.Sets.{has}
-use Rattle.channels.specs.Operations.{countOne, countAll}
+use Rattle.channels.specs.Counting.{countOne, countAll}
 use Rattle.channels.proofs.Sets.{is-listOf, is-has}
 use Rattle.channels.proofs.Sofar.{Sofar, next}
 use Rattle.channels.proofs.all_counted.Statement.{statement}
