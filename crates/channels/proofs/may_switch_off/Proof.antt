@@ -23,7 +23,7 @@ returns c =
     (λ (l : 31 < s .args .c). simp (lt-ltb 31 (s .args .c) l, has-and, has-out 32 (s .args .fitted) (s .args .c) (search needs) (omega arith)))
     (λ (l : s .args .c ≤ 31).
     let h : s .args .c < 32 = omega arith in
-    simp (le-ltb 31 (s .args .c) l, holds, s .fits .forced .fits)
+    simp (le-ltb 31 (s .args .c) l, holds, s .fits .fitted .fits, s .fits .forced .fits)
     (cases (has (s .args .fitted) (s .args .c))
     (λ a. cases (has (s .args .forced) (s .args .c)) (λ b. simp (holds, a, b)) (λ b. simp (holds, a, b)))
     (λ a. simp (holds, a))))

@@ -8,10 +8,10 @@ use Rattle.channels.proofs.within.Tie as tie
 returns : tie.Need-returns
 unfolding isWithin
 returns c =
-    simp (is-none 32, and-below 32, c .fits .inner .fits)
+    simp (is-none 32, and-below 32, c .fits .inner .fits, c .fits .outer .fits)
     (allBelow-ext 32 _ _
     (λ k h.
-    simp (holds, c .fits .outer .fits)
+    simp (holds, c .fits .inner .fits, c .fits .outer .fits)
     (cases (has (c .args .inner) k)
     (λ a. cases (has (c .args .outer) k) (λ b. simp (holds, a, b)) (λ b. simp (holds, a, b)))
     (λ a. simp (holds, a)))))

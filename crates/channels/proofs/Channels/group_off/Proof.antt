@@ -15,7 +15,7 @@ returns c =
     (search (needs, fits))
     (λ k h.
     let s = c .before .before in
-    simp (holds, and-below 32, s .fits .fitted .fits, s .fits .forced .fits)
+    simp (holds, and-below 32, s .fits .fitted .fits, s .fits .forced .fits, s .fits .spoken .fits, s .fits .mask .fits)
     (cases (has (s .args .fitted) k)
     (λ a. cases (has (s .args .forced) k)
     (λ b. simp (holds, a, b))

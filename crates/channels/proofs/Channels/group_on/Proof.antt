@@ -15,7 +15,7 @@ returns c =
     (search (needs, fits))
     (λ k h.
     let s = c .before .before in
-    simp (holds, and-below 32, s .fits .fitted .fits)
+    simp (holds, and-below 32, s .fits .fitted .fits, s .fits .spoken .fits, s .fits .mask .fits)
     (cases (has (s .args .fitted) k)
     (λ a. cases (has (s .args .spoken) k)
     (λ b. cases (has (s .args .mask) k)
