@@ -46,7 +46,7 @@ enum Place {
 }
 
 // Whether an id is one from the first to the last.
-fn lie(id: u16, first: u16, last: u16) -> bool
+fn is_from_to(id: u16, first: u16, last: u16) -> bool
     ensures { λ r. ⌜ r ≡ lies first last id ⌝ }
 {
     if id < first {
@@ -59,34 +59,34 @@ fn lie(id: u16, first: u16, last: u16) -> bool
 fn place_of(id: u16) -> Place
     ensures { λ r. ⌜ r ≡ placeOf id ⌝ }
 {
-    if lie(id, 0x1000, 0x1014) {
+    if is_from_to(id, 0x1000, 0x1014) {
         return Place::Int8((id - 0x1000) as usize);
     }
-    if lie(id, 0x2000, 0x2002) {
+    if is_from_to(id, 0x2000, 0x2002) {
         return Place::Uint8((id - 0x2000) as usize);
     }
-    if lie(id, 0x3000, 0x3029) {
+    if is_from_to(id, 0x3000, 0x3029) {
         return Place::Int16((id - 0x3000) as usize);
     }
-    if lie(id, 0x4000, 0x4043) {
+    if is_from_to(id, 0x4000, 0x4043) {
         return Place::Uint16((id - 0x4000) as usize);
     }
-    if lie(id, 0x6000, 0x6005) {
+    if is_from_to(id, 0x6000, 0x6005) {
         return Place::Uint32((id - 0x6000) as usize);
     }
-    if lie(id, 0x1800, 0x1800) {
+    if is_from_to(id, 0x1800, 0x1800) {
         return Place::ReadOnly(ValueType::Int8);
     }
-    if lie(id, 0x2800, 0x2803) {
+    if is_from_to(id, 0x2800, 0x2803) {
         return Place::ReadOnly(ValueType::Uint8);
     }
-    if lie(id, 0x3800, 0x3801) {
+    if is_from_to(id, 0x3800, 0x3801) {
         return Place::ReadOnly(ValueType::Int16);
     }
-    if lie(id, 0x4800, 0x4813) {
+    if is_from_to(id, 0x4800, 0x4813) {
         return Place::ReadOnly(ValueType::Uint16);
     }
-    if lie(id, 0x6800, 0x6814) {
+    if is_from_to(id, 0x6800, 0x6814) {
         return Place::ReadOnly(ValueType::Uint32);
     }
     Place::Unknown
@@ -204,7 +204,7 @@ fn clamp_uint16(i: usize, x: u16) -> u16
 fn set_int8(mut s: Settings, id: u16, x: i8) -> Settings
     ensures { λ r. ⌜ r ≡ setOf s id (ParamValue.Int8 x) ⌝ }
 {
-    if lie(id, 0x1000, 0x1014) {
+    if is_from_to(id, 0x1000, 0x1014) {
         let i = (id - 0x1000) as usize;
         s.i8s[i] = x;
         return s;
@@ -216,7 +216,7 @@ fn set_int8(mut s: Settings, id: u16, x: i8) -> Settings
 fn set_uint8(mut s: Settings, id: u16, x: u8) -> Settings
     ensures { λ r. ⌜ r ≡ setOf s id (ParamValue.Uint8 x) ⌝ }
 {
-    if lie(id, 0x2000, 0x2002) {
+    if is_from_to(id, 0x2000, 0x2002) {
         let i = (id - 0x2000) as usize;
         s.u8s[i] = x;
         return s;
@@ -228,7 +228,7 @@ fn set_uint8(mut s: Settings, id: u16, x: u8) -> Settings
 fn set_int16(mut s: Settings, id: u16, x: i16) -> Settings
     ensures { λ r. ⌜ r ≡ setOf s id (ParamValue.Int16 x) ⌝ }
 {
-    if lie(id, 0x3000, 0x3029) {
+    if is_from_to(id, 0x3000, 0x3029) {
         let i = (id - 0x3000) as usize;
         s.i16s[i] = clamp_int16(i, x);
         return s;
@@ -240,7 +240,7 @@ fn set_int16(mut s: Settings, id: u16, x: i16) -> Settings
 fn set_uint16(mut s: Settings, id: u16, x: u16) -> Settings
     ensures { λ r. ⌜ r ≡ setOf s id (ParamValue.Uint16 x) ⌝ }
 {
-    if lie(id, 0x4000, 0x4043) {
+    if is_from_to(id, 0x4000, 0x4043) {
         let i = (id - 0x4000) as usize;
         s.u16s[i] = clamp_uint16(i, x);
         return s;
@@ -252,7 +252,7 @@ fn set_uint16(mut s: Settings, id: u16, x: u16) -> Settings
 fn set_uint32(mut s: Settings, id: u16, x: u32) -> Settings
     ensures { λ r. ⌜ r ≡ setOf s id (ParamValue.Uint32 x) ⌝ }
 {
-    if lie(id, 0x6000, 0x6005) {
+    if is_from_to(id, 0x6000, 0x6005) {
         let i = (id - 0x6000) as usize;
         s.u32s[i] = x;
         return s;

@@ -14,28 +14,28 @@ use Rattle.settings.proofs.Rows.{lies-yes, lies-no, int16s}
 use Rattle.settings.proofs.set_int16.Statement.{statement}
 use Rattle.settings.proofs.set_int16.Tie as tie
 
-lie-requires : tie.Need-lie-requires
-lie-requires c κs = search needs
+is-from-to-requires : tie.Need-is-from-to-requires
+is-from-to-requires c κs = search needs
 
 sub-i : tie.Need-sub-i
-sub-i c = let h = lies-yes _ _ _ (sym (c .before .lie .ensures) ∙ c .if1 .taken) in omega arith
+sub-i c = let h = lies-yes _ _ _ (sym (c .before .is-from-to .ensures) ∙ c .if1 .taken) in omega arith
 
 cast-i : tie.Need-cast-i
 cast-i c = search needs
 
 clamp-int16-requires : tie.Need-clamp-int16-requires
-clamp-int16-requires c κs = let h = lies-yes _ _ _ (sym (c .before .lie .ensures) ∙ c .if1 .taken) in omega arith
+clamp-int16-requires c κs = let h = lies-yes _ _ _ (sym (c .before .is-from-to .ensures) ∙ c .if1 .taken) in omega arith
 
 mul-t9 : tie.Need-mul-t9
 mul-t9 c = search needs
 
 element-set-from-s : tie.Need-element-set-from-s
-element-set-from-s c = let h = lies-yes _ _ _ (sym (c .before .before .lie .ensures) ∙ c .before .if1 .taken) in omega arith
+element-set-from-s c = let h = lies-yes _ _ _ (sym (c .before .before .is-from-to .ensures) ∙ c .before .if1 .taken) in omega arith
 
 returns : tie.Need-returns
 unfolding withNumber same
 returns c =
-    let h = lies-yes _ _ _ (sym (c .before .before .lie .ensures) ∙ c .before .if1 .taken) in
+    let h = lies-yes _ _ _ (sym (c .before .before .is-from-to .ensures) ∙ c .before .if1 .taken) in
     let s = c .before .before .before .args .t1 in
     let id = c .before .before .before .args .id in
     let x = c .before .before .before .args .x in
@@ -45,13 +45,13 @@ returns c =
     rw (toZ-ofZ w16 r (record { sfits = c .clamp-int16 .ok }), set-at s (ParamValue.Int16 x) (at id Int16 e) refl, k) (placed s Int16 r (omega arith))
 
 returns-2 : tie.Need-returns-2
-returns-2 c = sym (set-off (c .before .before .args .t1) (c .before .before .args .id) (ParamValue.Int16 (c .before .before .args .x)) (λ h h′. lies-no _ _ _ (sym (c .before .lie .ensures) ∙ c .if1 .left) (omega arith) (omega arith)))
+returns-2 c = sym (set-off (c .before .before .args .t1) (c .before .before .args .id) (ParamValue.Int16 (c .before .before .args .x)) (λ h h′. lies-no _ _ _ (sym (c .before .is-from-to .ensures) ∙ c .if1 .left) (omega arith) (omega arith)))
 
 pub set-int16-spec : {M : Type 1} → statement M
 set-int16-spec =
     tie.close
     (tie.spec
-    lie-requires
+    is-from-to-requires
     sub-i
     cast-i
     clamp-int16-requires

@@ -15,22 +15,22 @@ use Rattle.settings.proofs.Ranges.{any-kept, int8-fits}
 use Rattle.settings.proofs.set_int8.Statement.{statement}
 use Rattle.settings.proofs.set_int8.Tie as tie
 
-lie-requires : tie.Need-lie-requires
-lie-requires c κs = search needs
+is-from-to-requires : tie.Need-is-from-to-requires
+is-from-to-requires c κs = search needs
 
 sub-i : tie.Need-sub-i
-sub-i c = let h = lies-yes _ _ _ (sym (c .before .lie .ensures) ∙ c .if1 .taken) in omega arith
+sub-i c = let h = lies-yes _ _ _ (sym (c .before .is-from-to .ensures) ∙ c .if1 .taken) in omega arith
 
 cast-i : tie.Need-cast-i
 cast-i c = search needs
 
 element-set-from-x : tie.Need-element-set-from-x
-element-set-from-x c = let h = lies-yes _ _ _ (sym (c .before .lie .ensures) ∙ c .if1 .taken) in omega arith
+element-set-from-x c = let h = lies-yes _ _ _ (sym (c .before .is-from-to .ensures) ∙ c .if1 .taken) in omega arith
 
 returns : tie.Need-returns
 unfolding withNumber same
 returns c =
-    let h = lies-yes _ _ _ (sym (c .before .lie .ensures) ∙ c .if1 .taken) in
+    let h = lies-yes _ _ _ (sym (c .before .is-from-to .ensures) ∙ c .if1 .taken) in
     let s = c .before .before .args .t1 in
     let id = c .before .before .args .id in
     let x = c .before .before .args .x in
@@ -39,7 +39,7 @@ returns c =
     rw (toZ-ofZ w8 x (c .before .before .fits .x), set-at s (ParamValue.Int8 x) (at id Int8 e) refl, k) (placed s Int8 x (omega arith))
 
 returns-2 : tie.Need-returns-2
-returns-2 c = sym (set-off (c .before .before .args .t1) (c .before .before .args .id) (ParamValue.Int8 (c .before .before .args .x)) (λ h h′. lies-no _ _ _ (sym (c .before .lie .ensures) ∙ c .if1 .left) (omega arith) (omega arith)))
+returns-2 c = sym (set-off (c .before .before .args .t1) (c .before .before .args .id) (ParamValue.Int8 (c .before .before .args .x)) (λ h h′. lies-no _ _ _ (sym (c .before .is-from-to .ensures) ∙ c .if1 .left) (omega arith) (omega arith)))
 
 pub set-int8-spec : {M : Type 1} → statement M
-set-int8-spec = tie.close (tie.spec lie-requires sub-i cast-i element-set-from-x returns returns-2)
+set-int8-spec = tie.close (tie.spec is-from-to-requires sub-i cast-i element-set-from-x returns returns-2)

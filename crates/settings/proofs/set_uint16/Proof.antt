@@ -13,28 +13,28 @@ use Rattle.settings.proofs.Rows.{lies-yes, lies-no, uint16s}
 use Rattle.settings.proofs.set_uint16.Statement.{statement}
 use Rattle.settings.proofs.set_uint16.Tie as tie
 
-lie-requires : tie.Need-lie-requires
-lie-requires c κs = search needs
+is-from-to-requires : tie.Need-is-from-to-requires
+is-from-to-requires c κs = search needs
 
 sub-i : tie.Need-sub-i
-sub-i c = let h = lies-yes _ _ _ (sym (c .before .lie .ensures) ∙ c .if1 .taken) in omega arith
+sub-i c = let h = lies-yes _ _ _ (sym (c .before .is-from-to .ensures) ∙ c .if1 .taken) in omega arith
 
 cast-i : tie.Need-cast-i
 cast-i c = search needs
 
 clamp-uint16-requires : tie.Need-clamp-uint16-requires
-clamp-uint16-requires c κs = let h = lies-yes _ _ _ (sym (c .before .lie .ensures) ∙ c .if1 .taken) in omega arith
+clamp-uint16-requires c κs = let h = lies-yes _ _ _ (sym (c .before .is-from-to .ensures) ∙ c .if1 .taken) in omega arith
 
 mul-s : tie.Need-mul-s
 mul-s c = search needs
 
 element-write-s : tie.Need-element-write-s
-element-write-s c = let h = lies-yes _ _ _ (sym (c .before .before .lie .ensures) ∙ c .before .if1 .taken) in omega arith
+element-write-s c = let h = lies-yes _ _ _ (sym (c .before .before .is-from-to .ensures) ∙ c .before .if1 .taken) in omega arith
 
 returns : tie.Need-returns
 unfolding withNumber same
 returns c =
-    let h = lies-yes _ _ _ (sym (c .before .before .lie .ensures) ∙ c .before .if1 .taken) in
+    let h = lies-yes _ _ _ (sym (c .before .before .is-from-to .ensures) ∙ c .before .if1 .taken) in
     let s = c .before .before .before .args .t1 in
     let id = c .before .before .before .args .id in
     let x = c .before .before .before .args .x in
@@ -44,13 +44,13 @@ returns c =
     rw (set-at s (ParamValue.Uint16 x) (at id Uint16 e) refl, k) (placed s Uint16 (pos r) (omega arith))
 
 returns-2 : tie.Need-returns-2
-returns-2 c = sym (set-off (c .before .before .args .t1) (c .before .before .args .id) (ParamValue.Uint16 (c .before .before .args .x)) (λ h h′. lies-no _ _ _ (sym (c .before .lie .ensures) ∙ c .if1 .left) (omega arith) (omega arith)))
+returns-2 c = sym (set-off (c .before .before .args .t1) (c .before .before .args .id) (ParamValue.Uint16 (c .before .before .args .x)) (λ h h′. lies-no _ _ _ (sym (c .before .is-from-to .ensures) ∙ c .if1 .left) (omega arith) (omega arith)))
 
 pub set-uint16-spec : {M : Type 1} → statement M
 set-uint16-spec =
     tie.close
     (tie.spec
-    lie-requires
+    is-from-to-requires
     sub-i
     cast-i
     clamp-uint16-requires

@@ -14,11 +14,11 @@ use Rattle.settings.proofs.Ranges.{any-kept, uint32-fits}
 use Rattle.settings.proofs.set_uint32.Statement.{statement}
 use Rattle.settings.proofs.set_uint32.Tie as tie
 
-lie-requires : tie.Need-lie-requires
-lie-requires c κs = search needs
+is-from-to-requires : tie.Need-is-from-to-requires
+is-from-to-requires c κs = search needs
 
 sub-i : tie.Need-sub-i
-sub-i c = let h = lies-yes _ _ _ (sym (c .before .lie .ensures) ∙ c .if1 .taken) in omega arith
+sub-i c = let h = lies-yes _ _ _ (sym (c .before .is-from-to .ensures) ∙ c .if1 .taken) in omega arith
 
 cast-i : tie.Need-cast-i
 cast-i c = search needs
@@ -27,12 +27,12 @@ mul-s : tie.Need-mul-s
 mul-s c = search needs
 
 element-write-s : tie.Need-element-write-s
-element-write-s c = let h = lies-yes _ _ _ (sym (c .before .lie .ensures) ∙ c .if1 .taken) in omega arith
+element-write-s c = let h = lies-yes _ _ _ (sym (c .before .is-from-to .ensures) ∙ c .if1 .taken) in omega arith
 
 returns : tie.Need-returns
 unfolding withNumber same
 returns c =
-    let h = lies-yes _ _ _ (sym (c .before .lie .ensures) ∙ c .if1 .taken) in
+    let h = lies-yes _ _ _ (sym (c .before .is-from-to .ensures) ∙ c .if1 .taken) in
     let s = c .before .before .args .t1 in
     let id = c .before .before .args .id in
     let x = c .before .before .args .x in
@@ -41,8 +41,8 @@ returns c =
     rw (set-at s (ParamValue.Uint32 x) (at id Uint32 e) refl, k) (placed s Uint32 (pos x) (omega arith))
 
 returns-2 : tie.Need-returns-2
-returns-2 c = sym (set-off (c .before .before .args .t1) (c .before .before .args .id) (ParamValue.Uint32 (c .before .before .args .x)) (λ h h′. lies-no _ _ _ (sym (c .before .lie .ensures) ∙ c .if1 .left) (omega arith) (omega arith)))
+returns-2 c = sym (set-off (c .before .before .args .t1) (c .before .before .args .id) (ParamValue.Uint32 (c .before .before .args .x)) (λ h h′. lies-no _ _ _ (sym (c .before .is-from-to .ensures) ∙ c .if1 .left) (omega arith) (omega arith)))
 
 pub set-uint32-spec : {M : Type 1} → statement M
 set-uint32-spec =
-    tie.close (tie.spec lie-requires sub-i cast-i mul-s element-write-s returns returns-2)
+    tie.close (tie.spec is-from-to-requires sub-i cast-i mul-s element-write-s returns returns-2)

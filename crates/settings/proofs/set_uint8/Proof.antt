@@ -14,22 +14,22 @@ use Rattle.settings.proofs.Ranges.{any-kept, uint8-fits}
 use Rattle.settings.proofs.set_uint8.Statement.{statement}
 use Rattle.settings.proofs.set_uint8.Tie as tie
 
-lie-requires : tie.Need-lie-requires
-lie-requires c κs = search needs
+is-from-to-requires : tie.Need-is-from-to-requires
+is-from-to-requires c κs = search needs
 
 sub-i : tie.Need-sub-i
-sub-i c = let h = lies-yes _ _ _ (sym (c .before .lie .ensures) ∙ c .if1 .taken) in omega arith
+sub-i c = let h = lies-yes _ _ _ (sym (c .before .is-from-to .ensures) ∙ c .if1 .taken) in omega arith
 
 cast-i : tie.Need-cast-i
 cast-i c = search needs
 
 element-write-s : tie.Need-element-write-s
-element-write-s c = let h = lies-yes _ _ _ (sym (c .before .lie .ensures) ∙ c .if1 .taken) in omega arith
+element-write-s c = let h = lies-yes _ _ _ (sym (c .before .is-from-to .ensures) ∙ c .if1 .taken) in omega arith
 
 returns : tie.Need-returns
 unfolding withNumber same
 returns c =
-    let h = lies-yes _ _ _ (sym (c .before .lie .ensures) ∙ c .if1 .taken) in
+    let h = lies-yes _ _ _ (sym (c .before .is-from-to .ensures) ∙ c .if1 .taken) in
     let s = c .before .before .args .t1 in
     let id = c .before .before .args .id in
     let x = c .before .before .args .x in
@@ -38,7 +38,7 @@ returns c =
     rw (set-at s (ParamValue.Uint8 x) (at id Uint8 e) refl, k) (placed s Uint8 (pos x) (omega arith))
 
 returns-2 : tie.Need-returns-2
-returns-2 c = sym (set-off (c .before .before .args .t1) (c .before .before .args .id) (ParamValue.Uint8 (c .before .before .args .x)) (λ h h′. lies-no _ _ _ (sym (c .before .lie .ensures) ∙ c .if1 .left) (omega arith) (omega arith)))
+returns-2 c = sym (set-off (c .before .before .args .t1) (c .before .before .args .id) (ParamValue.Uint8 (c .before .before .args .x)) (λ h h′. lies-no _ _ _ (sym (c .before .is-from-to .ensures) ∙ c .if1 .left) (omega arith) (omega arith)))
 
 pub set-uint8-spec : {M : Type 1} → statement M
-set-uint8-spec = tie.close (tie.spec lie-requires sub-i cast-i element-write-s returns returns-2)
+set-uint8-spec = tie.close (tie.spec is-from-to-requires sub-i cast-i element-write-s returns returns-2)
