@@ -1,0 +1,176 @@
+//! A seeded generator of replay scripts and session sheets.
+
+mod author;
+mod channel_scenes;
+mod commands;
+mod damage;
+mod data_scenes;
+mod mode_scenes;
+mod reset_scenes;
+mod rng;
+mod sheets;
+mod starts;
+mod stretches;
+mod text_scenes;
+
+use author::Author;
+use second::mode::Mode;
+use std::io::{self, Write};
+use std::path::Path;
+use std::process::ExitCode;
+
+const USAGE: &str = "usage: second-scripts replay SEED LINES   a mixed script of about LINES lines
+       second-scripts KIND SEED           one thing gone through: codes, parameters, text,
+                                          board, watchdog, damage, lingers, period or counts
+       second-scripts sheet SEED          one session sheet
+       second-scripts sheets SEED COUNT DIR";
+
+fn main() -> ExitCode {
+    let arguments: Vec<String> = std::env::args().skip(1).collect();
+    match run(&arguments.iter().map(String::as_str).collect::<Vec<_>>()) {
+        Some(Ok(())) => ExitCode::SUCCESS,
+        Some(Err(error)) if error.kind() == io::ErrorKind::BrokenPipe => ExitCode::SUCCESS,
+        Some(Err(error)) => {
+            eprintln!("second-scripts: {error}");
+            ExitCode::FAILURE
+        }
+        None => {
+            eprintln!("{USAGE}");
+            ExitCode::from(2)
+        }
+    }
+}
+
+fn run(arguments: &[&str]) -> Option<io::Result<()>> {
+    match arguments {
+        ["replay", seed, lines] => Some(mixed(seed.parse().ok()?, lines.parse().ok()?)),
+        ["sheet", seed] => Some(io::stdout().write_all(&sheets::sheet(seed.parse().ok()?))),
+        ["sheets", seed, count, directory] => {
+            Some(write_sheets(seed.parse().ok()?, count.parse().ok()?, Path::new(directory)))
+        }
+        [kind, seed] => {
+            let mut author = Author::new(seed.parse().ok()?);
+            go_through(kind, &mut author)?;
+            Some(author.finish())
+        }
+        _ => None,
+    }
+}
+
+fn write_sheets(seed: u64, count: u64, directory: &Path) -> io::Result<()> {
+    for seed in seed..seed + count {
+        std::fs::write(directory.join(format!("{seed}.sheet")), sheets::sheet(seed))?;
+    }
+    Ok(())
+}
+
+/// Scenes drawn by lot until the script is long enough.
+fn mixed(seed: u64, lines: usize) -> io::Result<()> {
+    let mut author = Author::new(seed);
+    if author.rng.once_in(4) {
+        author.show();
+    }
+    starts::start(&mut author);
+    author.reach(Mode::Nominal);
+    while author.lines() < lines {
+        scene(&mut author);
+        // A damaged or refused start leaves the board alone, a sound one does not.
+        if author.rng.once_in(12) {
+            author.show();
+        }
+    }
+    author.show();
+    if author.rng.once_in(4) {
+        author.break_off("S");
+    }
+    author.finish()
+}
+
+fn scene(author: &mut Author) {
+    match author.rng.below(41) {
+        0..=7 => commands::random(author),
+        8..=11 => channel_scenes::channels(author),
+        12..=14 => channel_scenes::overcurrents(author),
+        15..=17 => data_scenes::words(author),
+        18..=19 => data_scenes::reads(author),
+        20..=25 => text_scenes::random(author),
+        26..=28 => mode_scenes::thresholds(author),
+        29 => mode_scenes::switches(author),
+        30..=31 => commands::saves(author),
+        32..=33 => reset_scenes::watchdog(author),
+        34 => reset_scenes::reset(author),
+        35..=37 => damage::random(author),
+        38 => mode_scenes::out_of_startup(author),
+        39 => commands::status(author),
+        _ => starts::start(author),
+    }
+}
+
+fn go_through(kind: &str, author: &mut Author) -> Option<()> {
+    match kind {
+        "codes" => codes(author),
+        "parameters" => {
+            author.say("B 03 0000FFFF 00000003");
+            commands::all_parameters(author);
+        }
+        "text" => {
+            author.say("B 02 000000FF 00000003");
+            author.reach(Mode::Nominal);
+            text_scenes::all(author);
+        }
+        "board" => board(author),
+        "watchdog" => {
+            author.say("B 07 0FF000FF 00300003");
+            reset_scenes::all_bites(author);
+            author.show();
+        }
+        "damage" => {
+            damage::all(author);
+            author.break_off("T 0000 00000000 -");
+        }
+        "lingers" => {
+            author.say("B 05 0F0FF0F0 01011010");
+            stretches::lingers(author);
+        }
+        "period" => {
+            author.say("B 06 FFFF0FFF 00F00F00");
+            stretches::period(author);
+        }
+        "counts" => stretches::counts(author),
+        _ => return None,
+    }
+    Some(())
+}
+
+fn codes(author: &mut Author) {
+    author.say("B 01 00FFFF0F 000F0003");
+    for mode in [Mode::Startup, Mode::Nominal, Mode::Safety] {
+        author.reach(mode);
+        commands::all_in(author, mode, true);
+    }
+    author.show();
+}
+
+fn board(author: &mut Author) {
+    starts::edge_starts(author);
+    starts::start(author);
+    mode_scenes::out_of_startup(author);
+    mode_scenes::switches(author);
+    author.say("B 04 00FF00FF 00030003");
+    commands::all_saves(author);
+    commands::zero_checksum(author);
+    data_scenes::all_words(author);
+    data_scenes::all_reads(author);
+    for mode in [Mode::Startup, Mode::Nominal, Mode::Safety] {
+        author.reach(mode);
+        mode_scenes::all_rails(author, mode);
+    }
+    for _ in 0..12 {
+        channel_scenes::channels(author);
+    }
+    reset_scenes::reset(author);
+    author.reach(Mode::Nominal);
+    commands::status(author);
+    channel_scenes::singles(author);
+    author.show();
+}

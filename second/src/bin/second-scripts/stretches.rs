@@ -1,0 +1,150 @@
+//! The long stretches: lingers, a whole emergency period, counts to their top.
+
+use crate::author::Author;
+use crate::commands;
+use crate::data_scenes::lend;
+use crate::mode_scenes::edge_rails;
+use second::board::EMERGENCY_HIGH;
+use second::mode::Mode;
+
+/// Waits in safety or emergency up to an age, with harmless things going on.
+fn linger_until(author: &mut Author, age: u64) {
+    let mode = author.mode();
+    while author.board().mode().age() < age {
+        match author.rng.below(30) {
+            0 => commands::random_harmless(author),
+            1 => overcurrent_only(author),
+            2 => author.give(0x06, &[]),
+            3 if author.rng.once_in(20) => author.show(),
+            4 if author.rng.once_in(10) => {
+                lend(author, 122);
+                author.give(0x50, &[]);
+            }
+            _ => author.idle(),
+        }
+        assert_eq!(author.mode(), mode, "the stretch must hold its mode");
+    }
+}
+
+fn overcurrent_only(author: &mut Author) {
+    let (rail, tripped) = (author.steady(), author.rng.channels());
+    author.tick(rail, tripped, None);
+}
+
+/// One stay in safety up to the tick before the linger is over.
+fn linger(author: &mut Author) {
+    author.reach(Mode::Safety);
+    author.calm_watchdog();
+    linger_until(author, 5_999);
+}
+
+fn feed_at(author: &mut Author, rail: i64) {
+    let command = author.command(0x06, &[]);
+    author.tick(rail as i16, 0, Some(&command));
+}
+
+/// All ways out of safety by the table, each missed by one tick and by one
+/// millivolt before it is taken.
+pub fn lingers(author: &mut Author) {
+    let high = i64::from(author.board().settings().safety_high());
+    linger(author);
+    feed_at(author, high + 1);
+    for rail in [high, 12_000, 12_001, high - 1, high + 1] {
+        feed_at(author, rail);
+    }
+    linger(author);
+    feed_at(author, 32_767);
+    feed_at(author, 32_767);
+    linger(author);
+    feed_at(author, 11_999);
+    feed_at(author, 11_999);
+    author.show();
+    all_rails_in_emergency(author);
+    linger(author);
+    feed_at(author, -32_768);
+    feed_at(author, -32_768);
+    author.give(0x50, &[]);
+    author.tick(32_767, u32::MAX, None);
+    author.show();
+    commands::status(author);
+    odd_lingers(author);
+}
+
+fn odd_lingers(author: &mut Author) {
+    author.reach(Mode::Safety);
+    author.set(0x4043, 5_000);
+    author.calm_watchdog();
+    while author.board().mode().age() < 5_999 {
+        author.tick(12_000, 0, None);
+    }
+    feed_at(author, 5_001);
+    feed_at(author, 5_001);
+    author.reach(Mode::Safety);
+    author.set(0x4043, 40_000);
+    author.calm_watchdog();
+    linger_until(author, 6_010);
+    feed_at(author, 32_767);
+    feed_at(author, 12_000);
+    feed_at(author, 11_999);
+    author.give(0xAA, &[0xA6]);
+    author.show();
+}
+
+/// Every edge rail in emergency that does not end it, then the one that does.
+fn all_rails_in_emergency(author: &mut Author) {
+    for rail in edge_rails(author).into_iter().filter(|rail| *rail <= i64::from(EMERGENCY_HIGH)) {
+        author.tick(rail as i16, u32::MAX, None);
+    }
+    author.tick(12_401, 0, None);
+    author.idle();
+    author.show();
+    commands::status(author);
+}
+
+/// A whole emergency period, with every command tried in it.
+pub fn period(author: &mut Author) {
+    author.reach(Mode::Nominal);
+    lend(author, 122);
+    author.give(0x16, &[0]);
+    overcurrent_only(author);
+    author.reach(Mode::Emergency);
+    author.give(0x50, &[]);
+    author.give(0x50, &[]);
+    lend(author, 122);
+    author.give(0x50, &[]);
+    commands::all_in(author, Mode::Emergency, false);
+    let wrong_key = author.command(0xAA, &[0xA5]);
+    author.send(&wrong_key);
+    author.send(&wrong_key[..4]);
+    author.send(&[0, 7, 0xAA, 1, 0xA6]);
+    author.give(0x90, &[0xA7]);
+    linger_until(author, 59_998);
+    author.tick(12_400, u32::MAX, None);
+    let tripped = author.rng.channels();
+    author.tick(12_400, tripped, None);
+    author.show();
+    author.idle();
+    // In emergency once more, with the safety thresholds within reach.
+    author.reach(Mode::Emergency);
+    author.set(0x4042, 3_000);
+    author.set(0x4043, 5_000);
+    for rail in [2_999, 3_000, 3_001, 4_999, 5_000, 5_001] {
+        author.tick(rail, 0, None);
+    }
+    author.give(0xAA, &[0xA6]);
+    author.show();
+}
+
+/// Overcurrent counts to their top: each tick trips the channels that the
+/// command of the same tick turns on again.
+pub fn counts(author: &mut Author) {
+    author.say("B 01 FFFFFFFF 0F0F0F0F");
+    author.reach(Mode::Nominal);
+    author.give(0x10, &[0xFF; 4]);
+    let on = author.command(0x10, &[0xFF; 4]);
+    for _ in 0..65_537 {
+        author.tick(32_767, 0xFFFF_FFFE, Some(&on));
+    }
+    author.give(0x42, &[]);
+    author.show();
+}

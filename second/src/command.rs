@@ -1,0 +1,328 @@
+//! Command transfers: the checks in their order, the effects, the replies.
+
+use crate::board::{Answer, Board, Cause, Store, IVID, STID, WORDS};
+use crate::board::{EMERGENCY_HIGH, EMERGENCY_LOW, EMERGENCY_PERIOD_SECONDS, LINGER_SECONDS};
+use crate::channels::CHANNELS;
+use crate::mode::Mode;
+use crate::reply::{HEAD, LONGEST};
+use crate::settings::{self, Kind};
+use std::ops::Range;
+
+const HEADER: usize = 4;
+const RESET_KEY: u8 = 0xA6;
+const CONFIGURATION_KEY: u8 = 0xA7;
+const NEW: u8 = 0x80;
+
+/// Where the id and the value stand in the replies of 0x82, 0x84 and 0x86.
+const ID_AT: usize = 6;
+const VALUE_AT: usize = 8;
+
+const COUNTS_AT: usize = 14;
+const WORDS_AT: usize = 6;
+const HOUSEKEEPING_CHANNELS_AT: usize = 16;
+const LATER_WORDS_AT: usize = 24;
+/// The words that stand before the channel sets in the housekeeping reply.
+const EARLY_WORDS: usize = 5;
+
+/// How an accepted command ends.
+enum Done {
+    /// A reply of this many bytes; those past its head are in place.
+    Reply(usize),
+    /// The same, but with nothing new to tell.
+    Stale(usize),
+    /// The board was reset and no reply waits.
+    Reset,
+}
+
+const PLAIN: Result<Done, Answer> = Ok(Done::Reply(HEAD));
+
+impl Board {
+    /// Takes one transfer and answers it.
+    pub(crate) fn obey(&mut self, command: &[u8], rail: i16) -> Answer {
+        if command.len() < HEADER {
+            return Answer::TooShort;
+        }
+        if self.mode.mode() == Mode::Startup {
+            return Answer::InStartup;
+        }
+        let code = command[2];
+        if command[0] != STID || command[1] != IVID || command[3] != self.bid {
+            return self.refuse(code, Answer::WrongBoard);
+        }
+        self.timer = 0;
+        match self.carry_out(code, command, rail) {
+            Ok(Done::Reply(length)) => self.reply_with(code, NEW, length),
+            Ok(Done::Stale(length)) => self.reply_with(code, 0, length),
+            Ok(Done::Reset) => {}
+            Err(answer) => return self.refuse(code, answer),
+        }
+        Answer::Accepted
+    }
+
+    fn refuse(&mut self, code: u8, answer: Answer) -> Answer {
+        self.reply_with(code, status(answer), HEAD);
+        answer
+    }
+
+    fn reply_with(&mut self, code: u8, stat: u8, length: usize) {
+        self.reply.finish([STID, IVID, code | 1, self.bid, stat], length);
+        self.replied = true;
+    }
+
+    fn carry_out(&mut self, code: u8, command: &[u8], rail: i16) -> Result<Done, Answer> {
+        need(command, needed(code).ok_or(Answer::UnknownCode)?)?;
+        match code {
+            0xAA => self.system_reset(command[4]),
+            0x04 => self.cancel(),
+            0x10 | 0x12 | 0x14 => self.group(code, command),
+            0x16 | 0x18 => self.single(code, command[4]),
+            0x30 => self.switch_to_nominal(rail),
+            0x32 => self.switch_to_safety(),
+            0x42 => self.overcurrent_state(),
+            0x50 => self.housekeeping(),
+            0x82 => self.get_parameter(id_of(command)),
+            0x84 => self.set_parameter(id_of(command), command),
+            0x86 => self.reset_parameter(id_of(command)),
+            0x90 | 0x92 => self.defaults_or_load(code, command[4]),
+            0x94 => self.save(command),
+            _ => PLAIN,
+        }
+    }
+
+    fn system_reset(&mut self, key: u8) -> Result<Done, Answer> {
+        if key != RESET_KEY {
+            return Err(Answer::Invalid);
+        }
+        self.resets.command = self.resets.command.saturating_add(1);
+        self.reset(Cause::Commanded);
+        Ok(Done::Reset)
+    }
+
+    fn cancel(&mut self) -> Result<Done, Answer> {
+        self.channels.drop_commandable();
+        PLAIN
+    }
+
+    fn only_in_nominal(&self) -> Result<(), Answer> {
+        if self.mode.mode() == Mode::Nominal {
+            Ok(())
+        } else {
+            Err(Answer::NotNow)
+        }
+    }
+
+    fn group(&mut self, code: u8, command: &[u8]) -> Result<Done, Answer> {
+        self.only_in_nominal()?;
+        let (mask, reach) = group_mask(command);
+        match code {
+            0x10 => self.channels.group_on(mask),
+            0x12 => self.channels.group_off(mask),
+            _ => self.channels.group_state(mask, reach),
+        }
+        PLAIN
+    }
+
+    fn single(&mut self, code: u8, index: u8) -> Result<Done, Answer> {
+        self.only_in_nominal()?;
+        if code == 0x16 {
+            if !self.channels.is_fitted(index) {
+                return Err(Answer::Invalid);
+            }
+            self.channels.channel_on(index);
+        } else {
+            if !self.channels.is_commandable(index) {
+                return Err(Answer::Invalid);
+            }
+            self.channels.channel_off(index);
+        }
+        PLAIN
+    }
+
+    fn switch_to_nominal(&mut self, rail: i16) -> Result<Done, Answer> {
+        match self.mode.mode() {
+            Mode::Nominal => PLAIN,
+            Mode::Safety if i32::from(rail) >= i32::from(self.settings.safety_low()) => {
+                self.mode.enter(Mode::Nominal);
+                PLAIN
+            }
+            _ => Err(Answer::NotNow),
+        }
+    }
+
+    fn switch_to_safety(&mut self) -> Result<Done, Answer> {
+        match self.mode.mode() {
+            Mode::Nominal => {
+                self.mode.enter(Mode::Safety);
+                self.channels.drop_commandable();
+                PLAIN
+            }
+            Mode::Safety => PLAIN,
+            _ => Err(Answer::NotNow),
+        }
+    }
+
+    fn overcurrent_state(&mut self) -> Result<Done, Answer> {
+        self.put_channel_sets(6);
+        for (channel, count) in self.channels.counts().iter().enumerate() {
+            self.reply.put_word(COUNTS_AT + 2 * channel, *count);
+        }
+        Ok(Done::Reply(COUNTS_AT + 2 * CHANNELS))
+    }
+
+    fn put_channel_sets(&mut self, at: usize) {
+        self.reply.put_channels(at, self.channels.on());
+        self.reply.put_channels(at + 4, self.channels.latched());
+    }
+
+    fn housekeeping(&mut self) -> Result<Done, Answer> {
+        self.put_words(WORDS_AT, 0..EARLY_WORDS);
+        self.put_channel_sets(HOUSEKEEPING_CHANNELS_AT);
+        self.put_words(LATER_WORDS_AT, EARLY_WORDS..WORDS);
+        let new = self.words_are_new;
+        self.words_are_new = false;
+        Ok(if new { Done::Reply(LONGEST) } else { Done::Stale(LONGEST) })
+    }
+
+    fn put_words(&mut self, at: usize, which: Range<usize>) {
+        for (i, word) in self.words[which].iter().enumerate() {
+            self.reply.put_word(at + 2 * i, *word);
+        }
+    }
+
+    fn get_parameter(&mut self, id: u16) -> Result<Done, Answer> {
+        if let Some(place) = settings::find(id) {
+            return self.parameter_reply(id, &place);
+        }
+        let kind = settings::read_only_kind(id).ok_or(Answer::Invalid)?;
+        let value = self.read_only_value(id).to_le_bytes();
+        Ok(self.value_reply(id, kind, value))
+    }
+
+    fn set_parameter(&mut self, id: u16, command: &[u8]) -> Result<Done, Answer> {
+        let place = settings::find(id).ok_or(Answer::Invalid)?;
+        let value = &command[ID_END..];
+        need(value, place.row.kind.size())?;
+        self.settings.set(&place, value);
+        self.parameter_reply(id, &place)
+    }
+
+    fn reset_parameter(&mut self, id: u16) -> Result<Done, Answer> {
+        let place = settings::find(id).ok_or(Answer::Invalid)?;
+        self.settings.reset(&place);
+        self.parameter_reply(id, &place)
+    }
+
+    /// The value as it stands after the command.
+    fn parameter_reply(&mut self, id: u16, place: &settings::Place) -> Result<Done, Answer> {
+        let mut value = [0; 4];
+        let size = place.row.kind.size();
+        value[..size].copy_from_slice(self.settings.value(place));
+        Ok(self.value_reply(id, place.row.kind, value))
+    }
+
+    fn value_reply(&mut self, id: u16, kind: Kind, value: [u8; 4]) -> Done {
+        self.reply.put_word(ID_AT, id);
+        self.reply.put(VALUE_AT, &value[..kind.size()]);
+        Done::Reply(VALUE_AT + kind.size())
+    }
+
+    /// Read-only values that no rule names read 0.
+    fn read_only_value(&self, id: u16) -> u32 {
+        match id {
+            0x2800 => u32::from(STID),
+            0x2801 => u32::from(IVID),
+            0x2802 => u32::from(self.bid),
+            0x4801 => u32::from(self.shown.save_count),
+            0x4802 => u32::from(self.shown.checksum),
+            0x4803 => self.cause as u32,
+            0x4804 => u32::from(self.resets.power),
+            0x4805 => u32::from(self.resets.watchdog),
+            0x4806 => u32::from(self.resets.command),
+            0x480A => u32::from(EMERGENCY_LOW),
+            0x480B => u32::from(EMERGENCY_HIGH),
+            0x480C => u32::from(EMERGENCY_PERIOD_SECONDS),
+            0x480D => u32::from(self.settings.safety_low()),
+            0x480E => u32::from(self.settings.safety_high()),
+            0x480F => u32::from(LINGER_SECONDS),
+            0x4810 => u32::from(self.settings.watchdog_timeout()),
+            0x6809 => self.channels.forced(),
+            _ => 0,
+        }
+    }
+
+    fn defaults_or_load(&mut self, code: u8, key: u8) -> Result<Done, Answer> {
+        if key != CONFIGURATION_KEY {
+            return Err(Answer::Invalid);
+        }
+        if code == 0x90 {
+            self.take_defaults();
+        } else {
+            self.load();
+        }
+        PLAIN
+    }
+
+    fn save(&mut self, command: &[u8]) -> Result<Done, Answer> {
+        let given = u16::from_le_bytes([command[5], command[6]]);
+        let checksum = self.settings.checksum();
+        if command[4] != CONFIGURATION_KEY || (given != 0 && given != checksum) {
+            return Err(Answer::Invalid);
+        }
+        let stored = self.store.map_or(0, |store| store.save_count);
+        let save_count = stored.saturating_add(1);
+        self.store = Some(Store { save_count, settings: self.settings });
+        self.shown.save_count = save_count;
+        self.shown.checksum = checksum;
+        PLAIN
+    }
+}
+
+/// Where the id ends and the value of 0x84 begins.
+const ID_END: usize = 6;
+
+/// The bytes a command needs, none for a code that is not in the base. For
+/// 0x84 it is the id alone: how long the value is hangs on the id.
+fn needed(code: u8) -> Option<usize> {
+    match code {
+        0x02 | 0x04 | 0x06 | 0x30 | 0x32 | 0x42 | 0x50 => Some(4),
+        0xAA | 0x16 | 0x18 | 0x90 | 0x92 => Some(5),
+        0x10 | 0x12 | 0x14 | 0x82 | 0x84 | 0x86 => Some(6),
+        0x94 => Some(7),
+        _ => None,
+    }
+}
+
+fn need(bytes: &[u8], length: usize) -> Result<(), Answer> {
+    if bytes.len() < length {
+        Err(Answer::Missing)
+    } else {
+        Ok(())
+    }
+}
+
+fn id_of(command: &[u8]) -> u16 {
+    u16::from_le_bytes([command[4], command[5]])
+}
+
+/// The mask, and the channels it speaks of: without both bytes of the extended
+/// part, channels 16 to 31 are left alone.
+fn group_mask(command: &[u8]) -> (u32, u32) {
+    let low = u32::from(u16::from_le_bytes([command[4], command[5]]));
+    if command.len() < 8 {
+        return (low, 0x0000_FFFF);
+    }
+    let high = u32::from(u16::from_le_bytes([command[6], command[7]]));
+    (low | high << 16, 0xFFFF_FFFF)
+}
+
+/// Table 3-11's code of each refusal's meaning.
+fn status(answer: Answer) -> u8 {
+    match answer {
+        Answer::UnknownCode => 0x02,
+        Answer::Missing => 0x03,
+        Answer::Invalid => 0x04,
+        Answer::NotNow => 0x05,
+        Answer::WrongBoard => 0x06,
+        Answer::Accepted | Answer::TooShort | Answer::InStartup => 0x00,
+    }
+}

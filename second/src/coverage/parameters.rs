@@ -1,0 +1,157 @@
+//! Parameters by id, values by range, stored settings and profiles.
+
+use super::script::Ticked;
+use super::Coverage;
+use crate::settings::{self, Kind, Row, READ_ONLY, ROWS, SIZE};
+
+/// Ids beside the known ones, and some of types that no parameter has.
+pub const STRANGERS: [u16; 24] = [
+    0x0000, 0x0FFF, 0x1015, 0x17FF, 0x1801, 0x1FFF, 0x2003, 0x27FF, 0x2804, 0x2FFF, 0x302A, 0x37FF,
+    0x3802, 0x3FFF, 0x4044, 0x47FF, 0x4814, 0x5000, 0x5FFF, 0x6006, 0x67FF, 0x6815, 0x9000, 0xFFFF,
+];
+
+const PROFILES: [&str; 8] = [
+    "bid 0",
+    "bid 9",
+    "bid 255",
+    "nothing fitted",
+    "forced not fitted",
+    "bid 1",
+    "bid 8",
+    "all fitted",
+];
+
+/// The bytes a command needs; for 0x84 those of the widest value.
+pub fn needed(code: u8) -> usize {
+    match code {
+        0xAA | 0x16 | 0x18 | 0x90 | 0x92 => 5,
+        0x10 | 0x12 | 0x14 | 0x82 | 0x86 => 6,
+        0x94 => 7,
+        0x84 => 10,
+        _ => 4,
+    }
+}
+
+fn verb(code: u8) -> Option<&'static str> {
+    match code {
+        0x82 => Some("get"),
+        0x84 => Some("set"),
+        0x86 => Some("reset"),
+        _ => None,
+    }
+}
+
+/// The places a value can have in its range; those the type cannot hold fall away.
+fn value_classes(row: &Row) -> Vec<(&'static str, i64)> {
+    let all =
+        [("below", row.low - 1), ("low", row.low), ("high", row.high), ("above", row.high + 1)];
+    all.into_iter()
+        .filter(|(_, value)| row.kind.lowest() <= *value && *value <= row.kind.highest())
+        .collect()
+}
+
+pub fn universe(coverage: &mut Coverage) {
+    for row in &ROWS {
+        for id in row.first..=row.last {
+            for verb in ["get", "set", "reset"] {
+                coverage.add(format!("parameter {verb} {id:04X} 0"));
+            }
+        }
+        for (class, _) in value_classes(row) {
+            coverage.add(format!("value {:04X} {class}", row.first));
+            coverage.add(format!("stored {:04X} {class}", row.first));
+        }
+    }
+    for row in &READ_ONLY {
+        for id in row.first..=row.last {
+            coverage.add(format!("parameter get {id:04X} 0"));
+            coverage.add(format!("parameter set {id:04X} 7"));
+            coverage.add(format!("parameter reset {id:04X} 7"));
+        }
+    }
+    for id in STRANGERS {
+        for verb in ["get", "set", "reset"] {
+            coverage.add(format!("parameter {verb} {id:04X} 7"));
+        }
+    }
+    for kind in [Kind::Int8, Kind::Uint8, Kind::Int16, Kind::Uint16, Kind::Uint32] {
+        for length in 0..=kind.size() + 3 {
+            coverage.add(format!("set {kind:?} with {length} value bytes"));
+        }
+    }
+    for profile in PROFILES {
+        coverage.add(format!("profile {profile}"));
+    }
+    for count in ["0000", "FFFE", "FFFF", "other"] {
+        coverage.add(format!("profile save count {count}"));
+    }
+}
+
+impl Coverage {
+    pub fn see_parameter(&mut self, tick: &Ticked, command: &[u8]) {
+        let Some(verb) = tick.code().and_then(verb) else { return };
+        if command.len() < 6 || matches!(tick.answer, '1' | '2' | '3') {
+            return;
+        }
+        let id = u16::from_le_bytes([command[4], command[5]]);
+        if tick.answer != '5' {
+            self.hit_if_any(format!("parameter {verb} {id:04X} {}", tick.answer));
+        }
+        if let (0x84, Some(place)) = (command[2], settings::find(id)) {
+            self.see_value(&place.row, &command[6..], tick.answer);
+        }
+    }
+
+    fn see_value(&mut self, row: &Row, value: &[u8], answer: char) {
+        self.hit_if_any(format!("set {:?} with {} value bytes", row.kind, value.len()));
+        if answer == '0' {
+            self.see_class("value", row, value);
+        }
+    }
+
+    fn see_class(&mut self, what: &str, row: &Row, wire: &[u8]) {
+        for (class, value) in value_classes(row) {
+            let size = row.kind.size();
+            if value.to_le_bytes()[..size] == wire[..size] {
+                self.hit(format!("{what} {:04X} {class}", row.first));
+            }
+        }
+    }
+
+    pub fn see_start(
+        &mut self,
+        bid: u8,
+        fitted: u32,
+        forced: u32,
+        stored: Option<(u16, &[u8; SIZE])>,
+    ) {
+        self.hit_if_any(format!("profile bid {bid}"));
+        let good_bid = (1..=8).contains(&bid);
+        if good_bid && fitted == 0 {
+            self.hit("profile nothing fitted".to_string());
+        } else if good_bid && forced & !fitted != 0 {
+            self.hit("profile forced not fitted".to_string());
+        } else if good_bid {
+            if fitted == u32::MAX {
+                self.hit("profile all fitted".to_string());
+            }
+            if let Some((count, bytes)) = stored {
+                self.see_stored(count, bytes);
+            }
+        }
+    }
+
+    fn see_stored(&mut self, count: u16, bytes: &[u8; SIZE]) {
+        match count {
+            0 | 0xFFFE | 0xFFFF => self.hit(format!("profile save count {count:04X}")),
+            _ => self.hit("profile save count other".to_string()),
+        }
+        let mut offset = 0;
+        for row in &ROWS {
+            for _ in row.first..=row.last {
+                self.see_class("stored", row, &bytes[offset..]);
+                offset += row.kind.size();
+            }
+        }
+    }
+}

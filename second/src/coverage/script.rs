@@ -1,0 +1,409 @@
+//! What a replay script reaches: lines, starts, commands, events.
+
+use super::CODES;
+use super::{channels, modes, parameters, text, Coverage};
+use crate::board::{Board, EMERGENCY_HIGH, EMERGENCY_LOW};
+use crate::mode::Mode;
+use crate::replay::{parse, Bytes, Line, Replay};
+
+const MODES: [char; 4] = ['U', 'N', 'F', 'E'];
+const ANSWERS: [char; 7] = ['0', '2', '3', '4', '5', '6', '7'];
+
+/// The lines of a script and what each may print.
+const LINES: [(char, &[&str]); 8] = [
+    ('B', &["ok", "refused", "bad"]),
+    ('P', &["ok", "refused", "bad"]),
+    ('W', &["ok", "bad", "before a board"]),
+    ('T', &["ok", "refused", "bad", "before a board"]),
+    ('R', &["ok", "bad", "before a board"]),
+    ('L', &["ok", "refused", "bad", "before a board"]),
+    ('F', &["ok", "refused", "bad", "before a board"]),
+    ('S', &["ok", "bad", "before a board"]),
+];
+
+/// One tick as the watcher sees it.
+pub struct Ticked<'a> {
+    pub before: &'a Board,
+    pub after: &'a Board,
+    pub rail: i16,
+    pub overcurrent: u32,
+    pub brought_words: bool,
+    pub command: Option<&'a [u8]>,
+    /// The mode that the command found.
+    pub mode: Mode,
+    pub answer: char,
+    pub event: char,
+}
+
+impl Ticked<'_> {
+    pub fn letter(&self) -> char {
+        char::from(self.mode.letter())
+    }
+
+    pub fn accepted(&self, code: u8) -> bool {
+        self.answer == '0' && self.code() == Some(code)
+    }
+
+    pub fn code(&self) -> Option<u8> {
+        self.command.and_then(|bytes| bytes.get(2).copied())
+    }
+}
+
+pub fn universe(coverage: &mut Coverage) {
+    for (letter, results) in LINES {
+        for result in results {
+            coverage.add(format!("line {letter} {result}"));
+        }
+    }
+    for what in ["empty", "unended", "over the limit", "of no letter"] {
+        coverage.add(format!("line {what}"));
+    }
+    command_universe(coverage);
+    event_universe(coverage);
+    save_universe(coverage);
+    for mode in ['N', 'F', 'E'] {
+        for new in ["new", "stale", "new in the same tick"] {
+            coverage.add(format!("housekeeping {mode} {new}"));
+        }
+    }
+    for count in ["0", "1", "121", "122", "123", "256", "other"] {
+        coverage.add(format!("words {count}"));
+    }
+    for read in ["nothing waiting", "none", "shorter", "exact", "longer", "0200"] {
+        coverage.add(format!("read {read}"));
+    }
+    parameters::universe(coverage);
+    modes::universe(coverage);
+    channels::universe(coverage);
+    text::universe(coverage);
+}
+
+fn command_universe(coverage: &mut Coverage) {
+    let codes = CODES.iter().map(|code| format!("{code:02X}"));
+    for code in codes.chain(["odd".to_string(), "even".to_string()]) {
+        for mode in MODES {
+            for answer in ANSWERS {
+                coverage.add(format!("command {code} {mode} {answer}"));
+            }
+        }
+    }
+    for mode in MODES {
+        for length in 0..4 {
+            coverage.add(format!("short {length} {mode}"));
+        }
+    }
+    for code in CODES {
+        for length in 4..=parameters::needed(code) + 3 {
+            coverage.add(format!("length {code:02X} {length}"));
+        }
+    }
+    for byte in ["STID", "IVID", "BID"] {
+        for value in ["0", "other"] {
+            coverage.add(format!("header {byte} {value}"));
+        }
+    }
+}
+
+fn event_universe(coverage: &mut Coverage) {
+    for mode in MODES {
+        for event in ['-', 'P', 'W'] {
+            coverage.add(format!("event {event} {mode}"));
+        }
+    }
+    for answer in ['0', '3', '4', '5', '6', '7'] {
+        coverage.add(format!("lost made W {answer}"));
+    }
+    for by in ["AA", "W"] {
+        for what in ["waiting", "words", "latches", "ascii form"] {
+            coverage.add(format!("lost {what} {by}"));
+        }
+    }
+    for count in ["power", "watchdog", "command", "age", "timer"] {
+        coverage.add(format!("top {count}"));
+    }
+}
+
+fn save_universe(coverage: &mut Coverage) {
+    for stored in ["first", "again"] {
+        for checksum in ["0", "right", "wrong"] {
+            coverage.add(format!("save {stored} {checksum}"));
+        }
+    }
+    for what in ["key wrong", "real checksum 0", "to 65535", "at 65535"] {
+        coverage.add(format!("save {what}"));
+    }
+    for code in ["90", "92", "AA", "W"] {
+        for stored in ["stored", "nothing stored"] {
+            coverage.add(format!("settings by {code} {stored}"));
+        }
+    }
+}
+
+/// A script under watch.
+#[derive(Default)]
+pub struct Watched {
+    replay: Replay,
+}
+
+impl Watched {
+    pub fn line(&mut self, line: &[u8], coverage: &mut Coverage) {
+        let mut bytes: Bytes = [0; 600];
+        let mut printed = Vec::new();
+        let before = self.replay.clone();
+        let parsed = parse(line, &mut bytes);
+        self.replay.line(line, &mut printed);
+        coverage.see_line(line, &printed, before.board().is_none());
+        if let Some(parsed) = parsed {
+            coverage.see_form(&before, &parsed, &bytes, &self.replay, &printed);
+        }
+    }
+
+    pub fn unended(&self, coverage: &mut Coverage) {
+        coverage.hit("line unended".to_string());
+    }
+
+    pub fn too_long(&self, coverage: &mut Coverage) {
+        coverage.hit("line over the limit".to_string());
+    }
+}
+
+impl Coverage {
+    fn see_line(&mut self, line: &[u8], printed: &[u8], no_board: bool) {
+        let Some(letter) = line.first() else {
+            return self.hit("line empty".to_string());
+        };
+        if !b"BPWTRLFS".contains(letter) {
+            return self.hit("line of no letter".to_string());
+        }
+        let letter = char::from(*letter);
+        let of_form = parse(line, &mut [0; 600]).is_some();
+        let result = match printed {
+            b"bad" if of_form && no_board => "before a board",
+            b"bad" => "bad",
+            _ if printed.starts_with(b"refused") => "refused",
+            _ => "ok",
+        };
+        self.hit(format!("line {letter} {result}"));
+    }
+
+    fn see_form(
+        &mut self,
+        before: &Replay,
+        line: &Line,
+        bytes: &Bytes,
+        after: &Replay,
+        printed: &[u8],
+    ) {
+        if let Line::Start { bid, fitted, forced, save_count } = *line {
+            let stored = save_count.zip(bytes.first_chunk());
+            return self.see_start(bid, fitted, forced, stored);
+        }
+        let (Some(board), Some(board_after)) = (before.board(), after.board()) else { return };
+        match *line {
+            Line::Start { .. } | Line::Words { .. } | Line::Show => {}
+            Line::Tick { rail, overcurrent, command } => {
+                self.see_word_count(before.lent().len());
+                if printed == b"refused 9" {
+                    return;
+                }
+                let fields: Vec<&[u8]> = printed.split(|byte| *byte == b' ').collect();
+                let mut mode = board.mode();
+                mode.rise();
+                mode.step(rail, &modes::limits(board));
+                self.see_tick(&Ticked {
+                    before: board,
+                    after: board_after,
+                    rail,
+                    overcurrent,
+                    brought_words: !before.lent().is_empty(),
+                    command: command.map(|length| &bytes[..length]),
+                    mode: mode.mode(),
+                    answer: char::from(fields[6][0]),
+                    event: char::from(fields[5][0]),
+                });
+            }
+            Line::Read { length } => self.see_read(board, length),
+            Line::Text { scratch, received } => {
+                self.see_text(board.form(), &bytes[..received], scratch, printed)
+            }
+            Line::Frame { length } => self.see_frame(board, before.latest(), length, printed),
+        }
+    }
+
+    fn see_word_count(&mut self, count: usize) {
+        match count {
+            0 | 1 | 121 | 122 | 123 | 256 => self.hit(format!("words {count}")),
+            _ => self.hit("words other".to_string()),
+        }
+    }
+
+    fn see_read(&mut self, board: &Board, length: usize) {
+        let waiting = board.waiting_reply().len();
+        self.hit(match length {
+            0 => "read none".to_string(),
+            _ if waiting == 0 => "read nothing waiting".to_string(),
+            _ if length < waiting => "read shorter".to_string(),
+            _ if length == waiting => "read exact".to_string(),
+            _ => "read longer".to_string(),
+        });
+        if length == 0x200 {
+            self.hit("read 0200".to_string());
+        }
+    }
+
+    fn see_tick(&mut self, tick: &Ticked) {
+        self.see_modes(tick);
+        self.see_channels(tick);
+        self.see_event(tick);
+        if let Some(command) = tick.command {
+            self.see_command(tick, command);
+            self.see_parameter(tick, command);
+        }
+    }
+
+    fn see_command(&mut self, tick: &Ticked, command: &[u8]) {
+        let mode = tick.letter();
+        if command.len() < 4 {
+            return self.hit(format!("short {} {mode}", command.len()));
+        }
+        let code = command[2];
+        let name = match code {
+            _ if CODES.contains(&code) => format!("{code:02X}"),
+            _ if code % 2 == 1 => "odd".to_string(),
+            _ => "even".to_string(),
+        };
+        self.hit(format!("command {name} {mode} {}", tick.answer));
+        match tick.answer {
+            '2' => {}
+            '3' => self.see_header(tick, command),
+            _ => self.see_good_header(tick, command),
+        }
+    }
+
+    fn see_header(&mut self, tick: &Ticked, command: &[u8]) {
+        let right = [0x11, 7, tick.before.bid()];
+        for (i, byte) in [0, 1, 3].into_iter().enumerate() {
+            let others_right = (0..3).all(|j| j == i || command[[0, 1, 3][j]] == right[j]);
+            if others_right && command[byte] != right[i] {
+                let value = if command[byte] == 0 { "0" } else { "other" };
+                self.hit(format!("header {} {value}", ["STID", "IVID", "BID"][i]));
+            }
+        }
+    }
+
+    fn see_good_header(&mut self, tick: &Ticked, command: &[u8]) {
+        let code = command[2];
+        self.hit_if_any(format!("length {code:02X} {}", command.len()));
+        let letter = tick.letter();
+        if tick.accepted(0x50) {
+            let stat = tick.after.waiting_reply()[4];
+            self.hit(format!("housekeeping {letter} {}", if stat == 0 { "stale" } else { "new" }));
+            if tick.brought_words {
+                self.hit(format!("housekeeping {letter} new in the same tick"));
+            }
+        }
+        if code == 0x94 && command.len() >= 7 {
+            self.see_save(tick, command);
+        }
+        for code in [0x90, 0x92, 0xAA] {
+            if tick.accepted(code) {
+                self.see_settings_by(&format!("{code:02X}"), tick.before);
+            }
+        }
+    }
+
+    fn see_settings_by(&mut self, by: &str, board: &Board) {
+        let stored = if board.store().is_some() { "stored" } else { "nothing stored" };
+        self.hit(format!("settings by {by} {stored}"));
+    }
+
+    fn see_save(&mut self, tick: &Ticked, command: &[u8]) {
+        if command[4] != 0xA7 {
+            return self.hit("save key wrong".to_string());
+        }
+        let real = tick.before.settings().checksum();
+        let stored = tick.before.store().map(|store| store.save_count);
+        let which = if stored.is_some() { "again" } else { "first" };
+        let given = u16::from_le_bytes([command[5], command[6]]);
+        let checksum = match given {
+            0 => "0",
+            _ if given == real => "right",
+            _ => "wrong",
+        };
+        self.hit(format!("save {which} {checksum}"));
+        if checksum == "wrong" {
+            return;
+        }
+        match stored {
+            Some(65_534) => self.hit("save to 65535".to_string()),
+            Some(65_535) => self.hit("save at 65535".to_string()),
+            _ => {}
+        }
+        if real == 0 {
+            self.hit("save real checksum 0".to_string());
+        }
+    }
+
+    fn see_event(&mut self, tick: &Ticked) {
+        // The command may have moved the mode once more before step 5.
+        let mode = match tick.event {
+            'W' => tick.mode,
+            _ => tick.after.mode().mode(),
+        };
+        self.hit(format!("event {} {}", tick.event, char::from(mode.letter())));
+        if tick.event == 'W' {
+            if ('3'..='7').contains(&tick.answer) || tick.answer == '0' {
+                self.hit(format!("lost made W {}", tick.answer));
+            }
+            self.see_settings_by("W", tick.before);
+            self.see_lost("W", tick);
+        }
+        if tick.accepted(0xAA) {
+            self.see_lost("AA", tick);
+        }
+        let resets = tick.after.resets();
+        let tops =
+            [("power", resets.power), ("watchdog", resets.watchdog), ("command", resets.command)];
+        for (name, _) in tops.iter().filter(|(_, count)| *count == u16::MAX) {
+            self.hit(format!("top {name}"));
+        }
+        for (name, value) in [("age", tick.after.mode().age()), ("timer", tick.after.timer())] {
+            if value == u64::MAX {
+                self.hit(format!("top {name}"));
+            }
+        }
+    }
+
+    fn see_lost(&mut self, by: &str, tick: &Ticked) {
+        let lost = [
+            ("waiting", !tick.before.waiting_reply().is_empty()),
+            ("words", tick.brought_words),
+            ("latches", tick.before.channels().latched() != 0),
+            ("ascii form", tick.before.form() == crate::text::Form::Ascii),
+        ];
+        for (what, _) in lost.iter().filter(|(_, was)| *was) {
+            self.hit(format!("lost {what} {by}"));
+        }
+    }
+}
+
+/// Rails that lie on and beside each threshold, and the ends of the type.
+pub fn rails(board: &Board) -> Vec<(String, i32)> {
+    let settings = board.settings();
+    let thresholds = [
+        ("safety low", settings.safety_low()),
+        ("safety high", settings.safety_high()),
+        ("emergency low", EMERGENCY_LOW),
+        ("emergency high", EMERGENCY_HIGH),
+    ];
+    let mut rails = Vec::new();
+    for (name, value) in thresholds {
+        for (offset, sign) in [(-1, "-1"), (0, "+0"), (1, "+1")] {
+            rails.push((format!("{name} {sign}"), i32::from(value) + offset));
+        }
+    }
+    for value in [-32768, -1, 0, 32767] {
+        rails.push((format!("{value}"), value));
+    }
+    rails
+}

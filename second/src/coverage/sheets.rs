@@ -1,0 +1,82 @@
+//! What a session sheet reaches.
+
+use super::Coverage;
+use crate::sheet::{self, Cause, Fault, Part, SheetRefusal, LONGEST_SHEET};
+
+const NUMBER: [Cause; 4] = [Cause::NoNumber, Cause::NotDigit, Cause::LeadingZero, Cause::TooLarge];
+const LINE: [Cause; 2] = [Cause::NoLine, Cause::NoLineEnd];
+
+fn faults() -> Vec<(Part, Vec<Cause>)> {
+    let counted = [&LINE[..], &[Cause::WrongWord], &NUMBER].concat();
+    let listed = [&LINE[..], &NUMBER, &[Cause::NotRising, Cause::CountDisagrees]].concat();
+    vec![
+        (Part::Sheet, vec![Cause::TooLong, Cause::BytesBehind]),
+        (Part::Board, counted.clone()),
+        (Part::Fitted, counted.clone()),
+        (Part::FittedList, listed.clone()),
+        (Part::Forced, counted.clone()),
+        (Part::ForcedList, listed),
+        (Part::Ticks, counted),
+        (Part::TickLine, [&LINE[..], &[Cause::FieldMissing]].concat()),
+        (Part::Rail, [&NUMBER[..], &[Cause::MinusZero]].concat()),
+        (Part::Overcurrent, vec![Cause::NotHex]),
+        (Part::Command, vec![Cause::NotHex, Cause::TooLong]),
+    ]
+}
+
+pub fn universe(coverage: &mut Coverage) {
+    for (part, causes) in faults() {
+        for cause in causes {
+            coverage.add(refused_14(part, cause));
+        }
+    }
+    for fault in ["Bid", "NothingFitted", "ForcedNotFitted"] {
+        coverage.add(format!("sheet refused 8 {fault}"));
+    }
+    for size in ["65535", "65536", "65537"] {
+        coverage.add(format!("sheet size {size}"));
+    }
+    for what in ["ok", "no ticks", "4096 ticks", "command of 256 bytes", "no forced channel"] {
+        coverage.add(format!("sheet {what}"));
+    }
+    for mode in ['U', 'N', 'F', 'E'] {
+        coverage.add(format!("sheet prints mode {mode}"));
+    }
+}
+
+fn refused_14(part: Part, cause: Cause) -> String {
+    format!("sheet refused 14 {part:?} {cause:?}")
+}
+
+impl Coverage {
+    pub fn see_sheet(&mut self, input: &[u8]) {
+        self.hit_if_any(format!("sheet size {}", input.len().min(LONGEST_SHEET + 1)));
+        match sheet::run(input) {
+            Ok(transcript) => self.see_transcript(input, &transcript),
+            Err(SheetRefusal::Form(Fault { part, cause })) => self.hit(refused_14(part, cause)),
+            Err(SheetRefusal::Profile(fault)) => self.hit(format!("sheet refused 8 {fault:?}")),
+        }
+    }
+
+    fn see_transcript(&mut self, input: &[u8], transcript: &[u8]) {
+        self.hit("sheet ok".to_string());
+        let Ok(sheet) = sheet::parse(input) else { return };
+        match sheet.ticks.len() {
+            0 => self.hit("sheet no ticks".to_string()),
+            4096 => self.hit("sheet 4096 ticks".to_string()),
+            _ => {}
+        }
+        if sheet.forced == 0 {
+            self.hit("sheet no forced channel".to_string());
+        }
+        let longest = 3 * sheet::LONGEST_COMMAND - 1;
+        if sheet.ticks.iter().flat_map(|tick| &tick.command).any(|text| text.len() == longest) {
+            self.hit("sheet command of 256 bytes".to_string());
+        }
+        for line in transcript.split(|byte| *byte == b'\n').skip(1) {
+            if let Some(mode) = line.split(|byte| *byte == b' ').nth(1) {
+                self.hit(format!("sheet prints mode {}", char::from(mode[0])));
+            }
+        }
+    }
+}

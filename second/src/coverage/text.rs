@@ -1,0 +1,176 @@
+//! The text line: each refusal in each form, each success, each framing.
+
+use super::Coverage;
+use crate::board::Board;
+use crate::hex;
+use crate::replay::Latest;
+use crate::text::Form;
+
+const OPEN: &[u8] = b"<cmd>";
+const CLOSE: &[u8] = b"</cmd>";
+
+/// What a read may find in either form.
+const EITHER: [&str; 13] = [
+    "10 no opening tag",
+    "10 no closing tag",
+    "10 closing tag before the opening one",
+    "11 of 257",
+    "11 of more",
+    "12",
+    "13",
+    "command",
+    "switch to raw",
+    "switch to ascii",
+    "bytes before the frame",
+    "bytes behind the frame",
+    "inner opening tag",
+];
+
+const RAW: [&str; 3] = ["command of 0", "command of 255", "command of 256"];
+
+const ASCII: [&str; 12] = [
+    "12 empty",
+    "12 leading space",
+    "12 trailing space",
+    "12 double space",
+    "12 alien byte",
+    "12 grouping",
+    "12 of 255",
+    "12 of 256",
+    "command of 254",
+    "13 with no scratch",
+    "13 one short",
+    "command with exact scratch",
+];
+
+pub fn universe(coverage: &mut Coverage) {
+    for form in ["raw", "ascii"] {
+        for found in EITHER {
+            coverage.add(format!("text {form} {found}"));
+        }
+        for result in ["written", "refused", "into no room"] {
+            for what in ["reply", "echo", "nothing"] {
+                coverage.add(format!("frame {form} {what} {result}"));
+            }
+        }
+        for result in ["exact", "one short"] {
+            for what in ["reply", "echo"] {
+                coverage.add(format!("frame {form} {what} {result}"));
+            }
+        }
+    }
+    for found in RAW {
+        coverage.add(format!("text raw {found}"));
+    }
+    for found in ASCII {
+        coverage.add(format!("text ascii {found}"));
+    }
+}
+
+fn name(form: Form) -> &'static str {
+    match form {
+        Form::Raw => "raw",
+        Form::Ascii => "ascii",
+    }
+}
+
+fn find(bytes: &[u8], tag: &[u8]) -> Option<usize> {
+    bytes.windows(tag.len()).position(|window| window == tag)
+}
+
+impl Coverage {
+    pub fn see_text(&mut self, form: Form, received: &[u8], scratch: usize, printed: &[u8]) {
+        let words: Vec<&[u8]> = printed.split(|byte| *byte == b' ').collect();
+        let found = match (words[0], words[1]) {
+            (b"command", _) => "command".to_string(),
+            (b"form", to) => format!("switch to {}", String::from_utf8_lossy(to)),
+            (_, number) => String::from_utf8_lossy(number).into_owned(),
+        };
+        let form = name(form);
+        let Some(start) = find(received, OPEN).map(|at| at + OPEN.len()) else {
+            return self.hit(format!("text {form} 10 no opening tag"));
+        };
+        let Some(length) = find(&received[start..], CLOSE) else {
+            let early = find(&received[..start], CLOSE).is_some();
+            let why = if early { "closing tag before the opening one" } else { "no closing tag" };
+            return self.hit(format!("text {form} 10 {why}"));
+        };
+        let payload = &received[start..start + length];
+        self.see_surroundings(form, received, start, payload);
+        self.see_found(form, &found, payload, scratch);
+    }
+
+    fn see_surroundings(&mut self, form: &str, received: &[u8], start: usize, payload: &[u8]) {
+        if start > OPEN.len() {
+            self.hit(format!("text {form} bytes before the frame"));
+        }
+        if start + payload.len() + CLOSE.len() < received.len() {
+            self.hit(format!("text {form} bytes behind the frame"));
+        }
+        if find(payload, OPEN).is_some() {
+            self.hit(format!("text {form} inner opening tag"));
+        }
+    }
+
+    fn see_found(&mut self, form: &str, found: &str, payload: &[u8], scratch: usize) {
+        let length = payload.len();
+        match found {
+            "11" if length == 257 => self.hit(format!("text {form} 11 of 257")),
+            "11" => self.hit(format!("text {form} 11 of more")),
+            _ => self.hit(format!("text {form} {found}")),
+        }
+        if form == "raw" {
+            return self.hit_if_any(format!("text raw {found} of {length}"));
+        }
+        self.hit_if_any(format!("text ascii {found} of {length}"));
+        let count = hex::spaced_length(payload).unwrap_or(0);
+        match found {
+            "12" => self.hit(format!("text ascii 12 {}", defect(payload))),
+            "13" if scratch == 0 => self.hit("text ascii 13 with no scratch".to_string()),
+            "13" if scratch + 1 == count => self.hit("text ascii 13 one short".to_string()),
+            "command" if scratch == count => {
+                self.hit("text ascii command with exact scratch".to_string())
+            }
+            _ => {}
+        }
+    }
+
+    pub fn see_frame(&mut self, board: &Board, latest: Latest, room: usize, printed: &[u8]) {
+        let form = name(board.form());
+        let (what, body) = match (latest, board.reply_of_tick()) {
+            (Latest::Echo(switched), _) => ("echo", switched.text().len()),
+            (Latest::Tick, None) => ("nothing", 0),
+            (Latest::Tick, Some(reply)) if form == "raw" => ("reply", reply.len()),
+            (Latest::Tick, Some(reply)) => ("reply", 3 * reply.len() - 1),
+        };
+        let whole = if what == "nothing" { 0 } else { body + 13 };
+        let result = if printed.starts_with(b"written") { "written" } else { "refused" };
+        self.hit(format!("frame {form} {what} {result}"));
+        if room == whole && room > 0 {
+            self.hit(format!("frame {form} {what} exact"));
+        }
+        if room + 1 == whole {
+            self.hit(format!("frame {form} {what} one short"));
+        }
+        if room == 0 {
+            self.hit(format!("frame {form} {what} into no room"));
+        }
+    }
+}
+
+/// What is wrong with an ASCII payload, the most telling first.
+fn defect(payload: &[u8]) -> &'static str {
+    if payload.is_empty() {
+        "empty"
+    } else if payload.iter().any(|byte| *byte != b' ' && hex::digit(*byte).is_none()) {
+        "alien byte"
+    } else if payload.starts_with(b" ") {
+        "leading space"
+    } else if payload.ends_with(b" ") {
+        "trailing space"
+    } else if find(payload, b"  ").is_some() {
+        "double space"
+    } else {
+        "grouping"
+    }
+}

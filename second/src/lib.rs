@@ -1,0 +1,21 @@
+//! The second program: the distribution board of the documents as one machine
+//! that is changed in place, and the tongues it is driven in (session sheet,
+//! replay script, text line).
+//!
+//! `board` and `command` are the machine; `settings`, `mode`, `channels`,
+//! `reply` and `crc` are its parts; `text`, `sheet` and `replay` lead to it;
+//! `coverage` only watches.
+
+pub mod board;
+pub mod channels;
+mod command;
+pub mod coverage;
+pub mod crc;
+pub mod hex;
+pub mod input;
+pub mod mode;
+pub mod replay;
+pub mod reply;
+pub mod settings;
+pub mod sheet;
+pub mod text;

@@ -1,0 +1,127 @@
+//! What every test needs: boards in a wanted mode and short ways to drive them.
+#![allow(dead_code)]
+
+use second::board::{Answer, Board, Event, Profile, Tick, Told};
+use second::mode::Mode;
+use second::settings::{Settings, SIZE};
+
+/// Above every threshold of the defaults.
+pub const HIGH: i16 = 15_000;
+/// Below the safety threshold, above the emergency ones: safety stays safety.
+pub const LOW: i16 = 12_399;
+/// Below the emergency threshold.
+pub const DEEP: i16 = 11_999;
+
+pub const FITTED: u32 = 0x0003_000F;
+pub const FORCED: u32 = 0x0001_0001;
+
+pub fn profile() -> Profile<'static> {
+    Profile { bid: 1, fitted: FITTED, forced: FORCED, stored: None }
+}
+
+pub fn started(fitted: u32, forced: u32) -> Board {
+    Board::start(&Profile { bid: 1, fitted, forced, stored: None }).unwrap()
+}
+
+pub fn tick_full(
+    board: &mut Board,
+    rail: i16,
+    overcurrent: u32,
+    words: &[u16],
+    command: Option<&[u8]>,
+) -> Told {
+    board.tick(&Tick { rail, overcurrent, words, command }).unwrap()
+}
+
+pub fn tick(board: &mut Board, rail: i16) -> Event {
+    tick_full(board, rail, 0, &[], None).event
+}
+
+pub fn ticks(board: &mut Board, rail: i16, count: usize) {
+    for _ in 0..count {
+        tick(board, rail);
+    }
+}
+
+pub fn overcurrent(board: &mut Board, named: u32) {
+    let rail = steady(board);
+    tick_full(board, rail, named, &[], None);
+}
+
+/// A rail that leaves the mode as it is, with the default thresholds.
+pub fn steady(board: &Board) -> i16 {
+    match board.mode().mode() {
+        Mode::Startup | Mode::Nominal => HIGH,
+        Mode::Safety => LOW,
+        Mode::Emergency => DEEP,
+    }
+}
+
+pub fn send_at(board: &mut Board, rail: i16, command: &[u8]) -> Answer {
+    tick_full(board, rail, 0, &[], Some(command)).answer.unwrap()
+}
+
+pub fn send(board: &mut Board, command: &[u8]) -> Answer {
+    let rail = steady(board);
+    send_at(board, rail, command)
+}
+
+/// A command with a right header.
+pub fn command(board: &Board, code: u8, rest: &[u8]) -> Vec<u8> {
+    let mut bytes = vec![0x11, 0x07, code, board.bid()];
+    bytes.extend_from_slice(rest);
+    bytes
+}
+
+pub fn give(board: &mut Board, code: u8, rest: &[u8]) -> Answer {
+    let bytes = command(board, code, rest);
+    send(board, &bytes)
+}
+
+pub fn set(board: &mut Board, id: u16, value: u16) {
+    let [low, high] = id.to_le_bytes();
+    let [first, second] = value.to_le_bytes();
+    assert_eq!(give(board, 0x84, &[low, high, first, second]), Answer::Accepted);
+}
+
+/// The value bytes of a parameter.
+pub fn get(board: &mut Board, id: u16) -> Vec<u8> {
+    assert_eq!(give(board, 0x82, &id.to_le_bytes()), Answer::Accepted);
+    board.waiting_reply()[8..].to_vec()
+}
+
+pub fn get_word(board: &mut Board, id: u16) -> u16 {
+    let value = get(board, id);
+    u16::from_le_bytes([value[0], value[1]])
+}
+
+pub fn in_mode(mode: Mode, fitted: u32, forced: u32) -> Board {
+    let mut board = started(fitted, forced);
+    match mode {
+        Mode::Startup => {}
+        Mode::Nominal => ticks(&mut board, HIGH, 50),
+        Mode::Safety => ticks(&mut board, LOW, 50),
+        Mode::Emergency => {
+            ticks(&mut board, LOW, 50);
+            ticks(&mut board, DEEP, 6_001);
+        }
+    }
+    assert_eq!(board.mode().mode(), mode);
+    board
+}
+
+pub fn nominal() -> Board {
+    in_mode(Mode::Nominal, FITTED, FORCED)
+}
+
+pub fn safety() -> Board {
+    in_mode(Mode::Safety, FITTED, FORCED)
+}
+
+pub fn emergency() -> Board {
+    in_mode(Mode::Emergency, FITTED, FORCED)
+}
+
+pub fn stored_defaults() -> [u8; SIZE] {
+    *Settings::defaults().bytes()
+}
