@@ -1,0 +1,2 @@
+pub mod Watchdog
+pub mod Report
