@@ -1,3 +1,4 @@
 pub mod Table
 pub mod Decode
 pub mod Answers
+pub mod Checks

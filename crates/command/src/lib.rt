@@ -267,9 +267,8 @@ fn by_list(entry: Listed, transfer: &[u8]) -> Decoded
 pub fn decode(header: Header, transfer: &[u8]) -> Decoded
     ensures { λ r. ⌜ r ≡ decodeOf header (now (transfer .entry)) ⌝ }
 {
-    let headless = too_short(transfer);
     let ours = is_for(header, transfer);
-    if headless {
+    if transfer.len() < 4 {
         return Decoded::Refused(Refusal::FewerThanFourBytes);
     }
     if !ours {
