@@ -1,0 +1,198 @@
+-- The decoder answers the number of the first check of document 01's table that applies. Assumes nothing.
+use Prim.Native.Nat.{ℕ, _≤_, _<_}
+use mathlib.Core.Path.{_≡_, refl, sym, ap, _∙_, subst}
+use mathlib.Core.Bool.{Bool, true, false, cond, not, _&&_, _||_}
+use mathlib.Core.List.{List, [], _∷_, map}
+use lib.Dec.{T, ltb, eqb}
+use lib.ListN.{length, getD}
+use native.Mathlib.Omega.{arith}
+use borrow.Author.Tests.{ltb-true, ltb-false, eqb-true, not-true, lt-ltb, le-ltb, eq-eqb}
+use Rattle.value.specs.Values.{readOf}
+use Rattle.value.specs.declared.Parsed.{Parsed}
+use Rattle.settings.specs.Table.{parameterOf}
+use Rattle.settings.specs.declared.Parameter.{Parameter}
+use Rattle.settings.specs.declared.Parameter.the-variants.{ReadWrite, ReadOnly, Unknown}
+use Rattle.command.specs.Table.{Row, _is_of_bytes, _is_of_bytes-with-key_, base, find}
+use Rattle.command.specs.Decode.{fewerThanFour, headerIs, stidOf, ividOf, codeOf, bidOf, byteAfter, idOf, valuePart, getBy, getting, valued, setBy, setting, resetBy, resetting, carried, listed, decodeBy, decodeOf}
+use Rattle.command.specs.Answers.{numberOf, answerOf}
+use Rattle.command.specs.Checks.{Check, _when_, first, headerDiffers, isIn, codes, unknown, unsettable, idWrong, isTooShort, isNaN, valueOf, checksBy, checks}
+use Rattle.command.specs.declared.Listed.{Listed}
+use Rattle.command.specs.declared.Listed.the-variants.{Missing}
+use Rattle.command.specs.declared.Header.{Header}
+use Rattle.command.specs.declared.Command.{Command}
+use Rattle.command.specs.declared.Decoded.{Decoded}
+use Rattle.command.specs.declared.Decoded.the-variants.{Run, Refused}
+use Rattle.command.specs.declared.Refusal.{Refusal}
+use Rattle.command.specs.declared.Refusal.the-variants.{TooShort, WrongKey}
+
+-- ---- cases
+cases : {A : Type 0} (b : Bool) → (b ≡ true → A) → (b ≡ false → A) → A
+cases true t f = t refl
+cases false t f = f refl
+
+or-false : (a b : Bool) → a || b ≡ false → (a ≡ false) × (b ≡ false)
+or-false true b h = absurd (subst T h tt)
+or-false false b h = (refl, h)
+
+-- what holds at each of some numbers, and at one that is none of them, holds
+infixr 20 _and_
+data Each (P : ℕ → Type 0) : List ℕ → Type 0 where
+  none : Each P []
+  _and_ : {c : ℕ} {cs : List ℕ} → P c → Each P cs → Each P (c ∷ cs)
+
+by-code : (P : ℕ → Type 0) (k : ℕ) (cs : List ℕ) → Each P cs → (isIn k cs ≡ false → P k) → P k
+unfolding isIn
+by-code P k [] none other = other refl
+by-code P k (c ∷ cs) (p and ps) other = cases (eqb k c) (λ e. subst P (sym (eqb-true k c e)) p) (λ e. by-code P k cs ps (λ h. other (rw e h)))
+
+-- ---- a code that is in no row is not found
+abbrev pub codeIn : Row → ℕ
+codeIn (c is name of n bytes) = c
+codeIn (c is name of n bytes-with-key k) = c
+
+not-found : (k : ℕ) (rows : List Row) → isIn k (map codeIn rows) ≡ false → find rows k ≡ Missing
+unfolding isIn find
+not-found k [] h = refl
+not-found k (c is name of n bytes ∷ rows) h = let u = or-false (eqb k c) _ h in rw (u .0) (not-found k rows (u .1))
+not-found k (c is name of n bytes-with-key key ∷ rows) h = let u = or-false (eqb k c) _ h in rw (u .0) (not-found k rows (u .1))
+
+-- the table's codes are those that document 01 gives, in its order
+pub table-codes : map codeIn base ≡ codes
+unfolding base codes
+table-codes = refl
+
+missing : (code : ℕ) → isIn code codes ≡ false → find base code ≡ Missing
+missing code h = not-found code base (rw table-codes h)
+
+-- ---- the number of an answer behind a check
+behind : (b : Bool) (r : Refusal) (d : Decoded) → answerOf (cond b (Refused r) d) ≡ cond b (numberOf r) (answerOf d)
+behind true r d = refl
+behind false r d = refl
+
+get-number : (id : ℕ) (p : Parameter) → answerOf (getBy id p) ≡ cond (idWrong 0x82 p) 7 0
+unfolding idWrong
+get-number id (ReadWrite t) = refl
+get-number id (ReadOnly t) = refl
+get-number id Unknown = refl
+
+reset-number : (id : ℕ) (p : Parameter) → answerOf (resetBy id p) ≡ cond (idWrong 0x86 p) 7 0
+unfolding idWrong
+reset-number id (ReadWrite t) = refl
+reset-number id (ReadOnly t) = refl
+reset-number id Unknown = refl
+
+valued-number : (id : ℕ) (v : Parsed) → answerOf (valued id v) ≡ cond (isTooShort v) 5 (cond (isNaN v) 7 0)
+unfolding valued
+valued-number id (Parsed.Value v) = refl
+valued-number id Parsed.TooShort = refl
+valued-number id Parsed.NotANumber = refl
+
+set-number : (id : ℕ) (p : Parameter) (value : List ℕ) → answerOf (setBy id p value) ≡ cond (idWrong 0x84 p) 7 (cond (valueOf p value isTooShort) 5 (cond (valueOf p value isNaN) 7 0))
+unfolding idWrong
+set-number id (ReadWrite t) value = valued-number id (readOf t value)
+set-number id (ReadOnly t) value = refl
+set-number id Unknown value = refl
+
+-- ---- a command of the list
+module _ (s : List ℕ) where
+  plain : (needed : ℕ) (d : Decoded) → answerOf (cond (ltb (length s) needed) (Refused TooShort) d) ≡ cond (ltb (length s) needed) 5 (answerOf d)
+  plain needed d = behind (ltb (length s) needed) TooShort d
+
+  keyed : (needed key : ℕ) (d : Decoded)
+      → answerOf (cond (ltb (length s) needed) (Refused TooShort) (cond (not (eqb (byteAfter s) key)) (Refused WrongKey) d))
+      ≡ cond (ltb (length s) needed) 5 (cond (not (eqb (byteAfter s) key)) 7 (answerOf d))
+  keyed needed key d = behind (ltb (length s) needed) TooShort _ ∙ ap (cond (ltb (length s) needed) 5) (behind (not (eqb (byteAfter s) key)) WrongKey d)
+
+  unlisted : (code : ℕ) → isIn code codes ≡ false → answerOf (listed (find base code) s) ≡ first (checksBy code s)
+  unfolding listed first checksBy
+  unlisted code h = rw (missing code h, h)
+
+  answers-first : (code : ℕ) → answerOf (listed (find base code) s) ≡ first (checksBy code s)
+  unfolding listed carried find base first checksBy codes isIn idWrong getting setting resetting
+  answers-first code =
+      by-code (λ k. answerOf (listed (find base k) s) ≡ first (checksBy k s)) code codes
+      (keyed 5 0xA6 _ and plain 4 _ and plain 4 _ and plain 4 _ and plain 6 _ and plain 6 _ and plain 6 _ and plain 5 _ and plain 5 _ and plain 4 _ and plain 4 _ and plain 4 _ and plain 4 _
+      and (plain 6 _ ∙ ap (cond (ltb (length s) 6) 5) (get-number (idOf s) (parameterOf (idOf s))))
+      and (plain 6 _ ∙ ap (cond (ltb (length s) 6) 5) (set-number (idOf s) (parameterOf (idOf s)) (valuePart s)))
+      and (plain 6 _ ∙ ap (cond (ltb (length s) 6) 5) (reset-number (idOf s) (parameterOf (idOf s))))
+      and keyed 5 0xA7 _ and keyed 5 0xA7 _ and keyed 7 0xA7 _ and none)
+      (unlisted code)
+
+-- ---- the first check that applies answers
+differs : (a b c : Bool) → not (a && b && c) ≡ (not a || not b || not c)
+differs true true c = refl
+differs true false c = refl
+differs false b c = refl
+
+pub first-check : (board : Header) (s : List ℕ) → answerOf (decodeOf board s) ≡ first (checks board s)
+unfolding decodeOf decodeBy first checks headerDiffers headerIs
+first-check board s =
+    behind (fewerThanFour s) _ _
+    ∙ ap (cond (fewerThanFour s) 1)
+    (rw (sym (differs (eqb (stidOf s) (board .stid)) (eqb (ividOf s) (board .ivid)) (eqb (bidOf s) (board .bid)))) (behind (not (headerIs board s)) _ _ ∙ ap (cond (not (headerIs board s)) 3) (answers-first s (codeOf s))))
+
+-- ---- a number is answered exactly when its check applies and none before it does
+-- no check of a list has the number n, and n is not 0
+abbrev absent : ℕ → List Check → Bool
+absent n [] = not (eqb 0 n)
+absent n (m when b ∷ cs) = not (eqb m n) && absent n cs
+
+differ : (m n : ℕ) (b : Bool) → not (eqb m n) && b ≡ true → m ≡ n → ⊥
+differ m n b a h = let z = rw (eq-eqb m n h) at a in subst T (sym z) tt
+
+and-right : (a b : Bool) → a && b ≡ true → b ≡ true
+and-right true b h = h
+and-right false b h = absurd (subst T (sym h) tt)
+
+never : (n : ℕ) (cs : List Check) → absent n cs ≡ true → first cs ≡ n → ⊥
+unfolding first
+never n [] a h = let z = rw (eq-eqb 0 n h) at a in subst T (sym z) tt
+never n (m when true ∷ cs) a h = differ m n (absent n cs) a h
+never n (m when false ∷ cs) a h = never n cs (and-right (not (eqb m n)) (absent n cs) a) h
+
+applies : (n : ℕ) (b : Bool) (cs : List Check) → absent n cs ≡ true → first (n when b ∷ cs) ≡ n → b ≡ true
+unfolding first
+applies n true cs a h = refl
+applies n false cs a h = absurd (never n cs a h)
+
+passed : (m n : ℕ) (b : Bool) (cs : List Check) → (m ≡ n → ⊥) → first (m when b ∷ cs) ≡ n → (b ≡ false) × (first cs ≡ n)
+unfolding first
+passed m n true cs d h = absurd (d h)
+passed m n false cs d h = (refl, h)
+
+module _ (board : Header) (s : List ℕ) where
+  -- 1: fewer than 4 bytes
+  pub short-is-1 : length s < 4 → answerOf (decodeOf board s) ≡ 1
+  unfolding first checks fewerThanFour
+  short-is-1 h = first-check board s ∙ rw (lt-ltb (length s) 4 h)
+
+  pub is-1-short : answerOf (decodeOf board s) ≡ 1 → length s < 4
+  unfolding checks checksBy fewerThanFour
+  is-1-short h = ltb-true (length s) 4 (applies 1 (fewerThanFour s) (3 when headerDiffers board s ∷ checksBy (codeOf s) s) refl (sym (first-check board s) ∙ h))
+
+  -- 3: 4 bytes or more, and STID, IVID or BID is not the board's
+  pub other-is-3 : 4 ≤ length s → headerDiffers board s ≡ true → answerOf (decodeOf board s) ≡ 3
+  unfolding first checks fewerThanFour
+  other-is-3 h d = first-check board s ∙ rw (le-ltb (length s) 4 h, d)
+
+  behind-1 : (n : ℕ) → (1 ≡ n → ⊥) → answerOf (decodeOf board s) ≡ n → (fewerThanFour s ≡ false) × (first (3 when headerDiffers board s ∷ checksBy (codeOf s) s) ≡ n)
+  unfolding checks
+  behind-1 n d h = passed 1 n (fewerThanFour s) (3 when headerDiffers board s ∷ checksBy (codeOf s) s) d (sym (first-check board s) ∙ h)
+
+  pub is-3-other : answerOf (decodeOf board s) ≡ 3 → (4 ≤ length s) × (headerDiffers board s ≡ true)
+  unfolding checksBy fewerThanFour
+  is-3-other h =
+      let u = behind-1 3 (λ e. omega arith) h in
+      (ltb-false (length s) 4 (u .0), applies 3 (headerDiffers board s) (checksBy (codeOf s) s) refl (u .1))
+
+  -- 4: the header is the board's, and the code is not in the base list
+  pub unlisted-is-4 : 4 ≤ length s → headerDiffers board s ≡ false → isIn (codeOf s) codes ≡ false → answerOf (decodeOf board s) ≡ 4
+  unfolding first checks checksBy fewerThanFour
+  unlisted-is-4 h d n = first-check board s ∙ rw (le-ltb (length s) 4 h, d, n)
+
+  pub is-4-unlisted : answerOf (decodeOf board s) ≡ 4 → (4 ≤ length s) × ((headerDiffers board s ≡ false) × (isIn (codeOf s) codes ≡ false))
+  unfolding checksBy fewerThanFour
+  is-4-unlisted h =
+      let u = behind-1 4 (λ e. omega arith) h in
+      let v = passed 3 4 (headerDiffers board s) (checksBy (codeOf s) s) (λ e. omega arith) (u .1) in
+      (ltb-false (length s) 4 (u .0), (v .0, not-true (isIn (codeOf s) codes) (applies 4 (not (isIn (codeOf s) codes)) _ refl (v .1))))

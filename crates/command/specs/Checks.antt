@@ -1,0 +1,99 @@
+-- Document 01's table of refusals, for the checks that ask for neither mode nor state: the first that applies answers.
+-- `7 when b` is a check that is given the number 7 exactly when b holds. Assumes nothing.
+use Prim.Native.Nat.{ℕ}
+use mathlib.Core.Bool.{Bool, true, false, cond, not, _&&_, _||_}
+use mathlib.Core.List.{List, [], _∷_}
+use lib.Dec.{ltb, eqb}
+use lib.ListN.{length}
+use Rattle.value.specs.Values.{readOf}
+use Rattle.value.specs.declared.Parsed.{Parsed}
+use Rattle.settings.specs.Table.{parameterOf}
+use Rattle.settings.specs.declared.Parameter.{Parameter}
+use Rattle.settings.specs.declared.Parameter.the-variants.{ReadWrite, ReadOnly, Unknown}
+use Rattle.command.specs.Table.{base, find}
+use Rattle.command.specs.Decode.{fewerThanFour, stidOf, ividOf, codeOf, bidOf, byteAfter, idOf, valuePart}
+use Rattle.command.specs.declared.Listed.{Listed}
+use Rattle.command.specs.declared.Listed.the-variants.{Plain, Keyed, Missing}
+use Rattle.command.specs.declared.Header.{Header}
+
+infix 68 _when_
+pub data Check : Type 0 where
+  _when_ : ℕ → Bool → Check
+
+-- the number of the first check that applies, 0 where none does
+unfoldable pub first : List Check → ℕ
+first [] = 0
+first (n when b ∷ checks) = cond b n (first checks)
+
+-- STID, IVID or BID is not the board's
+unfoldable pub headerDiffers : Header → List ℕ → Bool
+headerDiffers board s = not (eqb (stidOf s) (board .stid)) || not (eqb (ividOf s) (board .ivid)) || not (eqb (bidOf s) (board .bid))
+
+-- the code is not in the base list
+unfoldable pub isIn : ℕ → List ℕ → Bool
+isIn x [] = false
+isIn x (y ∷ ys) = eqb x y || isIn x ys
+
+-- the codes as document 01 gives them
+unfoldable pub codes : List ℕ
+codes = 0xAA ∷ 0x02 ∷ 0x04 ∷ 0x06 ∷ 0x10 ∷ 0x12 ∷ 0x14 ∷ 0x16 ∷ 0x18 ∷ 0x30 ∷ 0x32 ∷ 0x42 ∷ 0x50 ∷ 0x82 ∷ 0x84 ∷ 0x86 ∷ 0x90 ∷ 0x92 ∷ 0x94 ∷ []
+
+-- shorter than the command needs
+abbrev pub shorter : Listed → List ℕ → Bool
+shorter (Plain name needed) s = ltb (length s) needed
+shorter (Keyed name needed key) s = ltb (length s) needed
+shorter Missing s = false
+
+-- the key is wrong
+abbrev pub keyWrong : Listed → List ℕ → Bool
+keyWrong (Plain name needed) s = false
+keyWrong (Keyed name needed key) s = not (eqb (byteAfter s) key)
+keyWrong Missing s = false
+
+-- the id is unknown (0x82), or unknown or read-only (0x84 and 0x86)
+abbrev pub unknown : Parameter → Bool
+unknown (ReadWrite t) = false
+unknown (ReadOnly t) = false
+unknown Unknown = true
+
+abbrev pub unsettable : Parameter → Bool
+unsettable (ReadWrite t) = false
+unsettable (ReadOnly t) = true
+unsettable Unknown = true
+
+unfoldable pub idWrong : ℕ → Parameter → Bool
+idWrong code p = eqb code 0x82 && unknown p || (eqb code 0x84 || eqb code 0x86) && unsettable p
+
+-- what 0x84 finds behind the id: fewer bytes than the value has, or a NaN
+abbrev pub isTooShort : Parsed → Bool
+isTooShort (Parsed.Value v) = false
+isTooShort Parsed.TooShort = true
+isTooShort Parsed.NotANumber = false
+
+abbrev pub isNaN : Parsed → Bool
+isNaN (Parsed.Value v) = false
+isNaN Parsed.TooShort = false
+isNaN Parsed.NotANumber = true
+
+abbrev pub valueOf : Parameter → List ℕ → (Parsed → Bool) → Bool
+valueOf (ReadWrite t) value is = is (readOf t value)
+valueOf (ReadOnly t) value is = false
+valueOf Unknown value is = false
+
+-- the checks behind the code's
+unfoldable pub checksBy : ℕ → List ℕ → List Check
+checksBy code s =
+    4 when not (isIn code codes)
+    ∷ 5 when shorter (find base code) s
+    ∷ 7 when keyWrong (find base code) s
+    ∷ 7 when idWrong code (parameterOf (idOf s))
+    ∷ 5 when (eqb code 0x84 && valueOf (parameterOf (idOf s)) (valuePart s) isTooShort)
+    ∷ 7 when (eqb code 0x84 && valueOf (parameterOf (idOf s)) (valuePart s) isNaN)
+    ∷ []
+
+-- the checks of a transfer in their order
+unfoldable pub checks : Header → List ℕ → List Check
+checks board s =
+    1 when fewerThanFour s
+    ∷ 3 when headerDiffers board s
+    ∷ checksBy (codeOf s) s

@@ -1,0 +1,142 @@
+-- A transfer as a command, by document 01's checks in their order: the first that applies answers.
+-- `getD s i 0` is the byte at i, `drop i s` what stands from i on, and `number n` the number of its first n bytes, the lowest first. Assumes nothing.
+use Prim.Native.Nat.{ℕ, _-_, _^_}
+use mathlib.Core.Bool.{Bool, cond, not, _&&_}
+use mathlib.Core.List.{List}
+use lib.Dec.{ltb, eqb}
+use lib.ListN.{length, drop, getD}
+use Rattle.wire.specs.Numbers.{number}
+use Rattle.value.specs.Values.{readOf}
+use Rattle.value.specs.declared.Parsed.{Parsed}
+use Rattle.settings.specs.Table.{parameterOf}
+use Rattle.settings.specs.declared.Parameter.{Parameter}
+use Rattle.settings.specs.declared.Parameter.the-variants.{ReadWrite, ReadOnly, Unknown}
+use Rattle.command.specs.Table.{Row, base, find}
+use Rattle.command.specs.declared.Name.{Name}
+use Rattle.command.specs.declared.Listed.{Listed}
+use Rattle.command.specs.declared.Listed.the-variants.{Plain, Keyed, Missing}
+use Rattle.command.specs.declared.Header.{Header}
+use Rattle.command.specs.declared.Group.{Group}
+use Rattle.command.specs.declared.Command.{Command}
+use Rattle.command.specs.declared.Command.the-variants.{SystemReset, NoOperation, CancelOperation, Watchdog, GroupOn, GroupOff, GroupState, ChannelOn, ChannelOff, SwitchToNominal, SwitchToSafety, GetOvercurrentFaultState, GetHousekeeping, GetParameter, SetParameter, ResetParameter, ResetConfiguration, LoadConfiguration, SaveConfiguration}
+use Rattle.command.specs.declared.Refusal.the-variants.{FewerThanFourBytes, NotThisBoard, CodeNotListed, TooShort, WrongKey, WrongParameter, NotANumber}
+use Rattle.command.specs.declared.Decoded.{Decoded}
+use Rattle.command.specs.declared.Decoded.the-variants.{Run, Refused}
+
+-- ---- the header: STID, IVID, CC, BID
+unfoldable pub fewerThanFour : List ℕ → Bool
+fewerThanFour s = ltb (length s) 4
+
+abbrev pub stidOf : List ℕ → ℕ
+stidOf s = getD s 0 0
+
+abbrev pub ividOf : List ℕ → ℕ
+ividOf s = getD s 1 0
+
+abbrev pub codeOf : List ℕ → ℕ
+codeOf s = getD s 2 0
+
+abbrev pub bidOf : List ℕ → ℕ
+bidOf s = getD s 3 0
+
+unfoldable pub headerIs : Header → List ℕ → Bool
+headerIs board s = eqb (stidOf s) (board .stid) && eqb (ividOf s) (board .ivid) && eqb (bidOf s) (board .bid)
+
+-- ---- what stands behind the header
+-- a channel (CH_IDX) or a key stands at 4
+abbrev pub byteAfter : List ℕ → ℕ
+byteAfter s = getD s 4 0
+
+-- a parameter's id (PAR_ID) stands at 4, its value (PAR_VAL) from 6 on
+abbrev pub idOf : List ℕ → ℕ
+idOf s = number 2 (drop 4 s)
+
+unfoldable pub valuePart : List ℕ → List ℕ
+valuePart s = drop 6 s
+
+-- a checksum (CHECKSUM) stands behind the key
+abbrev pub checksumIn : List ℕ → ℕ
+checksumIn s = number 2 (drop 5 s)
+
+-- a mask (CH_BF) of channels 0 to 15 stands at 4, and one (CH_EXT_BF) of channels 16 to 31 at 6, which counts only where both its bytes are there
+unfoldable pub groupIn : List ℕ → Group
+groupIn s =
+    cond (ltb (length s) 8)
+    (record { mask = number 2 (drop 4 s); spoken = 2 ^ 16 - 1 })
+    (record { mask = number 4 (drop 4 s); spoken = 2 ^ 32 - 1 })
+
+-- ---- parameters
+-- 0x82: an id that is unknown is 7; one that is read-only is read
+abbrev pub getBy : ℕ → Parameter → Decoded
+getBy id (ReadWrite t) = Run (GetParameter id)
+getBy id (ReadOnly t) = Run (GetParameter id)
+getBy id Unknown = Refused WrongParameter
+
+unfoldable pub getting : ℕ → Decoded
+getting id = getBy id (parameterOf id)
+
+-- 0x84, behind the two bytes of the id (5): an id that is unknown or read-only (7), fewer bytes than the value has (5), a NaN (7)
+unfoldable pub valued : ℕ → Parsed → Decoded
+valued id (Parsed.Value v) = Run (SetParameter id v)
+valued id Parsed.TooShort = Refused TooShort
+valued id Parsed.NotANumber = Refused NotANumber
+
+abbrev pub setBy : ℕ → Parameter → List ℕ → Decoded
+setBy id (ReadWrite t) value = valued id (readOf t value)
+setBy id (ReadOnly t) value = Refused WrongParameter
+setBy id Unknown value = Refused WrongParameter
+
+unfoldable pub setting : ℕ → List ℕ → Decoded
+setting id s = setBy id (parameterOf id) (valuePart s)
+
+-- 0x86: as in 0x84, an id that is unknown or read-only is 7
+abbrev pub resetBy : ℕ → Parameter → Decoded
+resetBy id (ReadWrite t) = Run (ResetParameter id)
+resetBy id (ReadOnly t) = Refused WrongParameter
+resetBy id Unknown = Refused WrongParameter
+
+unfoldable pub resetting : ℕ → Decoded
+resetting id = resetBy id (parameterOf id)
+
+-- ---- a command that is long enough, with what it carries
+unfoldable pub carried : Name → List ℕ → Decoded
+carried Name.SystemReset s = Run SystemReset
+carried Name.NoOperation s = Run NoOperation
+carried Name.CancelOperation s = Run CancelOperation
+carried Name.Watchdog s = Run Watchdog
+carried Name.GroupOn s = Run (GroupOn (groupIn s))
+carried Name.GroupOff s = Run (GroupOff (groupIn s))
+carried Name.GroupState s = Run (GroupState (groupIn s))
+carried Name.ChannelOn s = Run (ChannelOn (byteAfter s))
+carried Name.ChannelOff s = Run (ChannelOff (byteAfter s))
+carried Name.SwitchToNominal s = Run SwitchToNominal
+carried Name.SwitchToSafety s = Run SwitchToSafety
+carried Name.GetOvercurrentFaultState s = Run GetOvercurrentFaultState
+carried Name.GetHousekeeping s = Run GetHousekeeping
+carried Name.GetParameter s = getting (idOf s)
+carried Name.SetParameter s = setting (idOf s) s
+carried Name.ResetParameter s = resetting (idOf s)
+carried Name.ResetConfiguration s = Run ResetConfiguration
+carried Name.LoadConfiguration s = Run LoadConfiguration
+carried Name.SaveConfiguration s = Run (SaveConfiguration (checksumIn s))
+
+-- ---- the checks in their order; 2 and 6, which ask for the mode, are the board's
+unfoldable pub listed : Listed → List ℕ → Decoded
+listed Missing s = Refused CodeNotListed  -- 4
+listed (Plain name needed) s =
+    cond (ltb (length s) needed) (Refused TooShort)  -- 5
+    (carried name s)  -- 7, a parameter or its value
+listed (Keyed name needed key) s =
+    cond (ltb (length s) needed) (Refused TooShort)  -- 5
+    (cond (not (eqb (byteAfter s) key)) (Refused WrongKey)  -- 7
+    (carried name s))
+
+-- to a board with its own list of codes
+unfoldable pub decodeBy : List Row → Header → List ℕ → Decoded
+decodeBy codes board s =
+    cond (fewerThanFour s) (Refused FewerThanFourBytes)  -- 1
+    (cond (not (headerIs board s)) (Refused NotThisBoard)  -- 3
+    (listed (find codes (codeOf s)) s))
+
+unfoldable pub decodeOf : Header → List ℕ → Decoded
+decodeOf board s = decodeBy base board s

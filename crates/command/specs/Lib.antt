@@ -1,0 +1,4 @@
+pub mod Table
+pub mod Decode
+pub mod Answers
+pub mod Checks
