@@ -7,8 +7,7 @@ use borrow.Author.Tests.{lt-ltb, le-ltb, eq-eqb, ne-eqb}
 use Rattle.command.specs.Decode.{carried, listed}
 use Rattle.command.specs.declared.Name.{Name}
 use Rattle.command.specs.declared.Listed.{Listed}
-use Rattle.command.specs.declared.Listed.the-variants.{Plain, Keyed, Missing}
-use Rattle.command.specs.declared.Decoded.{Decoded}
+use Rattle.command.specs.declared.Listed.the-variants.{Plain, Keyed}
 use Rattle.command.specs.declared.Decoded.the-variants.{Refused}
 use Rattle.command.specs.declared.Refusal.the-variants.{TooShort, WrongKey}
 

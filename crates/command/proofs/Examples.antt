@@ -8,11 +8,8 @@ use borrow.Author.Tests.{le-ltb}
 use Rattle.wire.specs.Numbers.{number}
 use Rattle.command.specs.Table.{base, find}
 use Rattle.command.specs.Decode.{fewerThanFour, headerIs, groupIn, carried, listed, decodeBy, decodeOf}
-use Rattle.command.specs.Answers.{answerOf}
-use Rattle.command.specs.declared.Header.{Header}
 use Rattle.command.specs.declared.Group.{Group}
 use Rattle.command.specs.declared.Command.the-variants.{NoOperation}
-use Rattle.command.specs.declared.Decoded.{Decoded}
 use Rattle.command.specs.declared.Decoded.the-variants.{Run, Refused}
 use Rattle.command.specs.declared.Refusal.the-variants.{FewerThanFourBytes, CodeNotListed}
 

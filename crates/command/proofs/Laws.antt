@@ -4,7 +4,7 @@ use mathlib.Core.Path.{_≡_, refl, sym, ap, _∙_, subst}
 use mathlib.Core.Bool.{Bool, true, false, cond, not, _&&_, _||_}
 use mathlib.Core.List.{List, [], _∷_, map}
 use lib.Dec.{T, ltb, eqb}
-use lib.ListN.{length, getD}
+use lib.ListN.{length}
 use native.Mathlib.Omega.{arith}
 use borrow.Author.Tests.{ltb-true, ltb-false, eqb-true, not-true, lt-ltb, le-ltb, eq-eqb}
 use Rattle.value.specs.Values.{readOf}
@@ -15,13 +15,11 @@ use Rattle.settings.specs.declared.Parameter.the-variants.{ReadWrite, ReadOnly,
 use Rattle.command.specs.Table.{Row, _is_of_bytes, _is_of_bytes-with-key_, base, find}
 use Rattle.command.specs.Decode.{fewerThanFour, headerIs, stidOf, ividOf, codeOf, bidOf, byteAfter, idOf, valuePart, getBy, getting, valued, setBy, setting, resetBy, resetting, carried, listed, decodeBy, decodeOf}
 use Rattle.command.specs.Answers.{numberOf, answerOf}
-use Rattle.command.specs.Checks.{Check, _when_, first, headerDiffers, isIn, codes, unknown, unsettable, idWrong, isTooShort, isNaN, valueOf, checksBy, checks}
-use Rattle.command.specs.declared.Listed.{Listed}
+use Rattle.command.specs.Checks.{Check, _when_, first, headerDiffers, isIn, codes, idWrong, isTooShort, isNaN, valueOf, checksBy, checks}
 use Rattle.command.specs.declared.Listed.the-variants.{Missing}
 use Rattle.command.specs.declared.Header.{Header}
-use Rattle.command.specs.declared.Command.{Command}
 use Rattle.command.specs.declared.Decoded.{Decoded}
-use Rattle.command.specs.declared.Decoded.the-variants.{Run, Refused}
+use Rattle.command.specs.declared.Decoded.the-variants.{Refused}
 use Rattle.command.specs.declared.Refusal.{Refusal}
 use Rattle.command.specs.declared.Refusal.the-variants.{TooShort, WrongKey}
 

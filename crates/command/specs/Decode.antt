@@ -17,7 +17,6 @@ use Rattle.command.specs.declared.Listed.{Listed}
 use Rattle.command.specs.declared.Listed.the-variants.{Plain, Keyed, Missing}
 use Rattle.command.specs.declared.Header.{Header}
 use Rattle.command.specs.declared.Group.{Group}
-use Rattle.command.specs.declared.Command.{Command}
 use Rattle.command.specs.declared.Command.the-variants.{SystemReset, NoOperation, CancelOperation, Watchdog, GroupOn, GroupOff, GroupState, ChannelOn, ChannelOff, SwitchToNominal, SwitchToSafety, GetOvercurrentFaultState, GetHousekeeping, GetParameter, SetParameter, ResetParameter, ResetConfiguration, LoadConfiguration, SaveConfiguration}
 use Rattle.command.specs.declared.Refusal.the-variants.{FewerThanFourBytes, NotThisBoard, CodeNotListed, TooShort, WrongKey, WrongParameter, NotANumber}
 use Rattle.command.specs.declared.Decoded.{Decoded}

@@ -1,6 +1,5 @@
 // A transfer of any length and content to a command or a refusal, for the checks that need neither mode nor state.
 ghost use mathlib.Core.Path.{_≡_};
-ghost use lib.ListN.{drop};
 ghost use Rattle.command.specs.Table.{base, find};
 ghost use Rattle.command.specs.Decode.{fewerThanFour, headerIs, groupIn, valuePart, getting, valued, setting, resetting, carried, listed, decodeOf};
 use settings::Parameter;

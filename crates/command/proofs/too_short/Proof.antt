@@ -1,4 +1,4 @@
--- The very comparison.
+-- Fewer than four is what the code compares.
 use Rattle.command.specs.Decode.{fewerThanFour}
 use borrow.Author.Needs.{needs}
 use Rattle.command.proofs.too_short.Statement.{statement}
