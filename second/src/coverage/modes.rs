@@ -7,6 +7,7 @@ use crate::board::{
     TICKS_PER_SECOND,
 };
 use crate::mode::{Limits, Mode, STARTUP_TICKS};
+use crate::text::Form;
 
 const CELLS: [&str; 30] = [
     "startup one tick short",
@@ -41,9 +42,45 @@ const CELLS: [&str; 30] = [
     "no change with a threshold above every rail",
 ];
 
+/// What entering and leaving emergency leave alone.
+const KEPT: [&str; 7] = [
+    "ascii form",
+    "waiting reply",
+    "words",
+    "new words unread",
+    "settings off the store",
+    "shown save",
+    "overcurrent counts",
+];
+
+/// Where safety low lies when emergency is entered or left.
+const ORDERS: [&str; 3] =
+    ["below emergency low", "between the emergency thresholds", "above emergency high"];
+
+fn order(limits: &Limits) -> &'static str {
+    if limits.safety_low < limits.emergency_low {
+        ORDERS[0]
+    } else if limits.safety_low <= limits.emergency_high {
+        ORDERS[1]
+    } else {
+        ORDERS[2]
+    }
+}
+
 pub fn universe(coverage: &mut Coverage) {
     for cell in CELLS {
         coverage.add(format!("mode {cell}"));
+    }
+    for way in ["entering", "leaving"] {
+        for kept in KEPT {
+            coverage.add(format!("{way} emergency with {kept}"));
+        }
+        for what in ["no command", "an accepted command", "a refused command"] {
+            coverage.add(format!("{way} emergency in a tick with {what}"));
+        }
+        for order in ORDERS {
+            coverage.add(format!("{way} emergency with safety low {order}"));
+        }
     }
     let names = [
         "safety low -1",
@@ -105,6 +142,35 @@ impl Coverage {
             Mode::Emergency => self.see_emergency(tick, age, rail, &limits),
         }
         self.see_switches(tick, rail - limits.safety_low);
+        match (before.mode(), tick.mode) {
+            (Mode::Safety, Mode::Emergency) => self.see_emergency_edge("entering", tick),
+            (Mode::Emergency, Mode::Safety) => self.see_emergency_edge("leaving", tick),
+            _ => {}
+        }
+    }
+
+    fn see_emergency_edge(&mut self, way: &str, tick: &Ticked) {
+        let board = tick.before;
+        let stored = board.store().map(|store| store.settings);
+        let here = [
+            board.form() == Form::Ascii,
+            !board.waiting_reply().is_empty(),
+            board.words().iter().any(|word| *word != 0),
+            board.words_are_new,
+            stored.is_some_and(|stored| stored != *board.settings()),
+            board.shown().save_count != 0,
+            board.channels().counts().iter().any(|count| *count != 0),
+        ];
+        for (kept, _) in KEPT.iter().zip(here).filter(|(_, is)| *is) {
+            self.hit(format!("{way} emergency with {kept}"));
+        }
+        let what = match tick.answer {
+            '-' => "no command",
+            '0' => "an accepted command",
+            _ => "a refused command",
+        };
+        self.hit(format!("{way} emergency in a tick with {what}"));
+        self.hit(format!("{way} emergency with safety low {}", order(&limits(board))));
     }
 
     fn see_startup(&mut self, tick: &Ticked, age: u64, above_low: i32) {

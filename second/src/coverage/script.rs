@@ -21,6 +21,19 @@ const LINES: [(char, &[&str]); 8] = [
     ('S', &["ok", "bad", "before a board"]),
 ];
 
+/// Watchdogs by size: a short one, and those whose ticks are more than 8, 15
+/// and 16 bits hold.
+const SIZES: [&str; 4] = ["up to 3 s", "up to 327 s", "up to 655 s", "above 655 s"];
+
+fn size_of(seconds: u16) -> &'static str {
+    match seconds {
+        0..=3 => SIZES[0],
+        4..=327 => SIZES[1],
+        328..=655 => SIZES[2],
+        _ => SIZES[3],
+    }
+}
+
 /// One tick as the watcher sees it.
 pub struct Ticked<'a> {
     pub before: &'a Board,
@@ -117,6 +130,14 @@ fn event_universe(coverage: &mut Coverage) {
         for what in ["waiting", "words", "latches", "ascii form"] {
             coverage.add(format!("lost {what} {by}"));
         }
+    }
+    for event in ['P', 'W'] {
+        for size in SIZES {
+            coverage.add(format!("watchdog {event} {size}"));
+        }
+    }
+    for size in ["of 0 beyond 65535 ticks", "above 655 s beyond 65535 ticks"] {
+        coverage.add(format!("watchdog {size}"));
     }
     for count in ["power", "watchdog", "command", "age", "timer"] {
         coverage.add(format!("top {count}"));
@@ -224,7 +245,7 @@ impl Coverage {
             }
             Line::Read { length } => self.see_read(board, length),
             Line::Text { scratch, received } => {
-                self.see_text(board.form(), &bytes[..received], scratch, printed)
+                self.see_text(board, &bytes[..received], scratch, printed)
             }
             Line::Frame { length } => self.see_frame(board, before.latest(), length, printed),
         }
@@ -239,6 +260,8 @@ impl Coverage {
 
     fn see_read(&mut self, board: &Board, length: usize) {
         let waiting = board.waiting_reply().len();
+        let what = if waiting == 0 { "nothing" } else { "a reply" };
+        self.hit(format!("read in {} {what} waiting", char::from(board.mode().mode().letter())));
         self.hit(match length {
             0 => "read none".to_string(),
             _ if waiting == 0 => "read nothing waiting".to_string(),
@@ -351,6 +374,7 @@ impl Coverage {
             _ => tick.after.mode().mode(),
         };
         self.hit(format!("event {} {}", tick.event, char::from(mode.letter())));
+        self.see_timeout(tick);
         if tick.event == 'W' {
             if ('3'..='7').contains(&tick.answer) || tick.answer == '0' {
                 self.hit(format!("lost made W {}", tick.answer));
@@ -374,6 +398,18 @@ impl Coverage {
         }
     }
 
+    /// A tick with an event has not set the timeout: that would have fed the timer.
+    fn see_timeout(&mut self, tick: &Ticked) {
+        let seconds = tick.before.settings().watchdog_timeout();
+        if tick.event != '-' {
+            self.hit(format!("watchdog {} {}", tick.event, size_of(seconds)));
+        } else if tick.after.timer() > 65_535 && seconds == 0 {
+            self.hit("watchdog of 0 beyond 65535 ticks".to_string());
+        } else if tick.after.timer() > 65_535 {
+            self.hit("watchdog above 655 s beyond 65535 ticks".to_string());
+        }
+    }
+
     fn see_lost(&mut self, by: &str, tick: &Ticked) {
         let lost = [
             ("waiting", !tick.before.waiting_reply().is_empty()),
@@ -388,22 +424,27 @@ impl Coverage {
 }
 
 /// Rails that lie on and beside each threshold, and the ends of the type.
-pub fn rails(board: &Board) -> Vec<(String, i32)> {
-    let settings = board.settings();
-    let thresholds = [
-        ("safety low", settings.safety_low()),
-        ("safety high", settings.safety_high()),
-        ("emergency low", EMERGENCY_LOW),
-        ("emergency high", EMERGENCY_HIGH),
-    ];
-    let mut rails = Vec::new();
-    for (name, value) in thresholds {
-        for (offset, sign) in [(-1, "-1"), (0, "+0"), (1, "+1")] {
-            rails.push((format!("{name} {sign}"), i32::from(value) + offset));
-        }
-    }
-    for value in [-32768, -1, 0, 32767] {
-        rails.push((format!("{value}"), value));
-    }
-    rails
+pub fn rails(board: &Board) -> [(&'static str, i32); 16] {
+    let low = i32::from(board.settings().safety_low());
+    let high = i32::from(board.settings().safety_high());
+    let emergency_low = i32::from(EMERGENCY_LOW);
+    let emergency_high = i32::from(EMERGENCY_HIGH);
+    [
+        ("safety low -1", low - 1),
+        ("safety low +0", low),
+        ("safety low +1", low + 1),
+        ("safety high -1", high - 1),
+        ("safety high +0", high),
+        ("safety high +1", high + 1),
+        ("emergency low -1", emergency_low - 1),
+        ("emergency low +0", emergency_low),
+        ("emergency low +1", emergency_low + 1),
+        ("emergency high -1", emergency_high - 1),
+        ("emergency high +0", emergency_high),
+        ("emergency high +1", emergency_high + 1),
+        ("-32768", -32_768),
+        ("-1", -1),
+        ("0", 0),
+        ("32767", 32_767),
+    ]
 }

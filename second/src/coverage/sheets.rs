@@ -33,6 +33,7 @@ pub fn universe(coverage: &mut Coverage) {
     for fault in ["Bid", "NothingFitted", "ForcedNotFitted"] {
         coverage.add(format!("sheet refused 8 {fault}"));
     }
+    coverage.add("sheet refused 14 behind a bad profile".to_string());
     for size in ["65535", "65536", "65537"] {
         coverage.add(format!("sheet size {size}"));
     }
@@ -48,12 +49,24 @@ fn refused_14(part: Part, cause: Cause) -> String {
     format!("sheet refused 14 {part:?} {cause:?}")
 }
 
+/// Whether the five lines before the ticks, taken alone, are refused with 8.
+fn has_bad_profile(input: &[u8]) -> bool {
+    let lines: Vec<&[u8]> = input.split_inclusive(|byte| *byte == b'\n').take(5).collect();
+    let alone = [&lines.concat()[..], b"ticks 0\n"].concat();
+    matches!(sheet::run(&alone), Err(SheetRefusal::Profile(_)))
+}
+
 impl Coverage {
     pub fn see_sheet(&mut self, input: &[u8]) {
         self.hit_if_any(format!("sheet size {}", input.len().min(LONGEST_SHEET + 1)));
         match sheet::run(input) {
             Ok(transcript) => self.see_transcript(input, &transcript),
-            Err(SheetRefusal::Form(Fault { part, cause })) => self.hit(refused_14(part, cause)),
+            Err(SheetRefusal::Form(Fault { part, cause })) => {
+                self.hit(refused_14(part, cause));
+                if has_bad_profile(input) {
+                    self.hit("sheet refused 14 behind a bad profile".to_string());
+                }
+            }
             Err(SheetRefusal::Profile(fault)) => self.hit(format!("sheet refused 8 {fault:?}")),
         }
     }

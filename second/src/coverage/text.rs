@@ -59,6 +59,19 @@ pub fn universe(coverage: &mut Coverage) {
             }
         }
     }
+    for mode in ['U', 'N', 'F', 'E'] {
+        for form in ["raw", "ascii"] {
+            for found in ["command", "form", "refused"] {
+                coverage.add(format!("text in {mode} {form} {found}"));
+            }
+            for what in ["reply", "echo", "nothing"] {
+                coverage.add(format!("frame in {mode} {form} {what}"));
+            }
+        }
+        for waiting in ["a reply", "nothing"] {
+            coverage.add(format!("read in {mode} {waiting} waiting"));
+        }
+    }
     for found in RAW {
         coverage.add(format!("text raw {found}"));
     }
@@ -74,19 +87,25 @@ fn name(form: Form) -> &'static str {
     }
 }
 
+fn letter(board: &Board) -> char {
+    char::from(board.mode().mode().letter())
+}
+
 fn find(bytes: &[u8], tag: &[u8]) -> Option<usize> {
     bytes.windows(tag.len()).position(|window| window == tag)
 }
 
 impl Coverage {
-    pub fn see_text(&mut self, form: Form, received: &[u8], scratch: usize, printed: &[u8]) {
+    pub fn see_text(&mut self, board: &Board, received: &[u8], scratch: usize, printed: &[u8]) {
         let words: Vec<&[u8]> = printed.split(|byte| *byte == b' ').collect();
+        let what = String::from_utf8_lossy(words[0]);
+        self.hit(format!("text in {} {} {what}", letter(board), name(board.form())));
         let found = match (words[0], words[1]) {
             (b"command", _) => "command".to_string(),
             (b"form", to) => format!("switch to {}", String::from_utf8_lossy(to)),
             (_, number) => String::from_utf8_lossy(number).into_owned(),
         };
-        let form = name(form);
+        let form = name(board.form());
         let Some(start) = find(received, OPEN).map(|at| at + OPEN.len()) else {
             return self.hit(format!("text {form} 10 no opening tag"));
         };
@@ -146,6 +165,7 @@ impl Coverage {
         let whole = if what == "nothing" { 0 } else { body + 13 };
         let result = if printed.starts_with(b"written") { "written" } else { "refused" };
         self.hit(format!("frame {form} {what} {result}"));
+        self.hit(format!("frame in {} {form} {what}", letter(board)));
         if room == whole && room > 0 {
             self.hit(format!("frame {form} {what} exact"));
         }

@@ -265,6 +265,13 @@ pub fn status(author: &mut Author) {
     }
 }
 
+/// Every read-only value, those that must read 0 among them.
+pub fn all_read_only(author: &mut Author) {
+    for id in READ_ONLY.iter().flat_map(|row| row.first..=row.last) {
+        author.give(0x82, &id.to_le_bytes());
+    }
+}
+
 /// Saves, loads and defaults in every order, with checksum 0, right and wrong.
 pub fn saves(author: &mut Author) {
     author.reach(Mode::Nominal);

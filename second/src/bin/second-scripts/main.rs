@@ -1,15 +1,18 @@
 //! A seeded generator of replay scripts and session sheets.
 
 mod author;
+mod carry_scenes;
 mod channel_scenes;
 mod commands;
 mod damage;
 mod data_scenes;
+mod emergency_scenes;
 mod mode_scenes;
 mod reset_scenes;
 mod rng;
 mod sheets;
 mod starts;
+mod store_scenes;
 mod stretches;
 mod text_scenes;
 
@@ -21,7 +24,9 @@ use std::process::ExitCode;
 
 const USAGE: &str = "usage: second-scripts replay SEED LINES   a mixed script of about LINES lines
        second-scripts KIND SEED           one thing gone through: codes, parameters, text,
-                                          board, watchdog, damage, lingers, period or counts
+                                          board, watchdog, damage, stores, ranges, carries;
+                                          or one long stretch: lingers, period, counts,
+                                          emergency, timeouts, resets
        second-scripts sheet SEED          one session sheet
        second-scripts sheets SEED COUNT DIR";
 
@@ -136,6 +141,12 @@ fn go_through(kind: &str, author: &mut Author) -> Option<()> {
             author.say("B 06 FFFF0FFF 00F00F00");
             stretches::period(author);
         }
+        "stores" => store_scenes::all(author),
+        "ranges" => starts::stored_ends(author),
+        "carries" => carry_scenes::all(author),
+        "emergency" => emergency_scenes::all(author),
+        "timeouts" => stretches::timeouts(author),
+        "resets" => stretches::resets(author),
         "counts" => stretches::counts(author),
         _ => return None,
     }

@@ -129,6 +129,41 @@ const FAULTS: [Fault; 77] = [
     |d, r| spoil(d, r, |t, _| *t = t.replacen(' ', "  ", 1)),
 ];
 
+/// A bad profile with a fault of form behind it.
+const BOTH: [Fault; 10] = [
+    |d, _| (d.board, d.fitted_count) = ("board 0".to_string(), "fitted 33".to_string()),
+    |d, _| (d.board, d.fitted) = ("board 9".to_string(), format!("0{}", d.fitted)),
+    |d, r| {
+        d.board = "board 255".to_string();
+        rail(d, r, &["-0"]);
+    },
+    |d, _| (d.board, d.tail) = ("board 10".to_string(), "x".to_string()),
+    |d, _| {
+        d.board = "board 0".to_string();
+        cut_within(d, 6);
+    },
+    |d, r| {
+        (d.fitted_count, d.fitted, d.forced_count, d.forced) = nothing_fitted();
+        command(d, r, &["11  07", "1107", "."]);
+    },
+    |d, _| {
+        (d.fitted_count, d.fitted, d.forced_count, d.forced) = nothing_fitted();
+        d.tick_count = off_by(&d.tick_count, 1);
+    },
+    |d, r| {
+        spare_channel(d, r);
+        overcurrent(d, r, &["0000000", "0000000g"]);
+    },
+    |d, r| {
+        spare_channel(d, r);
+        d.tick_count = "ticks 4097".to_string();
+    },
+    |d, r| {
+        d.board = "board 9".to_string();
+        command(d, r, &[&["5a"; 257].join(" ")]);
+    },
+];
+
 fn nothing_fitted() -> (String, String, String, String) {
     ("fitted 0".to_string(), String::new(), "forced 0".to_string(), String::new())
 }
@@ -346,7 +381,7 @@ const SPECIAL: [fn(&mut Rng) -> Vec<u8>; 7] = [
 /// run of seeds as long as the list has one of each.
 pub fn sheet(seed: u64) -> Vec<u8> {
     let mut rng = Rng::new(seed);
-    let kinds = FAULTS.len() + SOUND + SPECIAL.len();
+    let kinds = SPECIAL.len() + SOUND + FAULTS.len() + BOTH.len();
     let kind = (seed % kinds as u64) as usize;
     if kind < SPECIAL.len() {
         return SPECIAL[kind](&mut rng);
@@ -357,6 +392,9 @@ pub fn sheet(seed: u64) -> Vec<u8> {
     }
     let ticks = rng.between(1, 5) as usize;
     let mut draft = sound(&mut rng, ticks);
-    FAULTS[kind - SPECIAL.len() - SOUND](&mut draft, &mut rng);
+    let mut faults = FAULTS.iter().chain(&BOTH);
+    if let Some(fault) = faults.nth(kind - SPECIAL.len() - SOUND) {
+        fault(&mut draft, &mut rng);
+    }
     cut(draft.text())
 }

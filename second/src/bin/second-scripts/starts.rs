@@ -17,6 +17,7 @@ pub fn start(author: &mut Author) {
         let count = rng.pick(&[0u16, 1, 7, 0x00FF, 0x0100, 0xFFFD, 0xFFFE, 0xFFFF]);
         let stored = stored(author);
         author.say(&format!("P {bid:02X} {fitted:08X} {forced:08X} {count:04X} {}", hex(&stored)));
+        author.show();
     } else {
         author.say(&format!("B {bid:02X} {fitted:08X} {forced:08X}"));
     }
@@ -36,7 +37,7 @@ fn stored(author: &mut Author) -> Vec<u8> {
     bytes
 }
 
-fn put(bytes: &mut [u8], id: u16, value: i64) {
+pub fn put(bytes: &mut [u8], id: u16, value: i64) {
     if let Some(place) = settings::find(id) {
         let size = place.row.kind.size();
         bytes[place.offset..place.offset + size].copy_from_slice(&value.to_le_bytes()[..size]);
@@ -60,6 +61,11 @@ pub fn edge_starts(author: &mut Author) {
         author.say(line);
     }
     author.show();
+    save_counts(author);
+}
+
+/// Stored values at the ends of each range and beside them.
+pub fn stored_ends(author: &mut Author) {
     for row in &ROWS {
         for value in [row.low - 1, row.low, row.high, row.high + 1] {
             if value < row.kind.lowest() || value > row.kind.highest() {
@@ -69,10 +75,13 @@ pub fn edge_starts(author: &mut Author) {
             let mut bytes = Settings::defaults().bytes().to_vec();
             put(&mut bytes, id, value);
             author.say(&format!("P 04 0000FF0F 00000101 {:04X} {}", id, hex(&bytes)));
+            if value >= row.low && value <= row.high {
+                author.show();
+                author.idle();
+                author.idle();
+            }
         }
     }
-    author.show();
-    save_counts(author);
 }
 
 /// Stored save counts at the top, saved once more.
@@ -80,6 +89,7 @@ fn save_counts(author: &mut Author) {
     for (bid, count) in [(1, 0), (5, 0xFFFDu16), (6, 0xFFFE), (7, 0xFFFF)] {
         let bytes = stored(author);
         author.say(&format!("P {bid:02X} 000F000F 00010001 {count:04X} {}", hex(&bytes)));
+        author.show();
         author.reach(Mode::Nominal);
         author.give(0x82, &[0x01, 0x48]);
         author.give(0x94, &[0xA7, 0, 0]);

@@ -148,3 +148,42 @@ pub fn counts(author: &mut Author) {
     author.give(0x42, &[]);
     author.show();
 }
+
+/// Watchdogs that are long: the default, one just above 32,767 ticks, one above
+/// 65,535 ticks, none at all, and the longest. Each is left alone.
+pub fn timeouts(author: &mut Author) {
+    author.say("B 08 0000FFFF 000000F0");
+    author.reach(Mode::Nominal);
+    idle_for(author, 30_100);
+    for (mode, seconds) in [(Mode::Nominal, 4), (Mode::Safety, 10), (Mode::Safety, 328)] {
+        author.reach(mode);
+        author.set(0x4000, seconds);
+        idle_for(author, usize::from(seconds) * 100 + 10);
+    }
+    for seconds in [700, 0, 65_535] {
+        author.reach(Mode::Nominal);
+        author.set(0x4000, seconds);
+        idle_for(author, 70_010);
+    }
+    commands::status(author);
+}
+
+fn idle_for(author: &mut Author, ticks: usize) {
+    for _ in 0..ticks {
+        author.idle();
+    }
+    author.show();
+}
+
+/// The command reset count to its top, each reset in the first tick that takes it.
+pub fn resets(author: &mut Author) {
+    author.say("B 01 00000001 00000000");
+    let reset = author.command(0xAA, &[0xA6]);
+    for _ in 0..65_537 {
+        for _ in 0..49 {
+            author.tick(0, 0, None);
+        }
+        author.tick(0, 0, Some(&reset));
+    }
+    author.show();
+}

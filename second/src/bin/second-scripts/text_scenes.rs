@@ -172,6 +172,35 @@ fn frame(author: &mut Author) {
     }
 }
 
+/// Some of each in both forms, short enough for every mode. It ends in the ASCII form.
+pub fn brief(author: &mut Author) {
+    for form in [Form::Raw, Form::Ascii] {
+        let text = spaced(&[0x11, 0x07, 0x02, author.board().bid()], &mut author.rng);
+        for scratch in [0, 3, 4, 6] {
+            receive(author, scratch, &framed(&text));
+        }
+        receive(author, 4, &framed(b"1107"));
+        receive(author, 4, &framed(b""));
+        receive(author, 2, &framed(&[b'1'; 257]));
+        receive(author, 2, b"<cmd>11 07");
+        author.say("F 0020");
+        switch(author, form);
+        author.say("F 0016");
+        author.say("F 001A");
+        author.give(0x02, &[]);
+        for room in [0, 0x11, 0x12, 0x1A, 0x1B] {
+            author.say(&format!("F {room:04X}"));
+        }
+        for length in [0, 4, 5, 7] {
+            author.say(&format!("R {length:04X}"));
+        }
+        author.idle();
+        author.say("F 0003");
+        author.say("R 0006");
+        author.show();
+    }
+}
+
 /// Every kind of read and framing in both forms.
 pub fn all(author: &mut Author) {
     for form in [Form::Raw, Form::Ascii] {

@@ -1,0 +1,151 @@
+//! Stored settings that move the mode or bite, saves with a wrong checksum, and
+//! the read-only values that must stay 0.
+
+use crate::author::{hex, Author};
+use crate::commands;
+use crate::data_scenes::lend;
+use crate::starts::put;
+use crate::text_scenes;
+use second::mode::Mode;
+use second::settings::Settings;
+use second::text::Form;
+
+pub fn all(author: &mut Author) {
+    low_above_every_rail(author);
+    all_three_stored(author);
+    ends_stored(author);
+    saved_and_loaded(author);
+    checksums(author);
+    unlike_the_store(author);
+    commands::all_read_only(author);
+    author.show();
+}
+
+fn start_with(author: &mut Author, save_count: u16, values: &[(u16, i64)]) {
+    let mut bytes = Settings::defaults().bytes().to_vec();
+    for (id, value) in values {
+        put(&mut bytes, *id, *value);
+    }
+    author.say(&format!("P 02 00FF00FF 00110011 {save_count:04X} {}", hex(&bytes)));
+    author.show();
+}
+
+fn run(author: &mut Author, rail: i16, ticks: usize) {
+    for _ in 0..ticks {
+        author.tick(rail, 0, None);
+    }
+}
+
+fn low_above_every_rail(author: &mut Author) {
+    start_with(author, 9, &[(0x4042, 40_000)]);
+    run(author, 32_767, 51);
+    let nominal = author.command(0x30, &[]);
+    author.tick(32_767, 0, Some(&nominal));
+    author.give(0x82, &[0x0D, 0x48]);
+    author.give(0x90, &[0xA7]);
+    author.give(0x92, &[0xA7]);
+    author.tick(32_767, 0, Some(&nominal));
+    author.give(0xAA, &[0xA6]);
+    author.show();
+    run(author, 32_767, 50);
+}
+
+fn all_three_stored(author: &mut Author) {
+    let stored = [(0x4042, 500), (0x4043, 5_000), (0x4000, 2)];
+    start_with(author, 0xABCD, &stored);
+    run(author, 500, 50);
+    run(author, 499, 1);
+    let nominal = author.command(0x30, &[]);
+    author.tick(499, 0, Some(&nominal));
+    author.tick(500, 0, Some(&nominal));
+    // The watchdog speaks up at 130 and alters nothing; at 200 it bites.
+    text_scenes::switch(author, Form::Ascii);
+    lend(author, 122);
+    let counts = author.command(0x42, &[]);
+    author.tick(500, 0x0011_0000, Some(&counts));
+    run(author, 500, 130);
+    author.show();
+    run(author, 500, 70);
+    author.show();
+    run(author, 500, 52);
+    author.give(0x82, &[0x0E, 0x48]);
+}
+
+fn ends_stored(author: &mut Author) {
+    for value in [0, 0x7FFF, 0x8000, 0xFFFF] {
+        start_with(author, value as u16, &[(0x4042, value), (0x4043, 1), (0x4000, value)]);
+        run(author, 32_767, 51);
+        start_with(author, 1, &[(0x4043, value)]);
+        run(author, 12_400, 51);
+    }
+}
+
+/// Each of the three changed, saved, reset and loaded.
+fn saved_and_loaded(author: &mut Author) {
+    author.say("B 04 0000FFFF 0000000F");
+    author.reach(Mode::Nominal);
+    // Nothing is stored yet: a load gives the defaults.
+    author.give(0x84, &[0x02, 0x10, 0x55]);
+    author.give(0x92, &[0xA7]);
+    author.show();
+    for (id, saved, after) in
+        [(0x4042, 300, 700), (0x4043, 70, 20_000), (0x4000, 1, 0), (0x4042, 13_000, 2)]
+    {
+        author.set(id, saved);
+        author.give(0x94, &[0xA7, 0, 0]);
+        author.set(id, after);
+        author.show();
+        author.give(0x92, &[0xA7]);
+        author.give(0x82, &id.to_le_bytes());
+        author.give(0x86, &id.to_le_bytes());
+        author.reach(Mode::Nominal);
+        author.set(id, after);
+        author.give(0xAA, &[0xA6]);
+        author.show();
+        author.reach(Mode::Nominal);
+    }
+    // The stored watchdog bites, and is there again after it.
+    run(author, 13_000, 101);
+    author.show();
+    run(author, 13_000, 49);
+    run(author, 12_999, 1);
+    author.give(0x90, &[0xA7]);
+    author.show();
+    run(author, 13_000, 101);
+}
+
+/// Nothing that a read-only value might show is 0 or like the store.
+fn unlike_the_store(author: &mut Author) {
+    author.reach(Mode::Nominal);
+    for (id, value) in [(0x4042, 11_000), (0x4043, 13_500), (0x4000, 55)] {
+        author.set(id, value);
+    }
+    author.give(0x10, &[0xFF; 4]);
+    lend(author, 122);
+    author.tick(12_000, 0x0000_0FF1, None);
+    let (channels, resets) = (author.board().channels(), author.board().resets());
+    assert!(channels.on() != 0 && channels.latched() != 0);
+    assert!(resets.watchdog != 0 && resets.command != 0);
+}
+
+/// Checksums that are nearly right: swapped, all ones, and the one shown where
+/// it is not the current one.
+fn checksums(author: &mut Author) {
+    author.reach(Mode::Nominal);
+    author.give(0x94, &[0xA7, 0, 0]);
+    author.give(0x84, &[0x03, 0x10, 0x21]);
+    let shown = author.board().shown().checksum;
+    let right = author.board().settings().checksum();
+    assert_ne!(right, right.swap_bytes(), "a swapped checksum must show");
+    assert_ne!(shown, right, "the shown checksum must be out of date");
+    let wrong = [shown, right.swap_bytes(), 0xFFFF, !right, right.wrapping_add(1), right & 0xFF];
+    for checksum in wrong {
+        author.give(0x94, &[&[0xA7][..], &checksum.to_le_bytes()].concat());
+    }
+    author.show();
+    author.give(0x94, &[&[0xA7][..], &right.to_le_bytes()].concat());
+    // A reset of one goes to the default, not to what is stored.
+    author.give(0x84, &[0x03, 0x10, 0x22]);
+    author.give(0x86, &[0x03, 0x10]);
+    author.give(0x84, &[0x04, 0x10, 0x23]);
+}
