@@ -36,6 +36,7 @@ fn never_spoken_to(author: &mut Author) {
     author.give(0x50, &[]);
     look(author);
     author.tick(UP, 0, None);
+    author.give(0xAA, &[0xA6]);
 }
 
 /// Counts, latches, a save and settings that differ from it; then safety up to
