@@ -9,7 +9,7 @@ use Rattle.command.specs.declared.Name.the-variants.{SystemReset, NoOper
 use Rattle.command.specs.declared.Listed.{Listed}
 use Rattle.command.specs.declared.Listed.the-variants.{Plain, Keyed, Missing}
 
--- a row: a code, the command of that code, the bytes it needs ("Write length"), and its key where it has one
+-- a row: a code, the command of that code, the bytes it needs, and its key where it has one
 infix 70 _is_of_bytes
 infix 70 _is_of_bytes-with-key_
 pub data Row : Type 0 where
@@ -23,9 +23,9 @@ base =
     ∷ 0x02 is NoOperation of 4 bytes  -- page 30
     ∷ 0x04 is CancelOperation of 4 bytes  -- page 31
     ∷ 0x06 is Watchdog of 4 bytes  -- page 32
-    ∷ 0x10 is GroupOn of 6 bytes  -- page 33, "6 or 8"
-    ∷ 0x12 is GroupOff of 6 bytes  -- page 34, "6 or 8"
-    ∷ 0x14 is GroupState of 6 bytes  -- page 35, "6 or 8"
+    ∷ 0x10 is GroupOn of 6 bytes  -- page 33, 6 or 8
+    ∷ 0x12 is GroupOff of 6 bytes  -- page 34, 6 or 8
+    ∷ 0x14 is GroupState of 6 bytes  -- page 35, 6 or 8
     ∷ 0x16 is ChannelOn of 5 bytes  -- page 36
     ∷ 0x18 is ChannelOff of 5 bytes  -- page 37
     ∷ 0x30 is SwitchToNominal of 4 bytes  -- page 38
@@ -33,7 +33,7 @@ base =
     ∷ 0x42 is GetOvercurrentFaultState of 4 bytes  -- page 43
     ∷ 0x50 is GetHousekeeping of 4 bytes  -- page 47
     ∷ 0x82 is GetParameter of 6 bytes  -- page 65
-    ∷ 0x84 is SetParameter of 6 bytes  -- page 66, "6 + 1-8 parameter value bytes"
+    ∷ 0x84 is SetParameter of 6 bytes  -- page 66, 6 and then the value's
     ∷ 0x86 is ResetParameter of 6 bytes  -- page 68
     ∷ 0x90 is ResetConfiguration of 5 bytes-with-key 0xA7  -- page 69
     ∷ 0x92 is LoadConfiguration of 5 bytes-with-key 0xA7  -- page 70

@@ -3,12 +3,12 @@ use mathlib.Core.Path.{_≡_, refl, sym, ap, _∙_}
 use mathlib.Core.Bool.{Bool, true, false, cond, _&&_}
 use mathlib.Core.List.{List, [], _∷_, map}
 use mathlib.Core.Logic.{⊎-elim}
-use Prim.Native.Nat.{ℕ, _+_, _-_, _*_, _≤_, _<_}
+use Prim.Native.Nat.{ℕ, _+_, _-_, _*_, _^_, _≤_, _<_}
 use native.Mathlib.Omega.{arith}
 use borrow.Author.Tests.{lt-ltb, le-ltb, le-leb, lt-leb}
 use lib.Dec.{leb, ltb}
 use Rattle.laws.proofs.Lists.{lt-or-le}
-use Rattle.watchdog.specs.Watchdog.{watchedOf}
+use Rattle.watchdog.specs.Watchdog.{risenOf, watchedOf}
 use Rattle.watchdog.specs.Report.{ReportAt}
 use Rattle.watchdog.specs.declared.Event.{Event}
 use Rattle.watchdog.specs.declared.Event.the-variants.{NoEvent, PeripheralReset, WatchdogReset}
@@ -54,3 +54,12 @@ once w a b p q = omega (arith, p .reached, p .only-now, q .reached, q .only-now)
 pub row-15 : map (λ timer. watchedOf timer 1000) (649 ∷ 650 ∷ 651 ∷ 999 ∷ 1000 ∷ []) ≡ NoEvent ∷ PeripheralReset ∷ NoEvent ∷ NoEvent ∷ WatchdogReset ∷ []
 unfolding watchedOf
 row-15 = refl
+
+-- the timer rises by 1 below its top, and stays there
+pub risen-rises : (timer : ℕ) → timer < 2 ^ 64 - 1 → risenOf timer ≡ timer + 1
+unfolding risenOf
+risen-rises timer h = omega arith
+
+pub risen-stops : risenOf (2 ^ 64 - 1) ≡ 2 ^ 64 - 1
+unfolding risenOf
+risen-stops = refl
