@@ -1,7 +1,7 @@
 // A transfer of any length and content to a command or a refusal, for the checks that need neither mode nor state.
 ghost use mathlib.Core.Path.{_≡_};
 ghost use Rattle.command.specs.Table.{base, find};
-ghost use Rattle.command.specs.Decode.{fewerThanFour, headerIs, groupIn, valuePart, getting, valued, setting, resetting, carried, listed, decodeOf};
+ghost use Rattle.command.specs.Decode.{fewerThanFour, headerIs, groupIn, getting, valued, setting, resetting, carried, listed, decodeOf};
 use settings::Parameter;
 use value::ParamValue;
 use value::Parsed;
@@ -153,17 +153,6 @@ fn group_in(transfer: &[u8]) -> Group
     }
 }
 
-// The bytes of a set command's value: those behind the id.
-fn value_part(transfer: &[u8]) -> &[u8]
-    ensures { λ r. ⌜ now r ≡ valuePart (now (transfer .entry)) ⌝ }
-{
-    if 6 < transfer.len() {
-        &transfer[6..]
-    } else {
-        &transfer[transfer.len()..]
-    }
-}
-
 // A get of a parameter, which may be read-only.
 fn get(id: u16) -> Decoded
     ensures { λ r. ⌜ r ≡ getting id ⌝ }
@@ -191,7 +180,7 @@ fn set(id: u16, transfer: &[u8]) -> Decoded
     ensures { λ r. ⌜ r ≡ setting id (now (transfer .entry)) ⌝ }
 {
     match settings::parameter_of(id) {
-        Parameter::ReadWrite(t) => set_to(id, value::read(t, value_part(transfer))),
+        Parameter::ReadWrite(t) => set_to(id, value::read(t, wire::rest(transfer, 6))),
         Parameter::ReadOnly(_) => Decoded::Refused(Refusal::WrongParameter),
         Parameter::Unknown => Decoded::Refused(Refusal::WrongParameter),
     }

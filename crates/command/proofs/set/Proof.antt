@@ -1,5 +1,5 @@
 -- What the id is decides before the value is read.
-use Rattle.command.specs.Decode.{setting}
+use Rattle.command.specs.Decode.{setting, valuePart}
 use mathlib.Core.Path.{sym, _∙_}
 use borrow.Author.Needs.{needs}
 use Rattle.command.proofs.set.Statement.{statement}
@@ -11,8 +11,8 @@ parameter-of-requires c κs = search needs
 enum-known-t : tie.Need-enum-known-t
 enum-known-t c = search needs
 
-value-part-requires : tie.Need-value-part-requires
-value-part-requires c κs = search needs
+rest-requires : tie.Need-rest-requires
+rest-requires c κs = search needs
 
 read-requires : tie.Need-read-requires
 read-requires c κs = search needs
@@ -27,15 +27,15 @@ enum-told-2 : tie.Need-enum-told-2
 enum-told-2 c = search needs
 
 returns : tie.Need-returns
-unfolding setting
-returns c = rw (sym (c .before .before .before .before .before .before .parameter-of .ensures) ∙ c .before .before .before .before .t .given .1, c .set-to .ensures, c .before .read .ensures, c .before .before .value-part .ensures)
+unfolding setting valuePart
+returns c = rw (sym (c .before .before .before .before .before .before .parameter-of .ensures) ∙ c .before .before .before .before .t .given .1, c .set-to .ensures, c .before .read .ensures, c .before .before .rest .ensures)
 
 returns-2 : tie.Need-returns-2
-unfolding setting
+unfolding setting valuePart
 returns-2 c = rw (sym (c .before .before .parameter-of .ensures) ∙ c .enum-told .given .1)
 
 returns-3 : tie.Need-returns-3
-unfolding setting
+unfolding setting valuePart
 returns-3 c = rw (sym (c .before .before .parameter-of .ensures) ∙ c .enum-told2 .given .1)
 
 pub set-spec : {M : Type 1} → statement M
@@ -44,7 +44,7 @@ set-spec =
     (tie.spec
     parameter-of-requires
     enum-known-t
-    value-part-requires
+    rest-requires
     read-requires
     set-to-requires
     enum-told
