@@ -130,6 +130,7 @@ pub struct Board {
 }
 
 impl Board {
+    /// The board that a profile starts, or why the profile is refused.
     pub fn start(profile: &Profile) -> Result<Board, ProfileFault> {
         let store = check(profile)?;
         let mut board = Board {
@@ -166,6 +167,7 @@ impl Board {
         Ok(Told { event, answer })
     }
 
+    /// Step 1: the age and the timer rise, and words brought take the place of the last.
     fn rise(&mut self, words: &[u16]) {
         self.mode.rise();
         self.timer = self.timer.saturating_add(1);
@@ -175,6 +177,7 @@ impl Board {
         }
     }
 
+    /// Step 2: one change by the table at most.
     fn change_mode(&mut self, rail: i16) {
         let before = self.mode.mode();
         let limits = self.limits();
@@ -201,7 +204,8 @@ impl Board {
         }
     }
 
-    fn limits(&self) -> Limits {
+    /// What the mode table compares with, as the settings stand.
+    pub(crate) fn limits(&self) -> Limits {
         Limits {
             safety_low: i32::from(self.settings.safety_low()),
             safety_high: i32::from(self.settings.safety_high()),
@@ -212,6 +216,7 @@ impl Board {
         }
     }
 
+    /// Step 5: what the watchdog does, a reset of the board included.
     fn watch(&mut self) -> Event {
         let timeout = u64::from(self.settings.watchdog_timeout()) * TICKS_PER_SECOND;
         let event = judge(self.timer, timeout);
@@ -248,6 +253,7 @@ impl Board {
         }
     }
 
+    /// The defaults, with nothing to show as saved.
     pub(crate) fn take_defaults(&mut self) {
         self.settings = Settings::defaults();
         self.shown = Shown::default();
@@ -278,54 +284,67 @@ impl Board {
         }
     }
 
+    /// The reply that the latest tick made and that still waits.
     pub fn reply_of_tick(&self) -> Option<&[u8]> {
         self.replied.then(|| self.reply.bytes())
     }
 
+    /// The bytes of the reply that waits, none of them where none does.
     pub fn waiting_reply(&self) -> &[u8] {
         self.reply.bytes()
     }
 
+    /// The number of the board.
     pub fn bid(&self) -> u8 {
         self.bid
     }
 
+    /// The mode and its age.
     pub fn mode(&self) -> ModeAge {
         self.mode
     }
 
+    /// The watchdog timer, in ticks.
     pub fn timer(&self) -> u64 {
         self.timer
     }
 
+    /// The output channels.
     pub fn channels(&self) -> &Channels {
         &self.channels
     }
 
+    /// The settings in force.
     pub fn settings(&self) -> &Settings {
         &self.settings
     }
 
+    /// What the two read-only values of a save show.
     pub fn shown(&self) -> Shown {
         self.shown
     }
 
+    /// What is stored, if anything is.
     pub fn store(&self) -> Option<&Store> {
         self.store.as_ref()
     }
 
+    /// What the last reset came from.
     pub fn cause(&self) -> Cause {
         self.cause
     }
 
+    /// The three reset counts.
     pub fn resets(&self) -> ResetCounts {
         self.resets
     }
 
+    /// The measured words, as they last came.
     pub fn words(&self) -> &[u16; WORDS] {
         &self.words
     }
 
+    /// The form of the text line.
     pub fn form(&self) -> Form {
         self.form
     }
@@ -365,13 +384,14 @@ fn judge(timer: u64, timeout: u64) -> Event {
     }
 }
 
-/// Tops that no script of a sensible length drives up to.
+/// Tops, among them those that no script of a sensible length drives up to.
 #[cfg(test)]
 mod tests {
     use super::*;
 
     const HIGH: i16 = 15_000;
 
+    /// A board that has just left startup for nominal.
     fn nominal() -> Board {
         let profile = Profile { bid: 1, fitted: 3, forced: 1, stored: None };
         let mut board = Board::start(&profile).unwrap();
@@ -381,6 +401,7 @@ mod tests {
         board
     }
 
+    /// One tick without overcurrent and words.
     fn run(board: &mut Board, rail: i16, command: Option<&[u8]>) -> Told {
         board.tick(&Tick { rail, overcurrent: 0, words: &[], command }).unwrap()
     }

@@ -17,18 +17,22 @@ impl Channels {
         Channels { fitted, forced, on: 0, latched: 0, counts: [0; CHANNELS] }
     }
 
+    /// The channels that are there.
     pub fn fitted(&self) -> u32 {
         self.fitted
     }
 
+    /// The channels that no command turns off.
     pub fn forced(&self) -> u32 {
         self.forced
     }
 
+    /// The channels that are on.
     pub fn on(&self) -> u32 {
         self.on
     }
 
+    /// The channels that an overcurrent turned off and that nothing has cleared since.
     pub fn latched(&self) -> u32 {
         self.latched
     }
@@ -38,10 +42,12 @@ impl Channels {
         &self.counts
     }
 
+    /// The channels that commands turn on and off.
     fn commandable(&self) -> u32 {
         self.fitted & !self.forced
     }
 
+    /// All off, no latch, no count.
     pub fn reset(&mut self) {
         self.on = 0;
         self.latched = 0;
@@ -77,12 +83,14 @@ impl Channels {
         }
     }
 
+    /// Fitted channels in the mask come on, latches cleared.
     pub fn group_on(&mut self, mask: u32) {
         let named = mask & self.fitted;
         self.on |= named;
         self.latched &= !named;
     }
 
+    /// Command-enabled channels in the mask go off, latches cleared.
     pub fn group_off(&mut self, mask: u32) {
         let named = mask & self.commandable();
         self.on &= !named;
@@ -96,18 +104,22 @@ impl Channels {
         self.group_on(mask & reach);
     }
 
+    /// Whether there is such a channel.
     pub fn is_fitted(&self, index: u8) -> bool {
         bit(index) & self.fitted != 0
     }
 
+    /// Whether there is such a channel and commands turn it off.
     pub fn is_commandable(&self, index: u8) -> bool {
         bit(index) & self.commandable() != 0
     }
 
+    /// The same as a group of this one.
     pub fn channel_on(&mut self, index: u8) {
         self.group_on(bit(index));
     }
 
+    /// The same as a group of this one.
     pub fn channel_off(&mut self, index: u8) {
         self.group_off(bit(index));
     }

@@ -59,16 +59,19 @@ impl Board {
         Answer::Accepted
     }
 
+    /// Makes the reply of a refusal and hands the answer on.
     fn refuse(&mut self, code: u8, answer: Answer) -> Answer {
         self.reply_with(code, status(answer), HEAD);
         answer
     }
 
+    /// Completes the reply with its head; it waits from now on.
     fn reply_with(&mut self, code: u8, stat: u8, length: usize) {
         self.reply.finish([STID, IVID, code | 1, self.bid, stat], length);
         self.replied = true;
     }
 
+    /// Checks 4 to 7, then the effect; tells how the command ends.
     fn carry_out(&mut self, code: u8, command: &[u8], rail: i16) -> Result<Done, Answer> {
         need(command, needed(code).ok_or(Answer::UnknownCode)?)?;
         match code {
@@ -89,6 +92,7 @@ impl Board {
         }
     }
 
+    /// 0xAA
     fn system_reset(&mut self, key: u8) -> Result<Done, Answer> {
         if key != RESET_KEY {
             return Err(Answer::Invalid);
@@ -98,11 +102,13 @@ impl Board {
         Ok(Done::Reset)
     }
 
+    /// 0x04
     fn cancel(&mut self) -> Result<Done, Answer> {
         self.channels.drop_commandable();
         PLAIN
     }
 
+    /// Check 6 of the channel commands.
     fn only_in_nominal(&self) -> Result<(), Answer> {
         if self.mode.mode() == Mode::Nominal {
             Ok(())
@@ -111,6 +117,7 @@ impl Board {
         }
     }
 
+    /// 0x10, 0x12 and 0x14
     fn group(&mut self, code: u8, command: &[u8]) -> Result<Done, Answer> {
         self.only_in_nominal()?;
         let (mask, reach) = group_mask(command);
@@ -122,6 +129,7 @@ impl Board {
         PLAIN
     }
 
+    /// 0x16 and 0x18
     fn single(&mut self, code: u8, index: u8) -> Result<Done, Answer> {
         self.only_in_nominal()?;
         if code == 0x16 {
@@ -138,6 +146,7 @@ impl Board {
         PLAIN
     }
 
+    /// 0x30
     fn switch_to_nominal(&mut self, rail: i16) -> Result<Done, Answer> {
         match self.mode.mode() {
             Mode::Nominal => PLAIN,
@@ -149,6 +158,7 @@ impl Board {
         }
     }
 
+    /// 0x32
     fn switch_to_safety(&mut self) -> Result<Done, Answer> {
         match self.mode.mode() {
             Mode::Nominal => {
@@ -161,6 +171,7 @@ impl Board {
         }
     }
 
+    /// 0x42
     fn overcurrent_state(&mut self) -> Result<Done, Answer> {
         self.put_channel_sets(6);
         for (channel, count) in self.channels.counts().iter().enumerate() {
@@ -169,11 +180,13 @@ impl Board {
         Ok(Done::Reply(COUNTS_AT + 2 * CHANNELS))
     }
 
+    /// Puts the channels that are on and those that are latched into the reply.
     fn put_channel_sets(&mut self, at: usize) {
         self.reply.put_channels(at, self.channels.on());
         self.reply.put_channels(at + 4, self.channels.latched());
     }
 
+    /// 0x50
     fn housekeeping(&mut self) -> Result<Done, Answer> {
         self.put_words(WORDS_AT, 0..EARLY_WORDS);
         self.put_channel_sets(HOUSEKEEPING_CHANNELS_AT);
@@ -183,12 +196,14 @@ impl Board {
         Ok(if new { Done::Reply(LONGEST) } else { Done::Stale(LONGEST) })
     }
 
+    /// Puts some of the measured words into the reply.
     fn put_words(&mut self, at: usize, which: Range<usize>) {
         for (i, word) in self.words[which].iter().enumerate() {
             self.reply.put_word(at + 2 * i, *word);
         }
     }
 
+    /// 0x82
     fn get_parameter(&mut self, id: u16) -> Result<Done, Answer> {
         if let Some(place) = settings::find(id) {
             return self.parameter_reply(id, &place);
@@ -198,6 +213,7 @@ impl Board {
         Ok(self.value_reply(id, kind, value))
     }
 
+    /// 0x84 from the check of its id on.
     fn set_parameter(&mut self, id: u16, command: &[u8]) -> Result<Done, Answer> {
         let place = settings::find(id).ok_or(Answer::Invalid)?;
         let value = &command[ID_END..];
@@ -206,6 +222,7 @@ impl Board {
         self.parameter_reply(id, &place)
     }
 
+    /// 0x86
     fn reset_parameter(&mut self, id: u16) -> Result<Done, Answer> {
         let place = settings::find(id).ok_or(Answer::Invalid)?;
         self.settings.reset(&place);
@@ -220,6 +237,7 @@ impl Board {
         Ok(self.value_reply(id, place.row.kind, value))
     }
 
+    /// Puts an id and its value into the reply.
     fn value_reply(&mut self, id: u16, kind: Kind, value: [u8; 4]) -> Done {
         self.reply.put_word(ID_AT, id);
         self.reply.put(VALUE_AT, &value[..kind.size()]);
@@ -250,6 +268,7 @@ impl Board {
         }
     }
 
+    /// 0x90 and 0x92
     fn defaults_or_load(&mut self, code: u8, key: u8) -> Result<Done, Answer> {
         if key != CONFIGURATION_KEY {
             return Err(Answer::Invalid);
@@ -262,6 +281,7 @@ impl Board {
         PLAIN
     }
 
+    /// 0x94
     fn save(&mut self, command: &[u8]) -> Result<Done, Answer> {
         let given = u16::from_le_bytes([command[5], command[6]]);
         let checksum = self.settings.checksum();
@@ -292,6 +312,7 @@ fn needed(code: u8) -> Option<usize> {
     }
 }
 
+/// Check 5 for this many bytes.
 fn need(bytes: &[u8], length: usize) -> Result<(), Answer> {
     if bytes.len() < length {
         Err(Answer::Missing)
@@ -300,6 +321,7 @@ fn need(bytes: &[u8], length: usize) -> Result<(), Answer> {
     }
 }
 
+/// The id of a parameter command that is long enough.
 fn id_of(command: &[u8]) -> u16 {
     u16::from_le_bytes([command[4], command[5]])
 }

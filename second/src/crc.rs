@@ -6,6 +6,7 @@ const START: u16 = 0xFFFF;
 /// The remainder of each byte value, so that a save costs one look-up a byte.
 const TABLE: [u16; 256] = table();
 
+/// The remainders, computed before the program runs.
 const fn table() -> [u16; 256] {
     let mut table = [0; 256];
     let mut byte = 0;
@@ -16,6 +17,7 @@ const fn table() -> [u16; 256] {
     table
 }
 
+/// What eight steps make of the register.
 const fn remainder(mut rest: u16) -> u16 {
     let mut bit = 0;
     while bit < 8 {
@@ -25,6 +27,7 @@ const fn remainder(mut rest: u16) -> u16 {
     rest
 }
 
+/// The checksum of these bytes.
 pub fn checksum(bytes: &[u8]) -> u16 {
     bytes.iter().fold(START, |sum, byte| (sum << 8) ^ TABLE[usize::from((sum >> 8) as u8 ^ byte)])
 }

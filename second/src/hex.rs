@@ -53,6 +53,7 @@ pub fn spaced_length(text: &[u8]) -> Option<usize> {
     well_formed.then_some(spaced_count(text.len()))
 }
 
+/// The bytes that a text of this many characters stands for.
 fn spaced_count(length: usize) -> usize {
     (length + 1) / 3
 }

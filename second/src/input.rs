@@ -23,6 +23,7 @@ pub struct Lines<R> {
 }
 
 impl<R: Read> Lines<R> {
+    /// The lines of a stream, each kept up to this many bytes.
     pub fn new(source: R, limit: usize) -> Lines<R> {
         Lines { source, limit, chunk: vec![0; CHUNK], start: 0, end: 0 }
     }
@@ -52,6 +53,7 @@ impl<R: Read> Lines<R> {
         }
     }
 
+    /// Reads the next chunk; tells whether there was one.
     fn refill(&mut self) -> io::Result<bool> {
         self.start = 0;
         self.end = read_some(&mut self.source, &mut self.chunk)?;
@@ -59,6 +61,7 @@ impl<R: Read> Lines<R> {
     }
 }
 
+/// Reads what is there, however often a signal comes between.
 fn read_some(source: &mut impl Read, buffer: &mut [u8]) -> io::Result<usize> {
     loop {
         match source.read(buffer) {
@@ -84,6 +87,7 @@ pub fn read_up_to(source: &mut impl Read, buffer: &mut [u8]) -> io::Result<usize
 mod tests {
     use super::*;
 
+    /// Every piece of an input.
     fn pieces(input: &[u8], limit: usize) -> Vec<(Piece, Vec<u8>)> {
         let mut lines = Lines::new(input, limit);
         let mut line = Vec::new();

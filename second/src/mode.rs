@@ -9,6 +9,7 @@ pub enum Mode {
 }
 
 impl Mode {
+    /// The letter that stands for the mode.
     pub fn letter(self) -> u8 {
         match self {
             Mode::Startup => b'U',
@@ -47,14 +48,17 @@ pub struct ModeAge {
 }
 
 impl ModeAge {
+    /// A mode that begins now.
     pub const fn new(mode: Mode) -> ModeAge {
         ModeAge { mode, age: 0 }
     }
 
+    /// The mode.
     pub fn mode(&self) -> Mode {
         self.mode
     }
 
+    /// The ticks since the mode began.
     pub fn age(&self) -> u64 {
         self.age
     }
@@ -64,6 +68,7 @@ impl ModeAge {
         self.age = self.age.saturating_add(1);
     }
 
+    /// Begins a mode.
     pub fn enter(&mut self, mode: Mode) {
         *self = ModeAge::new(mode);
     }
@@ -79,6 +84,7 @@ impl ModeAge {
         }
     }
 
+    /// The mode that the table leads to, if it leads anywhere.
     fn next(&self, rail: i32, limits: &Limits) -> Option<Mode> {
         match self.mode {
             Mode::Startup if self.age >= STARTUP_TICKS => Some(after_startup(rail, limits)),
@@ -93,6 +99,7 @@ impl ModeAge {
     }
 }
 
+/// Where startup ends.
 fn after_startup(rail: i32, limits: &Limits) -> Mode {
     if rail >= limits.safety_low {
         Mode::Nominal

@@ -55,6 +55,7 @@ pub fn parse(line: &[u8], bytes: &mut Bytes) -> Option<Line> {
     }
 }
 
+/// The fields of `B`, and with room for stored values those of `P`.
 fn parse_start<'a>(
     fields: &mut impl Iterator<Item = &'a [u8]>,
     stored: Option<&mut Bytes>,
@@ -75,12 +76,14 @@ fn parse_start<'a>(
     Some(Line::Start { bid, fitted, forced, save_count })
 }
 
+/// The fields of `W`.
 fn parse_words<'a>(fields: &mut impl Iterator<Item = &'a [u8]>, bytes: &mut Bytes) -> Option<Line> {
     let count = size(fields.next()?, MOST_WORDS)?;
     let length = byte_string(fields.next()?, bytes)?;
     (length == 2 * count).then_some(Line::Words { count })
 }
 
+/// The fields of `T`.
 fn parse_tick<'a>(fields: &mut impl Iterator<Item = &'a [u8]>, bytes: &mut Bytes) -> Option<Line> {
     let rail = hex::number(fields.next()?, 4)? as u16 as i16;
     let overcurrent = hex::number(fields.next()?, 8)?;
@@ -92,12 +95,14 @@ fn parse_tick<'a>(fields: &mut impl Iterator<Item = &'a [u8]>, bytes: &mut Bytes
     Some(Line::Tick { rail, overcurrent, command })
 }
 
+/// The fields of `L`.
 fn parse_text<'a>(fields: &mut impl Iterator<Item = &'a [u8]>, bytes: &mut Bytes) -> Option<Line> {
     let scratch = size(fields.next()?, MOST_SCRATCH)?;
     let received = byte_string(fields.next()?, bytes)?;
     Some(Line::Text { scratch, received })
 }
 
+/// A number of four digits up to a limit.
 fn size(digits: &[u8], most: usize) -> Option<usize> {
     let size = hex::number(digits, 4)? as usize;
     (size <= most).then_some(size)
@@ -132,24 +137,29 @@ pub struct Replay {
 }
 
 impl Default for Replay {
+    /// The same as `new`.
     fn default() -> Replay {
         Replay::new()
     }
 }
 
 impl Replay {
+    /// A script that has not begun.
     pub fn new() -> Replay {
         Replay { board: None, lent: [0; MOST_WORDS], lent_count: 0, latest: Latest::Tick }
     }
 
+    /// The board, once one was started.
     pub fn board(&self) -> Option<&Board> {
         self.board.as_ref()
     }
 
+    /// The words that wait for the next tick line.
     pub fn lent(&self) -> &[u16] {
         &self.lent[..self.lent_count]
     }
 
+    /// What a framing would frame.
     pub fn latest(&self) -> Latest {
         self.latest
     }
@@ -163,6 +173,7 @@ impl Replay {
         }
     }
 
+    /// Takes one line of a form and appends the one it prints, without its LF.
     pub fn run(&mut self, line: &Line, bytes: &Bytes, out: &mut Vec<u8>) {
         if let Line::Start { bid, fitted, forced, save_count } = *line {
             let stored = save_count.zip(bytes.first_chunk());
@@ -193,6 +204,7 @@ impl Replay {
         }
     }
 
+    /// `B` and `P`.
     fn start(&mut self, profile: &Profile, out: &mut Vec<u8>) {
         match Board::start(profile) {
             Ok(board) => {
@@ -204,6 +216,7 @@ impl Replay {
         }
     }
 
+    /// `W`.
     fn lend(&mut self, bytes: &[u8], out: &mut Vec<u8>) {
         for (word, pair) in self.lent.iter_mut().zip(bytes.chunks_exact(2)) {
             *word = u16::from_be_bytes([pair[0], pair[1]]);
@@ -239,16 +252,19 @@ fn tick(board: &mut Board, tick: &Tick, out: &mut Vec<u8>) -> bool {
     true
 }
 
+/// Appends a space and a number of this many digits.
 fn push_field(out: &mut Vec<u8>, value: u64, width: u32) {
     out.push(b' ');
     hex::push_number(out, value, width);
 }
 
+/// Appends a space and bytes.
 fn push_string(out: &mut Vec<u8>, bytes: &[u8]) {
     out.push(b' ');
     hex::push_bytes(out, bytes);
 }
 
+/// `R`.
 fn bus_read(board: &Board, length: usize, out: &mut Vec<u8>) {
     let mut buffer = [UNTOUCHED; MOST_READ];
     board.read(&mut buffer[..length]);
@@ -282,11 +298,13 @@ fn read_text(
     switched
 }
 
+/// Appends what was found and a number of four digits.
 fn push_place(out: &mut Vec<u8>, what: &str, place: usize) {
     out.extend_from_slice(what.as_bytes());
     push_field(out, place as u64, 4);
 }
 
+/// `F`.
 fn frame(board: &Board, latest: Latest, length: usize, out: &mut Vec<u8>) {
     let mut buffer = [UNTOUCHED; MOST_FRAME];
     let lent = &mut buffer[..length];
@@ -301,6 +319,7 @@ fn frame(board: &Board, latest: Latest, length: usize, out: &mut Vec<u8>) {
     push_string(out, &buffer[..length]);
 }
 
+/// `S`.
 fn show(board: &Board, out: &mut Vec<u8>) {
     out.push(if board.form() == Form::Raw { b'R' } else { b'A' });
     push_field(out, board.cause() as u64, 2);
@@ -320,6 +339,7 @@ fn show(board: &Board, out: &mut Vec<u8>) {
     push_string(out, board.waiting_reply());
 }
 
+/// Appends a space and words of four digits each.
 fn push_words(out: &mut Vec<u8>, words: &[u16]) {
     out.push(b' ');
     for word in words {

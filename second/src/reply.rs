@@ -15,27 +15,33 @@ pub struct Reply {
 }
 
 impl Reply {
+    /// No reply waits.
     pub const fn none() -> Reply {
         Reply { bytes: [0; LONGEST], length: 0 }
     }
 
+    /// Drops the reply that waits.
     pub fn discard(&mut self) {
         self.length = 0;
     }
 
+    /// The bytes of the reply that waits.
     pub fn bytes(&self) -> &[u8] {
         &self.bytes[..self.length]
     }
 
+    /// Puts the head in place; the reply has this many bytes and waits.
     pub fn finish(&mut self, head: [u8; HEAD], length: usize) {
         self.bytes[..HEAD].copy_from_slice(&head);
         self.length = length;
     }
 
+    /// Puts bytes in their place.
     pub fn put(&mut self, at: usize, bytes: &[u8]) {
         self.bytes[at..at + bytes.len()].copy_from_slice(bytes);
     }
 
+    /// Puts a word in its place, low byte first.
     pub fn put_word(&mut self, at: usize, word: u16) {
         self.put(at, &word.to_le_bytes());
     }

@@ -16,6 +16,7 @@ pub enum Kind {
 }
 
 impl Kind {
+    /// The bytes of a value.
     pub const fn size(self) -> usize {
         match self {
             Kind::Int8 | Kind::Uint8 => 1,
@@ -24,6 +25,7 @@ impl Kind {
         }
     }
 
+    /// The lowest value of the type.
     pub const fn lowest(self) -> i64 {
         match self {
             Kind::Int8 => i8::MIN as i64,
@@ -32,6 +34,7 @@ impl Kind {
         }
     }
 
+    /// The highest value of the type.
     pub const fn highest(self) -> i64 {
         match self {
             Kind::Int8 => i8::MAX as i64,
@@ -69,19 +72,23 @@ pub struct Row {
     pub high: i64,
 }
 
+/// A row without a range of its own.
 const fn row(first: u16, last: u16, kind: Kind, default: i64) -> Row {
     Row { first, last, kind, default, low: kind.lowest(), high: kind.highest() }
 }
 
 impl Row {
+    /// The same row with a lowest value.
     const fn from(self, low: i64) -> Row {
         Row { low, ..self }
     }
 
+    /// The same row with a highest value.
     const fn up_to(self, high: i64) -> Row {
         Row { high, ..self }
     }
 
+    /// How many ids the row has.
     const fn count(&self) -> usize {
         (self.last - self.first) as usize + 1
     }
@@ -139,6 +146,7 @@ pub fn read_only_kind(id: u16) -> Option<Kind> {
 /// All read/write values together.
 pub const SIZE: usize = size_of_rows();
 
+/// The bytes of all rows.
 const fn size_of_rows() -> usize {
     let mut size = 0;
     let mut i = 0;
@@ -188,6 +196,7 @@ const SAFETY_HIGH_AT: usize = offset_of(SAFETY_HIGH);
 
 const DEFAULTS: [u8; SIZE] = defaults();
 
+/// The bytes of all defaults.
 const fn defaults() -> [u8; SIZE] {
     let mut bytes = [0; SIZE];
     let mut offset = 0;
@@ -204,6 +213,7 @@ const fn defaults() -> [u8; SIZE] {
     bytes
 }
 
+/// Puts the low bytes of a value in their place.
 const fn put(bytes: &mut [u8; SIZE], offset: usize, size: usize, value: i64) {
     let wire = value.to_le_bytes();
     let mut i = 0;
@@ -220,6 +230,7 @@ pub struct Settings {
 }
 
 impl Settings {
+    /// The values of a board that has nothing stored.
     pub const fn defaults() -> Settings {
         Settings { bytes: DEFAULTS }
     }
@@ -230,6 +241,7 @@ impl Settings {
         settings.in_range().then_some(settings)
     }
 
+    /// Whether every value lies in its range.
     fn in_range(&self) -> bool {
         let mut offset = 0;
         for row in &ROWS {
@@ -244,6 +256,7 @@ impl Settings {
         true
     }
 
+    /// The wire bytes of all values.
     pub fn bytes(&self) -> &[u8; SIZE] {
         &self.bytes
     }
@@ -260,14 +273,17 @@ impl Settings {
         put(&mut self.bytes, place.offset, row.kind.size(), value);
     }
 
+    /// Puts one value back to its default.
     pub fn reset(&mut self, place: &Place) {
         put(&mut self.bytes, place.offset, place.row.kind.size(), place.row.default);
     }
 
+    /// The checksum over all values.
     pub fn checksum(&self) -> u16 {
         crc::checksum(&self.bytes)
     }
 
+    /// The 16-bit value at this place.
     fn uint16(&self, offset: usize) -> u16 {
         u16::from_le_bytes([self.bytes[offset], self.bytes[offset + 1]])
     }
@@ -277,10 +293,12 @@ impl Settings {
         self.uint16(WATCHDOG_AT)
     }
 
+    /// In millivolts.
     pub fn safety_low(&self) -> u16 {
         self.uint16(SAFETY_LOW_AT)
     }
 
+    /// In millivolts.
     pub fn safety_high(&self) -> u16 {
         self.uint16(SAFETY_HIGH_AT)
     }

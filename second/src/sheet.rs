@@ -95,6 +95,7 @@ pub fn run(input: &[u8]) -> Result<Vec<u8>, SheetRefusal> {
     Ok(transcript(board, &sheet, input))
 }
 
+/// What a sound sheet prints.
 fn transcript(mut board: Board, sheet: &Sheet, input: &[u8]) -> Vec<u8> {
     let mut out = format!("ticks {}\n", sheet.ticks.len()).into_bytes();
     let mut command = [0; LONGEST_COMMAND];
@@ -108,12 +109,14 @@ fn transcript(mut board: Board, sheet: &Sheet, input: &[u8]) -> Vec<u8> {
     out
 }
 
+/// The bytes of a command that was found to be of the form.
 fn decode<'a>(text: &[u8], command: &'a mut [u8; LONGEST_COMMAND]) -> &'a [u8] {
     let length = hex::spaced_length(text).unwrap_or(0);
     hex::decode_spaced(text, &mut command[..length]);
     &command[..length]
 }
 
+/// Appends the line of one tick.
 fn push_tick(out: &mut Vec<u8>, number: usize, board: &Board) {
     out.extend_from_slice(number.to_string().as_bytes());
     out.push(b' ');
@@ -130,12 +133,14 @@ fn push_tick(out: &mut Vec<u8>, number: usize, board: &Board) {
     out.push(b'\n');
 }
 
+/// Appends bytes in ASCII form.
 fn push_spaced(out: &mut Vec<u8>, bytes: &[u8]) {
     let start = out.len();
     out.resize(start + hex::spaced_size(bytes.len()), 0);
     hex::encode_spaced(bytes, &mut out[start..]);
 }
 
+/// The sheet, or the first fault of its form.
 pub fn parse(input: &[u8]) -> Result<Sheet, Fault> {
     if input.len() > LONGEST_SHEET {
         return Err(Fault { part: Part::Sheet, cause: Cause::TooLong });
@@ -161,6 +166,7 @@ struct SheetLines<'a> {
 }
 
 impl<'a> SheetLines<'a> {
+    /// The place of the next line without its LF.
     fn line(&mut self) -> Result<Range<usize>, Cause> {
         let rest = &self.input[self.at..];
         match rest.iter().position(|byte| *byte == b'\n') {
@@ -183,11 +189,13 @@ impl<'a> SheetLines<'a> {
         found.map_err(|cause| Fault { part, cause })
     }
 
+    /// A line of channels, as many as the count says.
     fn list(&mut self, part: Part, count: u32) -> Result<u32, Fault> {
         let found = self.line().and_then(|line| channel_list(&self.input[line], count));
         found.map_err(|cause| Fault { part, cause })
     }
 
+    /// A tick line.
     fn tick(&mut self) -> Result<TickLine, Fault> {
         let line = self.line().map_err(|cause| Fault { part: Part::TickLine, cause })?;
         let missing = Fault { part: Part::TickLine, cause: Cause::FieldMissing };
@@ -204,6 +212,7 @@ impl<'a> SheetLines<'a> {
         Ok(TickLine { rail, overcurrent, command })
     }
 
+    /// That nothing stands behind the last line.
     fn end(&self) -> Result<(), Fault> {
         if self.at == self.input.len() {
             Ok(())
@@ -235,6 +244,7 @@ fn number(digits: &[u8], most: u32) -> Result<u32, Cause> {
     Ok(value)
 }
 
+/// A rail in millivolts.
 fn rail(text: &[u8]) -> Result<i16, Cause> {
     match text.strip_prefix(b"-") {
         Some(digits) => match number(digits, 32_768)? {
@@ -245,6 +255,7 @@ fn rail(text: &[u8]) -> Result<i16, Cause> {
     }
 }
 
+/// The channels of a list line, as many as the count says.
 fn channel_list(text: &[u8], count: u32) -> Result<u32, Cause> {
     let mut set = 0u32;
     if !text.is_empty() {

@@ -18,8 +18,9 @@ impl Form {
     }
 }
 
-const OPEN: &[u8] = b"<cmd>";
-const CLOSE: &[u8] = b"</cmd>";
+/// The tags around a payload.
+pub const OPEN: &[u8] = b"<cmd>";
+pub const CLOSE: &[u8] = b"</cmd>";
 const REPLY_OPEN: &[u8] = b"<rsp>";
 const REPLY_CLOSE: &[u8] = b"</rsp>\r\n";
 
@@ -72,6 +73,7 @@ pub fn read<'a>(
     }
 }
 
+/// The payload of a frame in ASCII form, decoded into the scratch buffer.
 fn read_pairs<'a>(
     payload: &[u8],
     place: usize,
@@ -92,7 +94,8 @@ fn scan(received: &[u8]) -> Option<(&[u8], usize)> {
     Some((&received[start..start + length], start + length + CLOSE.len()))
 }
 
-fn find(bytes: &[u8], tag: &[u8]) -> Option<usize> {
+/// Where the tag first stands.
+pub(crate) fn find(bytes: &[u8], tag: &[u8]) -> Option<usize> {
     bytes.windows(tag.len()).position(|window| window == tag)
 }
 
@@ -118,6 +121,7 @@ pub fn frame_echo(switched: Form, out: &mut [u8]) -> Result<usize, Short> {
     frame(Form::Raw, switched.text(), out)
 }
 
+/// The bytes of a reply frame around a body of this many.
 fn framed(body: usize) -> usize {
     REPLY_OPEN.len() + body + REPLY_CLOSE.len()
 }

@@ -112,6 +112,7 @@ fn row_12_a_rail_at_the_threshold_stays_nominal() {
     assert_eq!(board.mode().mode(), Mode::Safety);
 }
 
+/// A board in nominal with channels 0 and 1 on.
 fn with_0_and_1_on() -> second::board::Board {
     let mut board = in_mode(Mode::Nominal, 0b1111, 0b0001);
     assert_eq!(give(&mut board, 0x16, &[1]), Answer::Accepted);

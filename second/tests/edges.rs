@@ -8,10 +8,12 @@ use second::mode::Mode;
 use second::settings::{self, Settings};
 use second::text::{self, Form, Read, Refusal};
 
+/// As many words as a tick brings, no two alike.
 fn words(first: u16) -> Vec<u16> {
     (0..WORDS as u16).map(|i| first.wrapping_add(i)).collect()
 }
 
+/// A tick that brings words and leaves the mode as it is.
 fn bring_words(board: &mut Board, first: u16) {
     let rail = steady(board);
     tick_full(board, rail, 0, &words(first), None);
@@ -26,6 +28,7 @@ fn about_to_bite() -> Board {
     board
 }
 
+/// STAT of the reply that waits.
 fn stat(board: &Board) -> u8 {
     board.waiting_reply()[4]
 }
@@ -744,6 +747,7 @@ fn command_84_checks_id_then_value() {
 
 // Text line.
 
+/// A board in nominal with the text line in ASCII form.
 fn ascii() -> Board {
     let mut board = nominal();
     board.read_text(b"<cmd><cfg:ascii/></cmd>", &mut []).unwrap();
@@ -829,6 +833,7 @@ fn an_empty_payload_is_a_command_in_raw_form_and_12_in_ascii_form() {
     assert_eq!(ascii().read_text(b"<cmd></cmd>", &mut []), Err(Refusal::NotHex { place: 11 }));
 }
 
+/// A payload between its tags.
 fn framed(payload: &[u8]) -> Vec<u8> {
     [b"<cmd>", payload, b"</cmd>"].concat()
 }

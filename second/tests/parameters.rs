@@ -34,6 +34,7 @@ fn expected(id: u16) -> Option<(Kind, i64, i64, i64)> {
     })
 }
 
+/// The type of a read-only id, as Table 3-26 has it.
 fn expected_read_only(id: u16) -> Option<Kind> {
     Some(match id {
         0x1800 => Kind::Int8,
@@ -45,12 +46,14 @@ fn expected_read_only(id: u16) -> Option<Kind> {
     })
 }
 
+/// An id and the bytes of a value.
 fn with_value(id: u16, value: &[u8]) -> Vec<u8> {
     let mut rest = id.to_le_bytes().to_vec();
     rest.extend_from_slice(value);
     rest
 }
 
+/// The number that the bytes of a value stand for.
 fn number(kind: Kind, wire: &[u8]) -> i64 {
     let mut wide = [0; 8];
     wide[..wire.len()].copy_from_slice(wire);
@@ -130,6 +133,7 @@ fn defaults_read_back() {
     }
 }
 
+/// Sets a value; the one that the reply tells is also the one that a get tells.
 fn set_wire(board: &mut Board, id: u16, kind: Kind, value: i64) -> i64 {
     let wire = &value.to_le_bytes()[..kind.size()];
     assert_eq!(give(board, 0x84, &with_value(id, wire)), Answer::Accepted);

@@ -8,6 +8,7 @@ struct Script {
 }
 
 impl Script {
+    /// A script that has not begun.
     fn new() -> Script {
         Script { replay: Replay::new() }
     }
@@ -22,17 +23,20 @@ impl Script {
         script
     }
 
+    /// What a line prints.
     fn say(&mut self, line: &str) -> String {
         let mut out = Vec::new();
         self.replay.line(line.as_bytes(), &mut out);
         String::from_utf8(out).unwrap()
     }
 
+    /// One field of the state line.
     fn field(&mut self, index: usize) -> String {
         self.say("S").split(' ').nth(index).unwrap().to_string()
     }
 }
 
+/// The digits of the defaults as they would be stored.
 fn defaults() -> String {
     Settings::defaults().bytes().iter().map(|byte| format!("{byte:02X}")).collect()
 }
@@ -49,62 +53,64 @@ fn all_but_starts_are_bad_before_a_board() {
     assert_eq!(script.field(7), "FFFF");
 }
 
+/// Lines of no form, though most are near one.
+const BAD: [&str; 48] = [
+    "",
+    " ",
+    "S ",
+    " S",
+    "s",
+    "SS",
+    "X",
+    "B",
+    "B 01 0000000F",
+    "B 1 0000000F 00000001",
+    "B 01 0000000F 00000001 ",
+    "B 01 0000000F 00000001 0000",
+    "B 01 000000F 00000001",
+    "B 0G 0000000F 00000001",
+    "B  01 0000000F 00000001",
+    "P 01 0000000F 00000001 0000 -",
+    "P 01 0000000F 00000001 0000 00",
+    "W 0001 -",
+    "W 0000 0000",
+    "W 0002 0000",
+    "W 0001 00",
+    "W 0101 -",
+    "W 0000",
+    "W 0000 ",
+    "W 1 0000",
+    "T 0000 00000000",
+    "T 0000 00000000 ",
+    "T 0000 00000000 --",
+    "T 0000 00000000 ..",
+    "T 0000 00000000 1",
+    "T 0000 00000000 1G",
+    "T 000 00000000 -",
+    "T 0000 0000000 -",
+    "T 0000 00000000 - -",
+    "R 0201",
+    "R 000",
+    "R 00000",
+    "R",
+    "R 0000 0",
+    "L 0201 -",
+    "L 0000",
+    "L 0000 .",
+    "L 0000 3",
+    "F 0401",
+    "F -1",
+    "F 0000 0000",
+    "T\t0000 00000000 -",
+    "R 0000\r",
+];
+
 #[test]
 fn lines_not_of_a_form_are_bad() {
     let mut script = Script::nominal();
     let before = script.say("S");
     let digits = "0".repeat(602);
-    let bad = [
-        "",
-        " ",
-        "S ",
-        " S",
-        "s",
-        "SS",
-        "X",
-        "B",
-        "B 01 0000000F",
-        "B 1 0000000F 00000001",
-        "B 01 0000000F 00000001 ",
-        "B 01 0000000F 00000001 0000",
-        "B 01 000000F 00000001",
-        "B 0G 0000000F 00000001",
-        "B  01 0000000F 00000001",
-        "P 01 0000000F 00000001 0000 -",
-        "P 01 0000000F 00000001 0000 00",
-        "W 0001 -",
-        "W 0000 0000",
-        "W 0002 0000",
-        "W 0001 00",
-        "W 0101 -",
-        "W 0000",
-        "W 0000 ",
-        "W 1 0000",
-        "T 0000 00000000",
-        "T 0000 00000000 ",
-        "T 0000 00000000 --",
-        "T 0000 00000000 ..",
-        "T 0000 00000000 1",
-        "T 0000 00000000 1G",
-        "T 000 00000000 -",
-        "T 0000 0000000 -",
-        "T 0000 00000000 - -",
-        "R 0201",
-        "R 000",
-        "R 00000",
-        "R",
-        "R 0000 0",
-        "L 0201 -",
-        "L 0000",
-        "L 0000 .",
-        "L 0000 3",
-        "F 0401",
-        "F -1",
-        "F 0000 0000",
-        "T\t0000 00000000 -",
-        "R 0000\r",
-    ];
-    for line in bad {
+    for line in BAD {
         assert_eq!(script.say(line), "bad", "{line}");
         assert_eq!(script.say("S"), before, "{line}");
     }

@@ -5,6 +5,7 @@ use second::sheet::{bench, run, Cause, Part, SheetRefusal};
 const SHEET: &str = "board 1\nfitted 2\n0 1\nforced 1\n0\nticks 2\n\
                      -20 00000000 11 07 02 01\n-20 00000000 -\n";
 
+/// The part and the cause for which a sheet is refused with 14.
 fn fault(sheet: &[u8]) -> (Part, Cause) {
     assert_eq!(bench(sheet), b"refused 14\n");
     match run(sheet) {
@@ -25,9 +26,17 @@ fn the_sheet_of_the_document_byte_for_byte() {
     assert_eq!(bench(SHEET.as_bytes()), expected.as_bytes());
 }
 
+/// Each sheet is refused for this part of the form and this cause.
+fn check(cases: &[(Vec<u8>, Part, Cause)]) {
+    for (sheet, part, cause) in cases {
+        let text = String::from_utf8_lossy(sheet);
+        assert_eq!(fault(sheet), (*part, *cause), "{text}");
+    }
+}
+
 #[test]
-fn each_fault_has_its_cause() {
-    let cases: [(Vec<u8>, Part, Cause); 38] = [
+fn each_fault_of_the_profile_has_its_cause() {
+    check(&[
         (vec![], Part::Board, Cause::NoLine),
         (with("board 1", "Board 1"), Part::Board, Cause::WrongWord),
         (with("board 1", "board  1"), Part::Board, Cause::NotDigit),
@@ -50,6 +59,12 @@ fn each_fault_has_its_cause() {
         (with("0 1\n", "0 01\n"), Part::FittedList, Cause::LeadingZero),
         (with("forced 1\n0", "forced 0\n0"), Part::ForcedList, Cause::CountDisagrees),
         (with("forced 1\n0\n", "forced 0\n"), Part::ForcedList, Cause::NotDigit),
+    ]);
+}
+
+#[test]
+fn each_fault_of_the_ticks_has_its_cause() {
+    check(&[
         (with("ticks 2", "ticks 4097"), Part::Ticks, Cause::TooLarge),
         (with("ticks 2", "ticks 3"), Part::TickLine, Cause::NoLine),
         (with("ticks 2", "ticks 1"), Part::Sheet, Cause::BytesBehind),
@@ -66,11 +81,7 @@ fn each_fault_has_its_cause() {
         (with("-20 00000000 -\n", "1 00000000 \n"), Part::Command, Cause::NotHex),
         (with("-20 00000000 -\n", "1 00000000\n"), Part::TickLine, Cause::FieldMissing),
         (with("-20 00000000 -\n", "1 00000000 1\n"), Part::Command, Cause::NotHex),
-    ];
-    for (sheet, part, cause) in cases {
-        let text = String::from_utf8_lossy(&sheet).into_owned();
-        assert_eq!(fault(&sheet), (part, cause), "{text}");
-    }
+    ]);
 }
 
 /// A sheet of this many bytes with a command of 256 bytes in nearly each tick.

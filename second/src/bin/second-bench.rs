@@ -9,6 +9,7 @@ use std::io::{self, Write};
 use std::os::fd::AsFd;
 use std::process::ExitCode;
 
+/// Answers the sheet on standard input, or tells how the program is used.
 fn main() -> ExitCode {
     let arguments: Vec<String> = std::env::args().skip(1).collect();
     let sheet = read_sheet();
@@ -42,6 +43,7 @@ fn read_sheet() -> Vec<u8> {
     sheet
 }
 
+/// What the sheet reached, as a report.
 fn cover(sheet: &[u8]) -> Vec<u8> {
     let mut coverage = Coverage::of_sheets();
     coverage.see_sheet(sheet);

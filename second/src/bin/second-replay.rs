@@ -10,6 +10,7 @@ use std::process::ExitCode;
 /// Printed bytes that are worth a write of their own.
 const FULL: usize = 1 << 16;
 
+/// Answers the script on standard input, or tells how the program is used.
 fn main() -> ExitCode {
     let arguments: Vec<String> = std::env::args().skip(1).collect();
     let done = match arguments.iter().map(String::as_str).collect::<Vec<_>>()[..] {
@@ -54,6 +55,7 @@ fn replay() -> io::Result<()> {
     Ok(())
 }
 
+/// Runs the script and prints what it reached, as a report.
 fn cover() -> io::Result<()> {
     let mut lines = Lines::new(io::stdin().lock(), LONGEST_LINE);
     let mut coverage = Coverage::of_scripts();

@@ -19,6 +19,7 @@ const KINDS: [&str; 7] = [
 const TRIPS: [&str; 4] =
     ["forced that came on", "commandable that went off", "to 65535", "at 65535"];
 
+/// Adds the cells of the channels.
 pub fn universe(coverage: &mut Coverage) {
     for kind in KINDS {
         for half in ["low", "extended"] {
@@ -46,6 +47,7 @@ pub fn universe(coverage: &mut Coverage) {
     }
 }
 
+/// What a channel is and in which state.
 fn kind(board: &Board, channel: usize) -> &'static str {
     let channels = board.channels();
     let has = |set: u32| set >> channel & 1 != 0;
@@ -62,6 +64,7 @@ fn kind(board: &Board, channel: usize) -> &'static str {
     KINDS[state + if has(channels.forced()) { 0 } else { 3 }]
 }
 
+/// Which half of a mask a channel is in.
 fn half(channel: usize) -> &'static str {
     if channel < 16 {
         "low"
@@ -71,6 +74,7 @@ fn half(channel: usize) -> &'static str {
 }
 
 impl Coverage {
+    /// Counts what a tick did with channels.
     pub fn see_channels(&mut self, tick: &Ticked) {
         self.see_overcurrent(tick);
         // The kinds are those before the tick; a tick that trips or changes the
@@ -94,6 +98,7 @@ impl Coverage {
         }
     }
 
+    /// An accepted group command, channel by channel.
     fn see_group(&mut self, tick: &Ticked, command: &[u8]) {
         let mut mask = [0; 4];
         let given = if command.len() < 8 { 2 } else { 4 };
@@ -106,41 +111,48 @@ impl Coverage {
                 _ => "in",
             };
             let kind = kind(tick.before, channel);
-            self.hit(format!("channel {:02X} {kind} {} {named}", command[2], half(channel)));
+            self.hit(format_args!("channel {:02X} {kind} {} {named}", command[2], half(channel)));
         }
     }
 
+    /// A command for one channel.
     fn see_single(&mut self, tick: &Ticked, command: &[u8]) {
         let index = command[4];
         if tick.answer != '0' && tick.answer != '7' {
             return;
         }
-        self.hit_if_any(format!("channel {:02X} index {index}", command[2]));
+        self.hit_if_any(format_args!("channel {:02X} index {index}", command[2]));
         if index < 32 {
             let channel = usize::from(index);
             let kind = kind(tick.before, channel);
-            self.hit(format!("channel {:02X} {kind} {}", command[2], half(channel)));
+            self.hit(format_args!("channel {:02X} {kind} {}", command[2], half(channel)));
         }
     }
 
+    /// A command that speaks of every channel.
     fn see_all(&mut self, code: &str, tick: &Ticked) {
         for channel in 0..32 {
-            self.hit(format!("channel {code} {} {}", kind(tick.before, channel), half(channel)));
+            self.hit(format_args!(
+                "channel {code} {} {}",
+                kind(tick.before, channel),
+                half(channel)
+            ));
         }
     }
 
+    /// Every channel that an overcurrent named.
     fn see_overcurrent(&mut self, tick: &Ticked) {
         let before = tick.before.mode().mode();
         let left_dark = before.is_dark() && !tick.mode.is_dark();
         for channel in (0..32).filter(|channel| tick.overcurrent >> channel & 1 != 0) {
             let kind = kind(tick.before, channel);
-            self.hit(format!("overcurrent {kind} {}", half(channel)));
+            self.hit(format_args!("overcurrent {kind} {}", half(channel)));
             let forced = tick.before.channels().forced() >> channel & 1 != 0;
             if left_dark && forced {
-                self.hit("overcurrent forced that came on".to_string());
+                self.hit(format_args!("overcurrent forced that came on"));
             }
             if before == Mode::Nominal && tick.mode == Mode::Safety && kind == "commandable on" {
-                self.hit("overcurrent commandable that went off".to_string());
+                self.hit(format_args!("overcurrent commandable that went off"));
             }
             if before == tick.mode && kind.ends_with(" on") {
                 self.see_count(tick.before.channels().counts()[channel]);
@@ -148,10 +160,11 @@ impl Coverage {
         }
     }
 
+    /// An overcurrent count at its top.
     fn see_count(&mut self, before: u16) {
         match before {
-            65_534 => self.hit("overcurrent to 65535".to_string()),
-            65_535 => self.hit("overcurrent at 65535".to_string()),
+            65_534 => self.hit(format_args!("overcurrent to 65535")),
+            65_535 => self.hit(format_args!("overcurrent at 65535")),
             _ => {}
         }
     }

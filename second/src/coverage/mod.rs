@@ -10,9 +10,12 @@ mod script;
 mod sheets;
 mod text;
 
-use std::collections::BTreeMap;
+use crate::mode::Mode;
+use std::collections::HashMap;
+use std::fmt::{Arguments, Write};
 
-pub use parameters::STRANGERS;
+pub use modes::rails;
+pub use parameters::{needed, value_classes, STRANGERS};
 pub use script::Watched;
 
 /// The commands of the base.
@@ -21,52 +24,74 @@ pub const CODES: [u8; 19] = [
     0x90, 0x92, 0x94,
 ];
 
+/// The letters of the modes.
+const MODES: [char; 4] = ['U', 'N', 'F', 'E'];
+
+/// The letter of one mode.
+fn letter(mode: Mode) -> char {
+    char::from(mode.letter())
+}
+
 /// All cells of a universe with the times each was hit.
+#[derive(Default)]
 pub struct Coverage {
-    cells: BTreeMap<String, u64>,
+    cells: HashMap<String, u64>,
+    /// Room for the name of a cell that is hit: a tick hits several.
+    name: String,
 }
 
 impl Coverage {
+    /// Every cell that replay scripts can hit, none hit so far.
     pub fn of_scripts() -> Coverage {
-        let mut coverage = Coverage { cells: BTreeMap::new() };
+        let mut coverage = Coverage::default();
         script::universe(&mut coverage);
         coverage
     }
 
+    /// Every cell that session sheets can hit, none hit so far.
     pub fn of_sheets() -> Coverage {
-        let mut coverage = Coverage { cells: BTreeMap::new() };
+        let mut coverage = Coverage::default();
         sheets::universe(&mut coverage);
         coverage
     }
 
+    /// Makes the cell one of the universe.
     fn add(&mut self, cell: String) {
         self.cells.insert(cell, 0);
     }
 
     /// Every hit must be a cell that was foreseen: a watcher that invents cells
     /// would let others stay unhit unseen.
-    fn hit(&mut self, cell: String) {
-        match self.cells.get_mut(&cell) {
-            Some(count) => *count += 1,
-            None => panic!("no such cell: {cell}"),
+    fn hit(&mut self, cell: Arguments) {
+        if !self.hit_if_any(cell) {
+            panic!("no such cell: {cell}");
         }
     }
 
-    /// A cell that is only hit where the universe has it.
-    fn hit_if_any(&mut self, cell: String) {
-        if let Some(count) = self.cells.get_mut(&cell) {
-            *count += 1;
+    /// Hits the cell where the universe has it, and tells whether it does.
+    fn hit_if_any(&mut self, cell: Arguments) -> bool {
+        self.name.clear();
+        let _ = self.name.write_fmt(cell);
+        match self.cells.get_mut(&self.name) {
+            Some(count) => {
+                *count += 1;
+                true
+            }
+            None => false,
         }
     }
 
+    /// How often the cell was hit.
     pub fn times(&self, cell: &str) -> u64 {
         self.cells.get(cell).copied().unwrap_or(0)
     }
 
     /// One cell a line, in the order of their names.
     pub fn report(&self) -> String {
+        let mut cells: Vec<_> = self.cells.iter().collect();
+        cells.sort_unstable();
         let mut report = String::new();
-        for (cell, count) in &self.cells {
+        for (cell, count) in cells {
             match count {
                 0 => report += &format!("{cell}: not hit\n"),
                 _ => report += &format!("{cell}: {count}\n"),

@@ -1,11 +1,8 @@
 //! The mode table, row by row, at and beside its edges.
 
-use super::script::{rails, Ticked};
-use super::Coverage;
-use crate::board::{
-    Board, EMERGENCY_HIGH, EMERGENCY_LOW, EMERGENCY_PERIOD_SECONDS, LINGER_SECONDS,
-    TICKS_PER_SECOND,
-};
+use super::script::Ticked;
+use super::{letter, Coverage, MODES};
+use crate::board::Board;
 use crate::mode::{Limits, Mode, STARTUP_TICKS};
 use crate::text::Form;
 
@@ -57,6 +54,39 @@ const KEPT: [&str; 7] = [
 const ORDERS: [&str; 3] =
     ["below emergency low", "between the emergency thresholds", "above emergency high"];
 
+/// Rails that lie on and beside each threshold, and the ends of the type.
+const RAILS: [&str; 16] = [
+    "-32768",
+    "-1",
+    "0",
+    "32767",
+    "safety low -1",
+    "safety low +0",
+    "safety low +1",
+    "safety high -1",
+    "safety high +0",
+    "safety high +1",
+    "emergency low -1",
+    "emergency low +0",
+    "emergency low +1",
+    "emergency high -1",
+    "emergency high +0",
+    "emergency high +1",
+];
+
+/// The millivolts of these rails, in their order, as the settings stand.
+pub fn rails(board: &Board) -> [i32; 16] {
+    let limits = board.limits();
+    let thresholds =
+        [limits.safety_low, limits.safety_high, limits.emergency_low, limits.emergency_high];
+    let mut rails = [-32_768, -1, 0, 32_767, 0, 0, 0, 0, 0, 0, 0, 0, 0, 0, 0, 0];
+    for (beside, threshold) in rails[4..].chunks_exact_mut(3).zip(thresholds) {
+        beside.copy_from_slice(&[threshold - 1, threshold, threshold + 1]);
+    }
+    rails
+}
+
+/// Which of the orders the thresholds have.
 fn order(limits: &Limits) -> &'static str {
     if limits.safety_low < limits.emergency_low {
         ORDERS[0]
@@ -67,6 +97,7 @@ fn order(limits: &Limits) -> &'static str {
     }
 }
 
+/// Adds the cells of the modes.
 pub fn universe(coverage: &mut Coverage) {
     for cell in CELLS {
         coverage.add(format!("mode {cell}"));
@@ -82,57 +113,30 @@ pub fn universe(coverage: &mut Coverage) {
             coverage.add(format!("{way} emergency with safety low {order}"));
         }
     }
-    let names = [
-        "safety low -1",
-        "safety low +0",
-        "safety low +1",
-        "safety high -1",
-        "safety high +0",
-        "safety high +1",
-        "emergency low -1",
-        "emergency low +0",
-        "emergency low +1",
-        "emergency high -1",
-        "emergency high +0",
-        "emergency high +1",
-        "-32768",
-        "-1",
-        "0",
-        "32767",
-    ];
-    for mode in ['U', 'N', 'F', 'E'] {
-        for name in names {
+    for mode in MODES {
+        for name in RAILS {
             coverage.add(format!("rail {mode} {name}"));
         }
     }
 }
 
-pub fn limits(board: &Board) -> Limits {
-    Limits {
-        safety_low: i32::from(board.settings().safety_low()),
-        safety_high: i32::from(board.settings().safety_high()),
-        emergency_low: i32::from(EMERGENCY_LOW),
-        emergency_high: i32::from(EMERGENCY_HIGH),
-        linger: u64::from(LINGER_SECONDS) * TICKS_PER_SECOND,
-        emergency_period: u64::from(EMERGENCY_PERIOD_SECONDS) * TICKS_PER_SECOND,
-    }
-}
-
 impl Coverage {
+    /// Hits a cell of the mode table if its condition holds.
     fn mode_cell(&mut self, cell: &str, when: bool) {
         if when {
-            self.hit(format!("mode {cell}"));
+            self.hit(format_args!("mode {cell}"));
         }
     }
 
+    /// Counts what a tick did with the mode.
     pub fn see_modes(&mut self, tick: &Ticked) {
         let before = tick.before.mode();
-        let limits = limits(tick.before);
+        let limits = tick.before.limits();
         let rail = i32::from(tick.rail);
         let age = before.age() + 1;
-        for (name, value) in rails(tick.before) {
+        for (name, value) in RAILS.iter().zip(rails(tick.before)) {
             if value == rail {
-                self.hit(format!("rail {} {name}", char::from(before.mode().letter())));
+                self.hit(format_args!("rail {} {name}", letter(before.mode())));
             }
         }
         match before.mode() {
@@ -149,6 +153,7 @@ impl Coverage {
         }
     }
 
+    /// What there was to keep in a tick that enters or leaves emergency.
     fn see_emergency_edge(&mut self, way: &str, tick: &Ticked) {
         let board = tick.before;
         let stored = board.store().map(|store| store.settings);
@@ -162,17 +167,18 @@ impl Coverage {
             board.channels().counts().iter().any(|count| *count != 0),
         ];
         for (kept, _) in KEPT.iter().zip(here).filter(|(_, is)| *is) {
-            self.hit(format!("{way} emergency with {kept}"));
+            self.hit(format_args!("{way} emergency with {kept}"));
         }
         let what = match tick.answer {
             '-' => "no command",
             '0' => "an accepted command",
             _ => "a refused command",
         };
-        self.hit(format!("{way} emergency in a tick with {what}"));
-        self.hit(format!("{way} emergency with safety low {}", order(&limits(board))));
+        self.hit(format_args!("{way} emergency in a tick with {what}"));
+        self.hit(format_args!("{way} emergency with safety low {}", order(&board.limits())));
     }
 
+    /// A tick that finds the board in startup.
     fn see_startup(&mut self, tick: &Ticked, age: u64, above_low: i32) {
         self.mode_cell("startup one tick short", age == STARTUP_TICKS - 1);
         let nominal = tick.mode == Mode::Nominal;
@@ -183,6 +189,7 @@ impl Coverage {
         self.mode_cell("startup to safety one millivolt below", safety && above_low == -1);
     }
 
+    /// A tick that finds the board in nominal.
     fn see_nominal(&mut self, tick: &Ticked, rail: i32, limits: &Limits) {
         let left = tick.mode == Mode::Safety;
         let above_low = rail - limits.safety_low;
@@ -191,6 +198,7 @@ impl Coverage {
         self.mode_cell("nominal stays at safety low", !left && above_low == 0);
     }
 
+    /// A tick that finds the board in safety.
     fn see_safety(&mut self, tick: &Ticked, age: u64, rail: i32, limits: &Limits) {
         let up = rail - limits.safety_high;
         let down = rail - limits.emergency_low;
@@ -214,6 +222,7 @@ impl Coverage {
         self.mode_cell("no change with a threshold above every rail", stays && out_of_reach);
     }
 
+    /// A tick that finds the board in emergency.
     fn see_emergency(&mut self, tick: &Ticked, age: u64, rail: i32, limits: &Limits) {
         let left = tick.mode == Mode::Safety;
         let up = rail - limits.emergency_high;
@@ -225,6 +234,7 @@ impl Coverage {
         self.mode_cell("emergency one tick short", !left && age == period - 1);
     }
 
+    /// 0x30 and 0x32 at the edges of what they ask.
     fn see_switches(&mut self, tick: &Ticked, above_low: i32) {
         let nominal = tick.mode == Mode::Nominal;
         let safety = tick.mode == Mode::Safety;

@@ -32,6 +32,7 @@ pub fn needed(code: u8) -> usize {
     }
 }
 
+/// What a parameter command does, none for other commands.
 fn verb(code: u8) -> Option<&'static str> {
     match code {
         0x82 => Some("get"),
@@ -42,7 +43,7 @@ fn verb(code: u8) -> Option<&'static str> {
 }
 
 /// The places a value can have in its range; those the type cannot hold fall away.
-fn value_classes(row: &Row) -> Vec<(&'static str, i64)> {
+pub fn value_classes(row: &Row) -> Vec<(&'static str, i64)> {
     let all =
         [("below", row.low - 1), ("low", row.low), ("high", row.high), ("above", row.high + 1)];
     all.into_iter()
@@ -50,6 +51,7 @@ fn value_classes(row: &Row) -> Vec<(&'static str, i64)> {
         .collect()
 }
 
+/// Adds the cells of parameters, stored values and profiles.
 pub fn universe(coverage: &mut Coverage) {
     for row in &ROWS {
         for id in row.first..=row.last {
@@ -88,6 +90,7 @@ pub fn universe(coverage: &mut Coverage) {
 }
 
 impl Coverage {
+    /// Counts a get, set or reset of one.
     pub fn see_parameter(&mut self, tick: &Ticked, command: &[u8]) {
         let Some(verb) = tick.code().and_then(verb) else { return };
         if command.len() < 6 || matches!(tick.answer, '1' | '2' | '3') {
@@ -95,29 +98,32 @@ impl Coverage {
         }
         let id = u16::from_le_bytes([command[4], command[5]]);
         if tick.answer != '5' {
-            self.hit_if_any(format!("parameter {verb} {id:04X} {}", tick.answer));
+            self.hit_if_any(format_args!("parameter {verb} {id:04X} {}", tick.answer));
         }
         if let (0x84, Some(place)) = (command[2], settings::find(id)) {
             self.see_value(&place.row, &command[6..], tick.answer);
         }
     }
 
+    /// Counts the value of a set.
     fn see_value(&mut self, row: &Row, value: &[u8], answer: char) {
-        self.hit_if_any(format!("set {:?} with {} value bytes", row.kind, value.len()));
+        self.hit_if_any(format_args!("set {:?} with {} value bytes", row.kind, value.len()));
         if answer == '0' {
             self.see_class("value", row, value);
         }
     }
 
+    /// Counts where in its range a value lies.
     fn see_class(&mut self, what: &str, row: &Row, wire: &[u8]) {
         for (class, value) in value_classes(row) {
             let size = row.kind.size();
             if value.to_le_bytes()[..size] == wire[..size] {
-                self.hit(format!("{what} {:04X} {class}", row.first));
+                self.hit(format_args!("{what} {:04X} {class}", row.first));
             }
         }
     }
 
+    /// Counts a start, sound or refused.
     pub fn see_start(
         &mut self,
         bid: u8,
@@ -125,15 +131,15 @@ impl Coverage {
         forced: u32,
         stored: Option<(u16, &[u8; SIZE])>,
     ) {
-        self.hit_if_any(format!("profile bid {bid}"));
+        self.hit_if_any(format_args!("profile bid {bid}"));
         let good_bid = (1..=8).contains(&bid);
         if good_bid && fitted == 0 {
-            self.hit("profile nothing fitted".to_string());
+            self.hit(format_args!("profile nothing fitted"));
         } else if good_bid && forced & !fitted != 0 {
-            self.hit("profile forced not fitted".to_string());
+            self.hit(format_args!("profile forced not fitted"));
         } else if good_bid {
             if fitted == u32::MAX {
-                self.hit("profile all fitted".to_string());
+                self.hit(format_args!("profile all fitted"));
             }
             if let Some((count, bytes)) = stored {
                 self.see_stored(count, bytes);
@@ -141,10 +147,11 @@ impl Coverage {
         }
     }
 
+    /// Counts the save count and the values of a store.
     fn see_stored(&mut self, count: u16, bytes: &[u8; SIZE]) {
         match count {
-            0 | 0xFFFE | 0xFFFF => self.hit(format!("profile save count {count:04X}")),
-            _ => self.hit("profile save count other".to_string()),
+            0 | 0xFFFE | 0xFFFF => self.hit(format_args!("profile save count {count:04X}")),
+            _ => self.hit(format_args!("profile save count other")),
         }
         let mut offset = 0;
         for row in &ROWS {

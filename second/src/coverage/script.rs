@@ -1,12 +1,10 @@
 //! What a replay script reaches: lines, starts, commands, events.
 
-use super::CODES;
-use super::{channels, modes, parameters, text, Coverage};
-use crate::board::{Board, EMERGENCY_HIGH, EMERGENCY_LOW};
+use super::{channels, letter, modes, parameters, text, Coverage, CODES, MODES};
+use crate::board::Board;
 use crate::mode::Mode;
-use crate::replay::{parse, Bytes, Line, Replay};
+use crate::replay::{bad, parse, Bytes, Line, Replay};
 
-const MODES: [char; 4] = ['U', 'N', 'F', 'E'];
 const ANSWERS: [char; 7] = ['0', '2', '3', '4', '5', '6', '7'];
 
 /// The lines of a script and what each may print.
@@ -25,6 +23,7 @@ const LINES: [(char, &[&str]); 8] = [
 /// and 16 bits hold.
 const SIZES: [&str; 4] = ["up to 3 s", "up to 327 s", "up to 655 s", "above 655 s"];
 
+/// The size of a watchdog.
 fn size_of(seconds: u16) -> &'static str {
     match seconds {
         0..=3 => SIZES[0],
@@ -49,19 +48,23 @@ pub struct Ticked<'a> {
 }
 
 impl Ticked<'_> {
+    /// The letter of the mode that the command found.
     pub fn letter(&self) -> char {
-        char::from(self.mode.letter())
+        letter(self.mode)
     }
 
+    /// Whether this command came and was accepted.
     pub fn accepted(&self, code: u8) -> bool {
         self.answer == '0' && self.code() == Some(code)
     }
 
+    /// The code byte, if the transfer has one.
     pub fn code(&self) -> Option<u8> {
         self.command.and_then(|bytes| bytes.get(2).copied())
     }
 }
 
+/// Adds every cell of replay scripts.
 pub fn universe(coverage: &mut Coverage) {
     for (letter, results) in LINES {
         for result in results {
@@ -91,6 +94,7 @@ pub fn universe(coverage: &mut Coverage) {
     text::universe(coverage);
 }
 
+/// Adds the cells of commands by code, length and header.
 fn command_universe(coverage: &mut Coverage) {
     let codes = CODES.iter().map(|code| format!("{code:02X}"));
     for code in codes.chain(["odd".to_string(), "even".to_string()]) {
@@ -117,6 +121,7 @@ fn command_universe(coverage: &mut Coverage) {
     }
 }
 
+/// Adds the cells of the watchdog, of resets and of tops.
 fn event_universe(coverage: &mut Coverage) {
     for mode in MODES {
         for event in ['-', 'P', 'W'] {
@@ -144,6 +149,7 @@ fn event_universe(coverage: &mut Coverage) {
     }
 }
 
+/// Adds the cells of saves and loads.
 fn save_universe(coverage: &mut Coverage) {
     for stored in ["first", "again"] {
         for checksum in ["0", "right", "wrong"] {
@@ -160,53 +166,76 @@ fn save_universe(coverage: &mut Coverage) {
     }
 }
 
+/// The mode that a command finds in the next tick, given its rail.
+fn mode_found(board: &Board, rail: i16) -> Mode {
+    let mut mode = board.mode();
+    mode.rise();
+    mode.step(rail, &board.limits());
+    mode.mode()
+}
+
+/// The event and the answer that a tick line tells; none for a tick that was refused.
+fn event_and_answer(printed: &[u8]) -> Option<(char, char)> {
+    let mut fields = printed.split(|byte| *byte == b' ').skip(5);
+    let mut field = || fields.next().map(|field| char::from(field[0]));
+    field().zip(field())
+}
+
 /// A script under watch.
 #[derive(Default)]
 pub struct Watched {
     replay: Replay,
+    printed: Vec<u8>,
 }
 
 impl Watched {
+    /// Runs one line and counts what it reached.
     pub fn line(&mut self, line: &[u8], coverage: &mut Coverage) {
         let mut bytes: Bytes = [0; 600];
-        let mut printed = Vec::new();
         let before = self.replay.clone();
         let parsed = parse(line, &mut bytes);
-        self.replay.line(line, &mut printed);
-        coverage.see_line(line, &printed, before.board().is_none());
+        self.printed.clear();
+        match &parsed {
+            Some(parsed) => self.replay.run(parsed, &bytes, &mut self.printed),
+            None => bad(&mut self.printed),
+        }
+        let early = parsed.is_some() && before.board().is_none();
+        coverage.see_line(line, &self.printed, early);
         if let Some(parsed) = parsed {
-            coverage.see_form(&before, &parsed, &bytes, &self.replay, &printed);
+            coverage.see_form(&before, &parsed, &bytes, &self.replay, &self.printed);
         }
     }
 
+    /// A last piece without its LF.
     pub fn unended(&self, coverage: &mut Coverage) {
-        coverage.hit("line unended".to_string());
+        coverage.hit(format_args!("line unended"));
     }
 
+    /// A line longer than any of a form.
     pub fn too_long(&self, coverage: &mut Coverage) {
-        coverage.hit("line over the limit".to_string());
+        coverage.hit(format_args!("line over the limit"));
     }
 }
 
 impl Coverage {
-    fn see_line(&mut self, line: &[u8], printed: &[u8], no_board: bool) {
+    /// What a line printed, by its letter; `early` is one of a form without a board.
+    fn see_line(&mut self, line: &[u8], printed: &[u8], early: bool) {
         let Some(letter) = line.first() else {
-            return self.hit("line empty".to_string());
+            return self.hit(format_args!("line empty"));
         };
         if !b"BPWTRLFS".contains(letter) {
-            return self.hit("line of no letter".to_string());
+            return self.hit(format_args!("line of no letter"));
         }
-        let letter = char::from(*letter);
-        let of_form = parse(line, &mut [0; 600]).is_some();
         let result = match printed {
-            b"bad" if of_form && no_board => "before a board",
+            b"bad" if early => "before a board",
             b"bad" => "bad",
             _ if printed.starts_with(b"refused") => "refused",
             _ => "ok",
         };
-        self.hit(format!("line {letter} {result}"));
+        self.hit(format_args!("line {} {result}", char::from(*letter)));
     }
 
+    /// Counts what a line of a form did with the board it found.
     fn see_form(
         &mut self,
         before: &Replay,
@@ -224,24 +253,19 @@ impl Coverage {
             Line::Start { .. } | Line::Words { .. } | Line::Show => {}
             Line::Tick { rail, overcurrent, command } => {
                 self.see_word_count(before.lent().len());
-                if printed == b"refused 9" {
-                    return;
+                if let Some((event, answer)) = event_and_answer(printed) {
+                    self.see_tick(&Ticked {
+                        before: board,
+                        after: board_after,
+                        rail,
+                        overcurrent,
+                        brought_words: !before.lent().is_empty(),
+                        command: command.map(|length| &bytes[..length]),
+                        mode: mode_found(board, rail),
+                        answer,
+                        event,
+                    });
                 }
-                let fields: Vec<&[u8]> = printed.split(|byte| *byte == b' ').collect();
-                let mut mode = board.mode();
-                mode.rise();
-                mode.step(rail, &modes::limits(board));
-                self.see_tick(&Ticked {
-                    before: board,
-                    after: board_after,
-                    rail,
-                    overcurrent,
-                    brought_words: !before.lent().is_empty(),
-                    command: command.map(|length| &bytes[..length]),
-                    mode: mode.mode(),
-                    answer: char::from(fields[6][0]),
-                    event: char::from(fields[5][0]),
-                });
             }
             Line::Read { length } => self.see_read(board, length),
             Line::Text { scratch, received } => {
@@ -251,29 +275,33 @@ impl Coverage {
         }
     }
 
+    /// Counts how many words were lent to a tick.
     fn see_word_count(&mut self, count: usize) {
         match count {
-            0 | 1 | 121 | 122 | 123 | 256 => self.hit(format!("words {count}")),
-            _ => self.hit("words other".to_string()),
+            0 | 1 | 121 | 122 | 123 | 256 => self.hit(format_args!("words {count}")),
+            _ => self.hit(format_args!("words other")),
         }
     }
 
+    /// Counts a bus read.
     fn see_read(&mut self, board: &Board, length: usize) {
         let waiting = board.waiting_reply().len();
         let what = if waiting == 0 { "nothing" } else { "a reply" };
-        self.hit(format!("read in {} {what} waiting", char::from(board.mode().mode().letter())));
-        self.hit(match length {
-            0 => "read none".to_string(),
-            _ if waiting == 0 => "read nothing waiting".to_string(),
-            _ if length < waiting => "read shorter".to_string(),
-            _ if length == waiting => "read exact".to_string(),
-            _ => "read longer".to_string(),
-        });
+        self.hit(format_args!("read in {} {what} waiting", letter(board.mode().mode())));
+        let what = match length {
+            0 => "none",
+            _ if waiting == 0 => "nothing waiting",
+            _ if length < waiting => "shorter",
+            _ if length == waiting => "exact",
+            _ => "longer",
+        };
+        self.hit(format_args!("read {what}"));
         if length == 0x200 {
-            self.hit("read 0200".to_string());
+            self.hit(format_args!("read 0200"));
         }
     }
 
+    /// Counts a tick that happened.
     fn see_tick(&mut self, tick: &Ticked) {
         self.see_modes(tick);
         self.see_channels(tick);
@@ -284,10 +312,11 @@ impl Coverage {
         }
     }
 
+    /// Counts a transfer by its code, its length and its answer.
     fn see_command(&mut self, tick: &Ticked, command: &[u8]) {
         let mode = tick.letter();
         if command.len() < 4 {
-            return self.hit(format!("short {} {mode}", command.len()));
+            return self.hit(format_args!("short {} {mode}", command.len()));
         }
         let code = command[2];
         let name = match code {
@@ -295,7 +324,7 @@ impl Coverage {
             _ if code % 2 == 1 => "odd".to_string(),
             _ => "even".to_string(),
         };
-        self.hit(format!("command {name} {mode} {}", tick.answer));
+        self.hit(format_args!("command {name} {mode} {}", tick.answer));
         match tick.answer {
             '2' => {}
             '3' => self.see_header(tick, command),
@@ -303,26 +332,31 @@ impl Coverage {
         }
     }
 
+    /// Counts which byte of a header was wrong.
     fn see_header(&mut self, tick: &Ticked, command: &[u8]) {
         let right = [0x11, 7, tick.before.bid()];
         for (i, byte) in [0, 1, 3].into_iter().enumerate() {
             let others_right = (0..3).all(|j| j == i || command[[0, 1, 3][j]] == right[j]);
             if others_right && command[byte] != right[i] {
                 let value = if command[byte] == 0 { "0" } else { "other" };
-                self.hit(format!("header {} {value}", ["STID", "IVID", "BID"][i]));
+                self.hit(format_args!("header {} {value}", ["STID", "IVID", "BID"][i]));
             }
         }
     }
 
+    /// Counts a command for this board.
     fn see_good_header(&mut self, tick: &Ticked, command: &[u8]) {
         let code = command[2];
-        self.hit_if_any(format!("length {code:02X} {}", command.len()));
+        self.hit_if_any(format_args!("length {code:02X} {}", command.len()));
         let letter = tick.letter();
         if tick.accepted(0x50) {
             let stat = tick.after.waiting_reply()[4];
-            self.hit(format!("housekeeping {letter} {}", if stat == 0 { "stale" } else { "new" }));
+            self.hit(format_args!(
+                "housekeeping {letter} {}",
+                if stat == 0 { "stale" } else { "new" }
+            ));
             if tick.brought_words {
-                self.hit(format!("housekeeping {letter} new in the same tick"));
+                self.hit(format_args!("housekeeping {letter} new in the same tick"));
             }
         }
         if code == 0x94 && command.len() >= 7 {
@@ -335,14 +369,16 @@ impl Coverage {
         }
     }
 
+    /// Counts what brought settings back, and from where.
     fn see_settings_by(&mut self, by: &str, board: &Board) {
         let stored = if board.store().is_some() { "stored" } else { "nothing stored" };
-        self.hit(format!("settings by {by} {stored}"));
+        self.hit(format_args!("settings by {by} {stored}"));
     }
 
+    /// Counts a save by its key, its checksum and its save count.
     fn see_save(&mut self, tick: &Ticked, command: &[u8]) {
         if command[4] != 0xA7 {
-            return self.hit("save key wrong".to_string());
+            return self.hit(format_args!("save key wrong"));
         }
         let real = tick.before.settings().checksum();
         let stored = tick.before.store().map(|store| store.save_count);
@@ -353,31 +389,32 @@ impl Coverage {
             _ if given == real => "right",
             _ => "wrong",
         };
-        self.hit(format!("save {which} {checksum}"));
+        self.hit(format_args!("save {which} {checksum}"));
         if checksum == "wrong" {
             return;
         }
         match stored {
-            Some(65_534) => self.hit("save to 65535".to_string()),
-            Some(65_535) => self.hit("save at 65535".to_string()),
+            Some(65_534) => self.hit(format_args!("save to 65535")),
+            Some(65_535) => self.hit(format_args!("save at 65535")),
             _ => {}
         }
         if real == 0 {
-            self.hit("save real checksum 0".to_string());
+            self.hit(format_args!("save real checksum 0"));
         }
     }
 
+    /// Counts what the watchdog did, what a reset lost, and tops.
     fn see_event(&mut self, tick: &Ticked) {
         // The command may have moved the mode once more before step 5.
         let mode = match tick.event {
             'W' => tick.mode,
             _ => tick.after.mode().mode(),
         };
-        self.hit(format!("event {} {}", tick.event, char::from(mode.letter())));
+        self.hit(format_args!("event {} {}", tick.event, letter(mode)));
         self.see_timeout(tick);
         if tick.event == 'W' {
             if ('3'..='7').contains(&tick.answer) || tick.answer == '0' {
-                self.hit(format!("lost made W {}", tick.answer));
+                self.hit(format_args!("lost made W {}", tick.answer));
             }
             self.see_settings_by("W", tick.before);
             self.see_lost("W", tick);
@@ -389,11 +426,11 @@ impl Coverage {
         let tops =
             [("power", resets.power), ("watchdog", resets.watchdog), ("command", resets.command)];
         for (name, _) in tops.iter().filter(|(_, count)| *count == u16::MAX) {
-            self.hit(format!("top {name}"));
+            self.hit(format_args!("top {name}"));
         }
         for (name, value) in [("age", tick.after.mode().age()), ("timer", tick.after.timer())] {
             if value == u64::MAX {
-                self.hit(format!("top {name}"));
+                self.hit(format_args!("top {name}"));
             }
         }
     }
@@ -402,14 +439,15 @@ impl Coverage {
     fn see_timeout(&mut self, tick: &Ticked) {
         let seconds = tick.before.settings().watchdog_timeout();
         if tick.event != '-' {
-            self.hit(format!("watchdog {} {}", tick.event, size_of(seconds)));
+            self.hit(format_args!("watchdog {} {}", tick.event, size_of(seconds)));
         } else if tick.after.timer() > 65_535 && seconds == 0 {
-            self.hit("watchdog of 0 beyond 65535 ticks".to_string());
+            self.hit(format_args!("watchdog of 0 beyond 65535 ticks"));
         } else if tick.after.timer() > 65_535 {
-            self.hit("watchdog above 655 s beyond 65535 ticks".to_string());
+            self.hit(format_args!("watchdog above 655 s beyond 65535 ticks"));
         }
     }
 
+    /// Counts what a reset wiped.
     fn see_lost(&mut self, by: &str, tick: &Ticked) {
         let lost = [
             ("waiting", !tick.before.waiting_reply().is_empty()),
@@ -418,33 +456,7 @@ impl Coverage {
             ("ascii form", tick.before.form() == crate::text::Form::Ascii),
         ];
         for (what, _) in lost.iter().filter(|(_, was)| *was) {
-            self.hit(format!("lost {what} {by}"));
+            self.hit(format_args!("lost {what} {by}"));
         }
     }
-}
-
-/// Rails that lie on and beside each threshold, and the ends of the type.
-pub fn rails(board: &Board) -> [(&'static str, i32); 16] {
-    let low = i32::from(board.settings().safety_low());
-    let high = i32::from(board.settings().safety_high());
-    let emergency_low = i32::from(EMERGENCY_LOW);
-    let emergency_high = i32::from(EMERGENCY_HIGH);
-    [
-        ("safety low -1", low - 1),
-        ("safety low +0", low),
-        ("safety low +1", low + 1),
-        ("safety high -1", high - 1),
-        ("safety high +0", high),
-        ("safety high +1", high + 1),
-        ("emergency low -1", emergency_low - 1),
-        ("emergency low +0", emergency_low),
-        ("emergency low +1", emergency_low + 1),
-        ("emergency high -1", emergency_high - 1),
-        ("emergency high +0", emergency_high),
-        ("emergency high +1", emergency_high + 1),
-        ("-32768", -32_768),
-        ("-1", -1),
-        ("0", 0),
-        ("32767", 32_767),
-    ]
 }

@@ -1,11 +1,12 @@
 //! What a session sheet reaches.
 
-use super::Coverage;
+use super::{Coverage, MODES};
 use crate::sheet::{self, Cause, Fault, Part, SheetRefusal, LONGEST_SHEET};
 
 const NUMBER: [Cause; 4] = [Cause::NoNumber, Cause::NotDigit, Cause::LeadingZero, Cause::TooLarge];
 const LINE: [Cause; 2] = [Cause::NoLine, Cause::NoLineEnd];
 
+/// Each part of the form with the ways it can be broken.
 fn faults() -> Vec<(Part, Vec<Cause>)> {
     let counted = [&LINE[..], &[Cause::WrongWord], &NUMBER].concat();
     let listed = [&LINE[..], &NUMBER, &[Cause::NotRising, Cause::CountDisagrees]].concat();
@@ -24,6 +25,7 @@ fn faults() -> Vec<(Part, Vec<Cause>)> {
     ]
 }
 
+/// Adds every cell of session sheets.
 pub fn universe(coverage: &mut Coverage) {
     for (part, causes) in faults() {
         for cause in causes {
@@ -40,11 +42,12 @@ pub fn universe(coverage: &mut Coverage) {
     for what in ["ok", "no ticks", "4096 ticks", "command of 256 bytes", "no forced channel"] {
         coverage.add(format!("sheet {what}"));
     }
-    for mode in ['U', 'N', 'F', 'E'] {
+    for mode in MODES {
         coverage.add(format!("sheet prints mode {mode}"));
     }
 }
 
+/// The cell of a fault of form.
 fn refused_14(part: Part, cause: Cause) -> String {
     format!("sheet refused 14 {part:?} {cause:?}")
 }
@@ -57,38 +60,42 @@ fn has_bad_profile(input: &[u8]) -> bool {
 }
 
 impl Coverage {
+    /// Counts what a sheet reaches.
     pub fn see_sheet(&mut self, input: &[u8]) {
-        self.hit_if_any(format!("sheet size {}", input.len().min(LONGEST_SHEET + 1)));
+        self.hit_if_any(format_args!("sheet size {}", input.len().min(LONGEST_SHEET + 1)));
         match sheet::run(input) {
             Ok(transcript) => self.see_transcript(input, &transcript),
             Err(SheetRefusal::Form(Fault { part, cause })) => {
-                self.hit(refused_14(part, cause));
+                self.hit(format_args!("{}", refused_14(part, cause)));
                 if has_bad_profile(input) {
-                    self.hit("sheet refused 14 behind a bad profile".to_string());
+                    self.hit(format_args!("sheet refused 14 behind a bad profile"));
                 }
             }
-            Err(SheetRefusal::Profile(fault)) => self.hit(format!("sheet refused 8 {fault:?}")),
+            Err(SheetRefusal::Profile(fault)) => {
+                self.hit(format_args!("sheet refused 8 {fault:?}"))
+            }
         }
     }
 
+    /// Counts what a sound sheet holds and prints.
     fn see_transcript(&mut self, input: &[u8], transcript: &[u8]) {
-        self.hit("sheet ok".to_string());
+        self.hit(format_args!("sheet ok"));
         let Ok(sheet) = sheet::parse(input) else { return };
         match sheet.ticks.len() {
-            0 => self.hit("sheet no ticks".to_string()),
-            4096 => self.hit("sheet 4096 ticks".to_string()),
+            0 => self.hit(format_args!("sheet no ticks")),
+            4096 => self.hit(format_args!("sheet 4096 ticks")),
             _ => {}
         }
         if sheet.forced == 0 {
-            self.hit("sheet no forced channel".to_string());
+            self.hit(format_args!("sheet no forced channel"));
         }
         let longest = 3 * sheet::LONGEST_COMMAND - 1;
         if sheet.ticks.iter().flat_map(|tick| &tick.command).any(|text| text.len() == longest) {
-            self.hit("sheet command of 256 bytes".to_string());
+            self.hit(format_args!("sheet command of 256 bytes"));
         }
         for line in transcript.split(|byte| *byte == b'\n').skip(1) {
             if let Some(mode) = line.split(|byte| *byte == b' ').nth(1) {
-                self.hit(format!("sheet prints mode {}", char::from(mode[0])));
+                self.hit(format_args!("sheet prints mode {}", char::from(mode[0])));
             }
         }
     }

@@ -1,13 +1,10 @@
 //! The text line: each refusal in each form, each success, each framing.
 
-use super::Coverage;
+use super::{letter, Coverage, MODES};
 use crate::board::Board;
 use crate::hex;
 use crate::replay::Latest;
-use crate::text::Form;
-
-const OPEN: &[u8] = b"<cmd>";
-const CLOSE: &[u8] = b"</cmd>";
+use crate::text::{find, Form, CLOSE, OPEN};
 
 /// What a read may find in either form.
 const EITHER: [&str; 13] = [
@@ -43,6 +40,7 @@ const ASCII: [&str; 12] = [
     "command with exact scratch",
 ];
 
+/// Adds the cells of the text line.
 pub fn universe(coverage: &mut Coverage) {
     for form in ["raw", "ascii"] {
         for found in EITHER {
@@ -59,7 +57,7 @@ pub fn universe(coverage: &mut Coverage) {
             }
         }
     }
-    for mode in ['U', 'N', 'F', 'E'] {
+    for mode in MODES {
         for form in ["raw", "ascii"] {
             for found in ["command", "form", "refused"] {
                 coverage.add(format!("text in {mode} {form} {found}"));
@@ -80,6 +78,7 @@ pub fn universe(coverage: &mut Coverage) {
     }
 }
 
+/// The name of a form.
 fn name(form: Form) -> &'static str {
     match form {
         Form::Raw => "raw",
@@ -87,19 +86,16 @@ fn name(form: Form) -> &'static str {
     }
 }
 
-fn letter(board: &Board) -> char {
-    char::from(board.mode().mode().letter())
-}
-
-fn find(bytes: &[u8], tag: &[u8]) -> Option<usize> {
-    bytes.windows(tag.len()).position(|window| window == tag)
-}
-
 impl Coverage {
+    /// Counts a read of the text line.
     pub fn see_text(&mut self, board: &Board, received: &[u8], scratch: usize, printed: &[u8]) {
         let words: Vec<&[u8]> = printed.split(|byte| *byte == b' ').collect();
         let what = String::from_utf8_lossy(words[0]);
-        self.hit(format!("text in {} {} {what}", letter(board), name(board.form())));
+        self.hit(format_args!(
+            "text in {} {} {what}",
+            letter(board.mode().mode()),
+            name(board.form())
+        ));
         let found = match (words[0], words[1]) {
             (b"command", _) => "command".to_string(),
             (b"form", to) => format!("switch to {}", String::from_utf8_lossy(to)),
@@ -107,53 +103,56 @@ impl Coverage {
         };
         let form = name(board.form());
         let Some(start) = find(received, OPEN).map(|at| at + OPEN.len()) else {
-            return self.hit(format!("text {form} 10 no opening tag"));
+            return self.hit(format_args!("text {form} 10 no opening tag"));
         };
         let Some(length) = find(&received[start..], CLOSE) else {
             let early = find(&received[..start], CLOSE).is_some();
             let why = if early { "closing tag before the opening one" } else { "no closing tag" };
-            return self.hit(format!("text {form} 10 {why}"));
+            return self.hit(format_args!("text {form} 10 {why}"));
         };
         let payload = &received[start..start + length];
         self.see_surroundings(form, received, start, payload);
         self.see_found(form, &found, payload, scratch);
     }
 
+    /// Counts what stands around a frame and within it.
     fn see_surroundings(&mut self, form: &str, received: &[u8], start: usize, payload: &[u8]) {
         if start > OPEN.len() {
-            self.hit(format!("text {form} bytes before the frame"));
+            self.hit(format_args!("text {form} bytes before the frame"));
         }
         if start + payload.len() + CLOSE.len() < received.len() {
-            self.hit(format!("text {form} bytes behind the frame"));
+            self.hit(format_args!("text {form} bytes behind the frame"));
         }
         if find(payload, OPEN).is_some() {
-            self.hit(format!("text {form} inner opening tag"));
+            self.hit(format_args!("text {form} inner opening tag"));
         }
     }
 
+    /// Counts what a read made of a frame.
     fn see_found(&mut self, form: &str, found: &str, payload: &[u8], scratch: usize) {
         let length = payload.len();
         match found {
-            "11" if length == 257 => self.hit(format!("text {form} 11 of 257")),
-            "11" => self.hit(format!("text {form} 11 of more")),
-            _ => self.hit(format!("text {form} {found}")),
+            "11" if length == 257 => self.hit(format_args!("text {form} 11 of 257")),
+            "11" => self.hit(format_args!("text {form} 11 of more")),
+            _ => self.hit(format_args!("text {form} {found}")),
         }
+        self.hit_if_any(format_args!("text {form} {found} of {length}"));
         if form == "raw" {
-            return self.hit_if_any(format!("text raw {found} of {length}"));
+            return;
         }
-        self.hit_if_any(format!("text ascii {found} of {length}"));
         let count = hex::spaced_length(payload).unwrap_or(0);
         match found {
-            "12" => self.hit(format!("text ascii 12 {}", defect(payload))),
-            "13" if scratch == 0 => self.hit("text ascii 13 with no scratch".to_string()),
-            "13" if scratch + 1 == count => self.hit("text ascii 13 one short".to_string()),
+            "12" => self.hit(format_args!("text ascii 12 {}", defect(payload))),
+            "13" if scratch == 0 => self.hit(format_args!("text ascii 13 with no scratch")),
+            "13" if scratch + 1 == count => self.hit(format_args!("text ascii 13 one short")),
             "command" if scratch == count => {
-                self.hit("text ascii command with exact scratch".to_string())
+                self.hit(format_args!("text ascii command with exact scratch"))
             }
             _ => {}
         }
     }
 
+    /// Counts a framing.
     pub fn see_frame(&mut self, board: &Board, latest: Latest, room: usize, printed: &[u8]) {
         let form = name(board.form());
         let (what, body) = match (latest, board.reply_of_tick()) {
@@ -164,16 +163,16 @@ impl Coverage {
         };
         let whole = if what == "nothing" { 0 } else { body + 13 };
         let result = if printed.starts_with(b"written") { "written" } else { "refused" };
-        self.hit(format!("frame {form} {what} {result}"));
-        self.hit(format!("frame in {} {form} {what}", letter(board)));
+        self.hit(format_args!("frame {form} {what} {result}"));
+        self.hit(format_args!("frame in {} {form} {what}", letter(board.mode().mode())));
         if room == whole && room > 0 {
-            self.hit(format!("frame {form} {what} exact"));
+            self.hit(format_args!("frame {form} {what} exact"));
         }
         if room + 1 == whole {
-            self.hit(format!("frame {form} {what} one short"));
+            self.hit(format_args!("frame {form} {what} one short"));
         }
         if room == 0 {
-            self.hit(format!("frame {form} {what} into no room"));
+            self.hit(format_args!("frame {form} {what} into no room"));
         }
     }
 }

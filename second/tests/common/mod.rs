@@ -15,14 +15,17 @@ pub const DEEP: i16 = 11_999;
 pub const FITTED: u32 = 0x0003_000F;
 pub const FORCED: u32 = 0x0001_0001;
 
+/// The profile of most tests.
 pub fn profile() -> Profile<'static> {
     Profile { bid: 1, fitted: FITTED, forced: FORCED, stored: None }
 }
 
+/// A board in the first tick of startup.
 pub fn started(fitted: u32, forced: u32) -> Board {
     Board::start(&Profile { bid: 1, fitted, forced, stored: None }).unwrap()
 }
 
+/// A tick with all that it may bring.
 pub fn tick_full(
     board: &mut Board,
     rail: i16,
@@ -33,16 +36,19 @@ pub fn tick_full(
     board.tick(&Tick { rail, overcurrent, words, command }).unwrap()
 }
 
+/// A tick that brings nothing but its rail.
 pub fn tick(board: &mut Board, rail: i16) -> Event {
     tick_full(board, rail, 0, &[], None).event
 }
 
+/// Many ticks that bring nothing but their rail.
 pub fn ticks(board: &mut Board, rail: i16, count: usize) {
     for _ in 0..count {
         tick(board, rail);
     }
 }
 
+/// A tick that names channels and leaves the mode as it is.
 pub fn overcurrent(board: &mut Board, named: u32) {
     let rail = steady(board);
     tick_full(board, rail, named, &[], None);
@@ -57,10 +63,12 @@ pub fn steady(board: &Board) -> i16 {
     }
 }
 
+/// A transfer under this rail, and its answer.
 pub fn send_at(board: &mut Board, rail: i16, command: &[u8]) -> Answer {
     tick_full(board, rail, 0, &[], Some(command)).answer.unwrap()
 }
 
+/// A transfer that leaves the mode as it is, and its answer.
 pub fn send(board: &mut Board, command: &[u8]) -> Answer {
     let rail = steady(board);
     send_at(board, rail, command)
@@ -73,11 +81,13 @@ pub fn command(board: &Board, code: u8, rest: &[u8]) -> Vec<u8> {
     bytes
 }
 
+/// A command with a right header, and its answer.
 pub fn give(board: &mut Board, code: u8, rest: &[u8]) -> Answer {
     let bytes = command(board, code, rest);
     send(board, &bytes)
 }
 
+/// Sets a 16-bit parameter.
 pub fn set(board: &mut Board, id: u16, value: u16) {
     let [low, high] = id.to_le_bytes();
     let [first, second] = value.to_le_bytes();
@@ -90,11 +100,13 @@ pub fn get(board: &mut Board, id: u16) -> Vec<u8> {
     board.waiting_reply()[8..].to_vec()
 }
 
+/// The value of a 16-bit parameter.
 pub fn get_word(board: &mut Board, id: u16) -> u16 {
     let value = get(board, id);
     u16::from_le_bytes([value[0], value[1]])
 }
 
+/// A board that has just come into the mode.
 pub fn in_mode(mode: Mode, fitted: u32, forced: u32) -> Board {
     let mut board = started(fitted, forced);
     match mode {
@@ -110,18 +122,22 @@ pub fn in_mode(mode: Mode, fitted: u32, forced: u32) -> Board {
     board
 }
 
+/// A board that has just come into nominal.
 pub fn nominal() -> Board {
     in_mode(Mode::Nominal, FITTED, FORCED)
 }
 
+/// A board that has just come into safety.
 pub fn safety() -> Board {
     in_mode(Mode::Safety, FITTED, FORCED)
 }
 
+/// A board that has just come into emergency.
 pub fn emergency() -> Board {
     in_mode(Mode::Emergency, FITTED, FORCED)
 }
 
+/// The defaults as they would be stored.
 pub fn stored_defaults() -> [u8; SIZE] {
     *Settings::defaults().bytes()
 }

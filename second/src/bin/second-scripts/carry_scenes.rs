@@ -2,18 +2,19 @@
 
 use crate::author::{hex, Author};
 use crate::data_scenes::lend;
+use crate::starts::{stored_start, with};
 use crate::text_scenes;
 use second::mode::Mode;
-use second::settings::Settings;
 use second::text::Form;
 
 const SOUND: &str = "B 05 00FF00FF 00010001";
 const REFUSED: &str = "B 09 00FF00FF 00010001";
 
+/// Everything that a line may carry over to the next ones.
 pub fn all(author: &mut Author) {
     author.say(SOUND);
     text_scenes::switch(author, Form::Ascii);
-    text_scenes::brief(author);
+    text_scenes::some(author);
     words(author);
     never_spoken_to(author);
     echoes(author);
@@ -24,23 +25,25 @@ pub fn all(author: &mut Author) {
     either_case(author);
     for mode in [Mode::Nominal, Mode::Safety] {
         author.reach(mode);
-        text_scenes::brief(author);
+        text_scenes::some(author);
     }
     author.show();
 }
 
-fn stored_start() -> String {
-    format!("P 06 00FF00FF 00010001 0003 {}", hex(Settings::defaults().bytes()))
-}
-
 /// Lent words outlive a start, refused or not, but not a tick.
 fn words(author: &mut Author) {
-    for start in [SOUND.to_string(), REFUSED.to_string(), stored_start()] {
+    for start in [
+        SOUND.to_string(),
+        REFUSED.to_string(),
+        stored_start("06 00FF00FF 00010001", 3, &with(&[])),
+    ] {
         for count in [122, 5] {
             lend(author, count);
             author.say(&start);
             author.say("T 3A98 00000000 -");
-            author.show();
+            if count == 122 || !author.is_brief() {
+                author.show();
+            }
             author.say("T 3A98 00000000 -");
         }
     }
@@ -56,9 +59,7 @@ fn words(author: &mut Author) {
 /// Safety before any transfer.
 fn never_spoken_to(author: &mut Author) {
     author.say(SOUND);
-    while author.mode() != Mode::Safety {
-        author.tick(-1, 0, None);
-    }
+    author.startup_at(-1);
     author.say("R 0004");
     author.say("F 0004");
 }
@@ -91,7 +92,7 @@ fn echoes(author: &mut Author) {
     }
     author.reach(Mode::Nominal);
     author.give(0x02, &[]);
-    author.say(&stored_start());
+    author.say(&stored_start("06 00FF00FF 00010001", 3, &with(&[])));
     author.say("F 001C");
     author.say("R 0006");
 }
@@ -99,7 +100,8 @@ fn echoes(author: &mut Author) {
 /// The same words once more are new words, and so are zeros.
 fn same_words(author: &mut Author) {
     author.reach(Mode::Nominal);
-    for word in ["0000", "A5C3", "A5C3", "0000"] {
+    let words = ["0000", "A5C3", "A5C3", "0000"];
+    for word in words.into_iter().take(if author.is_brief() { 2 } else { 4 }) {
         for _ in 0..2 {
             author.say(&format!("W 007A {}", word.repeat(122)));
             author.give(0x50, &[]);
@@ -149,7 +151,7 @@ fn waiting_reply(author: &mut Author) {
 
 /// Channels 31 and 0 as any other, commandable and forced.
 fn last_channel(author: &mut Author) {
-    for forced in ["00000001", "80000000"] {
+    for forced in ["80000000", "00000001"].into_iter().take(if author.is_brief() { 1 } else { 2 }) {
         author.say(&format!("B 07 80000001 {forced}"));
         author.reach(Mode::Nominal);
         for code in [0x16, 0x18, 0x16] {
@@ -164,7 +166,7 @@ fn last_channel(author: &mut Author) {
 
 /// Capitals, small letters and both, in every field of every line.
 fn either_case(author: &mut Author) {
-    let stored = hex(Settings::defaults().bytes()).replace("00C8", "00c8");
+    let stored = hex(&with(&[])).replace("00C8", "00c8");
     let lines = [
         "B 0a 00000abc 00000aBc".to_string(),
         "B 05 abcdefab 0a0c0e0a".to_string(),
@@ -191,7 +193,7 @@ fn either_case(author: &mut Author) {
     ];
     for line in &lines {
         author.say(line);
-        if line.starts_with(['B', 'P', 'T']) {
+        if line.starts_with('P') || line.starts_with(['B', 'T']) && !author.is_brief() {
             author.show();
         }
     }

@@ -3,21 +3,12 @@
 use crate::author::Author;
 use crate::rng::Rng;
 use second::board::Board;
-use second::coverage::{CODES, STRANGERS};
+use second::coverage::{needed, CODES, STRANGERS};
 use second::mode::Mode;
 use second::settings::{self, Kind, Row, READ_ONLY, ROWS};
 
 /// The settings that move the mode or bite; the random author sets them with care.
 const LIVE: [u16; 3] = [0x4000, 0x4042, 0x4043];
-
-fn needed(code: u8) -> usize {
-    match code {
-        0xAA | 0x16 | 0x18 | 0x90 | 0x92 => 5,
-        0x10 | 0x12 | 0x14 | 0x82 | 0x86 => 6,
-        0x84 | 0x94 => 7,
-        _ => 4,
-    }
-}
 
 /// A full command that is accepted wherever its mode allows it.
 fn good(board: &Board, code: u8, rng: &mut Rng) -> Vec<u8> {
@@ -44,6 +35,7 @@ fn good(board: &Board, code: u8, rng: &mut Rng) -> Vec<u8> {
     bytes
 }
 
+/// A channel of the set, or 0 where it is empty.
 fn one_of(set: u32, rng: &mut Rng) -> u8 {
     let members: Vec<u8> = (0..32).filter(|channel| set >> channel & 1 != 0).collect();
     if members.is_empty() {
@@ -53,6 +45,7 @@ fn one_of(set: u32, rng: &mut Rng) -> u8 {
     }
 }
 
+/// A read/write id that neither moves the mode nor bites.
 fn known_id(rng: &mut Rng) -> u16 {
     loop {
         let row = &ROWS[rng.below(ROWS.len())];
@@ -63,6 +56,7 @@ fn known_id(rng: &mut Rng) -> u16 {
     }
 }
 
+/// An id of any kind, known or not.
 fn any_id(rng: &mut Rng) -> u16 {
     match rng.below(4) {
         0 => rng.pick(&STRANGERS),
@@ -85,6 +79,7 @@ fn value(id: u16, rng: &mut Rng) -> Vec<u8> {
     wire(value, place.row.kind)
 }
 
+/// The ends of a range, of its type and of the sign, and the values beside them.
 fn ends(row: &Row) -> Vec<i64> {
     let kind = row.kind;
     let mut ends = vec![kind.lowest(), row.low - 1, row.low, row.low + 1, -1, 0, 1];
@@ -95,6 +90,7 @@ fn ends(row: &Row) -> Vec<i64> {
     ends
 }
 
+/// The bytes of a value of this type.
 fn wire(value: i64, kind: Kind) -> Vec<u8> {
     value.to_le_bytes()[..kind.size()].to_vec()
 }
@@ -151,17 +147,27 @@ pub fn harmless(board: &Board, rng: &mut Rng) -> Vec<u8> {
     }
 }
 
+/// A command of any kind for the author's board.
+pub fn draw(author: &mut Author) -> Vec<u8> {
+    let (board, rng) = author.board_and_rng();
+    any(board, rng)
+}
+
+/// The same, but it neither resets nor switches the mode.
+pub fn draw_harmless(author: &mut Author) -> Vec<u8> {
+    let (board, rng) = author.board_and_rng();
+    harmless(board, rng)
+}
+
+/// Sends a command of any kind.
 pub fn random(author: &mut Author) {
-    let command = {
-        let board = author.board().clone();
-        any(&board, &mut author.rng)
-    };
+    let command = draw(author);
     author.send(&command);
 }
 
+/// Sends a command that neither resets nor switches the mode.
 pub fn random_harmless(author: &mut Author) {
-    let board = author.board().clone();
-    let command = harmless(&board, &mut author.rng);
+    let command = draw_harmless(author);
     author.send(&command);
 }
 
@@ -174,22 +180,28 @@ pub fn all_in(author: &mut Author, mode: Mode, with_reset: bool) {
         }
         every_length(author, mode, code);
         for (at, value) in [(0, 0x00), (1, 0x00), (3, 0x00), (0, 0x1A), (1, 0x06), (3, 0x09)] {
+            if author.skips() {
+                continue;
+            }
             author.reach(mode);
-            let board = author.board().clone();
-            let mut bytes = good(&board, code, &mut author.rng);
+            let (board, rng) = author.board_and_rng();
+            let mut bytes = good(board, code, rng);
             bytes[at] = value;
             author.send(&bytes);
         }
-        for _ in 0..3 {
+        for _ in 0..if author.is_brief() { 1 } else { 3 } {
             author.reach(mode);
-            let board = author.board().clone();
-            let bytes = invalid(&board, code, &mut author.rng);
+            let (board, rng) = author.board_and_rng();
+            let bytes = invalid(board, code, rng);
             author.send(&bytes);
         }
     }
     for code in [0x03, 0xAB, 0x95, 0xFF, 0x00, 0x40, 0xA0, 0xC4, 0xFE] {
         author.reach(mode);
         author.give(code, &[0xA6, 0, 0]);
+        if author.skips() {
+            continue;
+        }
         author.reach(mode);
         let mut bytes = author.command(code, &[]);
         bytes[0] = 0x12;
@@ -197,17 +209,37 @@ pub fn all_in(author: &mut Author, mode: Mode, with_reset: bool) {
     }
 }
 
+/// A good command cut or padded to each length around the one it needs.
 fn every_length(author: &mut Author, mode: Mode, code: u8) {
-    let most = if code == 0x84 { 13 } else { needed(code) + 3 };
-    for length in 0..=most {
+    for length in 0..=needed(code) + 3 {
+        let matters = mode == Mode::Nominal && length >= 4 && (code != 0xAA || length <= 5);
+        if !matters && author.skips() {
+            continue;
+        }
         author.reach(mode);
-        let board = author.board().clone();
-        let mut bytes = good(&board, code, &mut author.rng);
+        let (board, rng) = author.board_and_rng();
+        let mut bytes = good(board, code, rng);
         while bytes.len() < length {
             bytes.push(author.rng.byte());
         }
         bytes.truncate(length);
         author.send(&bytes);
+    }
+}
+
+/// Good commands with many bytes behind them, up to all that a transfer may have.
+pub fn long(author: &mut Author) {
+    for code in [0x02, 0x10, 0x84, 0x42] {
+        for length in [15, 64, 255, 256, 257, 300] {
+            if author.is_brief() && (code != 0x10 || length < 256) {
+                continue;
+            }
+            author.reach(Mode::Nominal);
+            let (board, rng) = author.board_and_rng();
+            let mut bytes = good(board, code, rng);
+            bytes.resize_with(length, || rng.byte());
+            author.send(&bytes);
+        }
     }
 }
 
@@ -224,21 +256,28 @@ pub fn all_parameters(author: &mut Author) {
             author.give(0x84, &[&row.last.to_le_bytes()[..], &bytes].concat());
         }
     }
-    let read_only = READ_ONLY.iter().flat_map(|row| row.first..=row.last);
-    for id in read_only.chain(STRANGERS) {
+    for id in read_only_ids().chain(STRANGERS) {
         author.reach(Mode::Nominal);
         author.give(0x82, &id.to_le_bytes());
-        author.give(0x84, &[&id.to_le_bytes()[..], &[1, 2, 3, 4]].concat());
-        author.give(0x86, &id.to_le_bytes());
-        author.give(0x84, &id.to_le_bytes());
+        for (code, value) in [(0x84, &[1, 2, 3, 4][..]), (0x86, &[]), (0x84, &[])] {
+            if !author.skips() {
+                author.give(code, &[&id.to_le_bytes()[..], value].concat());
+            }
+        }
     }
     author.show();
 }
 
 /// Get, set to something, get it back; some are put back to their default and
-/// some are left, so that the state line at the end tells them apart.
+/// some are left, so that the state line at the end tells them apart. In a brief
+/// script the ids within a row are only set.
 fn all_of(author: &mut Author, id: u16, row: &Row) {
     author.reach(Mode::Nominal);
+    if author.is_brief() && id != row.first && id != row.last {
+        let value = author.rng.between(row.low, row.high);
+        author.give(0x84, &[&id.to_le_bytes()[..], &wire(value, row.kind)].concat());
+        return;
+    }
     author.give(0x82, &id.to_le_bytes());
     let value = author.rng.between(row.low, row.high);
     author.give(0x84, &[&id.to_le_bytes()[..], &wire(value, row.kind)].concat());
@@ -249,8 +288,12 @@ fn all_of(author: &mut Author, id: u16, row: &Row) {
     }
 }
 
+/// 0x84 with each number of value bytes around the one it needs.
 fn every_value_length(author: &mut Author, row: &Row) {
     for length in 0..=row.kind.size() + 3 {
+        if author.skips() {
+            continue;
+        }
         author.reach(Mode::Nominal);
         let mut bytes = wire(row.default, row.kind);
         bytes.resize(length, 0x7F);
@@ -265,9 +308,14 @@ pub fn status(author: &mut Author) {
     }
 }
 
+/// Every read-only id, lowest first.
+fn read_only_ids() -> impl Iterator<Item = u16> {
+    READ_ONLY.iter().flat_map(|row| row.first..=row.last)
+}
+
 /// Every read-only value, those that must read 0 among them.
 pub fn all_read_only(author: &mut Author) {
-    for id in READ_ONLY.iter().flat_map(|row| row.first..=row.last) {
+    for id in read_only_ids() {
         author.give(0x82, &id.to_le_bytes());
     }
 }
@@ -276,12 +324,12 @@ pub fn all_read_only(author: &mut Author) {
 pub fn saves(author: &mut Author) {
     author.reach(Mode::Nominal);
     for _ in 0..author.rng.between(2, 6) {
-        let board = author.board().clone();
-        let code = author.rng.pick(&[0x84, 0x84, 0x86, 0x90, 0x92, 0x94, 0x94, 0x94, 0x82]);
-        let bytes = match (code, author.rng.below(3)) {
-            (0x94, 0) => invalid(&board, code, &mut author.rng),
-            (0x82, _) => author.command(0x82, &[0x01 + (board.timer() & 1) as u8, 0x48]),
-            _ => good(&board, code, &mut author.rng),
+        let (board, rng) = author.board_and_rng();
+        let code = rng.pick(&[0x84, 0x84, 0x86, 0x90, 0x92, 0x94, 0x94, 0x94, 0x82]);
+        let bytes = match (code, rng.below(3)) {
+            (0x94, 0) => invalid(board, code, rng),
+            (0x82, _) => vec![0x11, 7, 0x82, board.bid(), 0x01 + (board.timer() & 1) as u8, 0x48],
+            _ => good(board, code, rng),
         };
         author.send(&bytes);
     }
@@ -303,7 +351,9 @@ pub fn all_saves(author: &mut Author) {
         author.give(0x94, &[0xA7, right as u8 ^ 1, (right >> 8) as u8]);
         author.give(0x94, &[0xA7, right as u8, (right >> 8) as u8 ^ 0x80]);
         author.give(0x94, &[0xA6, 0, 0]);
-        author.show();
+        if !author.is_brief() {
+            author.show();
+        }
         author.give(
             0x94,
             &[[0xA7, 0, 0], [0xA7, right as u8, (right >> 8) as u8]][usize::from(round != 1)],

@@ -2,14 +2,14 @@
 
 use crate::author::{hex, Author};
 use crate::rng::Rng;
-use second::settings::Settings;
+use crate::starts::{stored_start, with};
 
 /// Lines of each form, the limits among them.
 fn whole(rng: &mut Rng) -> String {
     let bytes = |count: usize| "5A".repeat(count);
     match rng.below(12) {
         0 => "B 01 0000000F 00000001".to_string(),
-        1 => format!("P 02 0000000F 00000001 0007 {}", hex(Settings::defaults().bytes())),
+        1 => stored_start("02 0000000F 00000001", 7, &with(&[])),
         2 => "W 0000 -".to_string(),
         3 => format!("W 0100 {}", bytes(512)),
         4 => "T 3A98 00000000 -".to_string(),
@@ -41,95 +41,109 @@ fn damaged(mut line: Vec<u8>, rng: &mut Rng) -> Vec<u8> {
     line
 }
 
+/// Says a line with one fault.
 pub fn random(author: &mut Author) {
     let line = whole(&mut author.rng).into_bytes();
     let line = damaged(line, &mut author.rng);
     author.say_bytes(&line);
 }
 
+/// Lines around each form, none of them long.
+const SHORT: [&str; 75] = [
+    "",
+    " ",
+    "X",
+    "s",
+    "S ",
+    " S",
+    "SS",
+    "S 00",
+    "B",
+    "P",
+    "W",
+    "T",
+    "R",
+    "L",
+    "F",
+    "B 01",
+    "B 1 0000000F 00000001",
+    "B 001 0000000F 00000001",
+    "B 01 000000F 00000001",
+    "B 01 0000000F 000000001",
+    "B 01 0000000F 00000001 ",
+    "B 01 0000000F 00000001 0000",
+    "B 01  0000000F 00000001",
+    "B 0G 0000000F 00000001",
+    "P 01 0000000F 00000001 0000 -",
+    "P 01 0000000F 00000001 0000",
+    "P 01 0000000F 00000001 0000 ",
+    "W 0000 -",
+    "W 0000 0000",
+    "W 0001 -",
+    "W 0001 0000",
+    "W 0001 000",
+    "W 0002 0000",
+    "W 0000",
+    "W 000 -",
+    "W 0000 .",
+    "W 0101 -",
+    "T 0000 00000000",
+    "T 0000 00000000 ",
+    "T 0000 00000000 -",
+    "T 0000 00000000 .",
+    "T 0000 00000000 --",
+    "T 0000 00000000 ..",
+    "T 0000 00000000 1",
+    "T 0000 00000000 11 07",
+    "T 0000 00000000 1G",
+    "T 000 00000000 -",
+    "T 00000 00000000 -",
+    "T 0000 0000000 -",
+    "T 0000 000000000 -",
+    "T 0000 00000000 - -",
+    "T -001 00000000 -",
+    "R 0000",
+    "R 0200",
+    "R 0201",
+    "R FFFF",
+    "R 000",
+    "R 00000",
+    "R 0000 ",
+    "L 0000 -",
+    "L 0200 -",
+    "L 0201 -",
+    "L 0000",
+    "L 0000 .",
+    "L 0000 3",
+    "L 0000 3G",
+    "L 0000 - -",
+    "F 0000",
+    "F 0400",
+    "F 0401",
+    "F 000",
+    "F 0000 0",
+    "S",
+    "\tS",
+    "S\r",
+];
+
 /// Every line just over and just under each limit, and every line without a board.
 pub fn all(author: &mut Author) {
-    let mut lines: Vec<String> = [
-        "",
-        " ",
-        "X",
-        "s",
-        "S ",
-        " S",
-        "SS",
-        "S 00",
-        "B",
-        "P",
-        "W",
-        "T",
-        "R",
-        "L",
-        "F",
-        "B 01",
-        "B 1 0000000F 00000001",
-        "B 001 0000000F 00000001",
-        "B 01 000000F 00000001",
-        "B 01 0000000F 000000001",
-        "B 01 0000000F 00000001 ",
-        "B 01 0000000F 00000001 0000",
-        "B 01  0000000F 00000001",
-        "B 0G 0000000F 00000001",
-        "P 01 0000000F 00000001 0000 -",
-        "P 01 0000000F 00000001 0000",
-        "P 01 0000000F 00000001 0000 ",
-        "W 0000 -",
-        "W 0000 0000",
-        "W 0001 -",
-        "W 0001 0000",
-        "W 0001 000",
-        "W 0002 0000",
-        "W 0000",
-        "W 000 -",
-        "W 0000 .",
-        "W 0101 -",
-        "T 0000 00000000",
-        "T 0000 00000000 ",
-        "T 0000 00000000 -",
-        "T 0000 00000000 .",
-        "T 0000 00000000 --",
-        "T 0000 00000000 ..",
-        "T 0000 00000000 1",
-        "T 0000 00000000 11 07",
-        "T 0000 00000000 1G",
-        "T 000 00000000 -",
-        "T 00000 00000000 -",
-        "T 0000 0000000 -",
-        "T 0000 000000000 -",
-        "T 0000 00000000 - -",
-        "T -001 00000000 -",
-        "R 0000",
-        "R 0200",
-        "R 0201",
-        "R FFFF",
-        "R 000",
-        "R 00000",
-        "R 0000 ",
-        "L 0000 -",
-        "L 0200 -",
-        "L 0201 -",
-        "L 0000",
-        "L 0000 .",
-        "L 0000 3",
-        "L 0000 3G",
-        "L 0000 - -",
-        "F 0000",
-        "F 0400",
-        "F 0401",
-        "F 000",
-        "F 0000 0",
-        "S",
-        "\tS",
-        "S\r",
-    ]
-    .iter()
-    .map(|line| line.to_string())
-    .collect();
-    let stored = hex(Settings::defaults().bytes());
+    let lines: Vec<String> = SHORT.iter().map(|line| line.to_string()).chain(long()).collect();
+    for line in &lines {
+        author.say(line);
+    }
+    author.say("B 01 0000000F 00000001");
+    for line in &lines {
+        author.say(line);
+    }
+    author.show();
+}
+
+/// Lines around the limits of their byte strings.
+fn long() -> Vec<String> {
+    let mut lines = Vec::new();
+    let stored = hex(&with(&[]));
     for digits in [stored.clone() + "00", stored[2..].to_string(), stored[1..].to_string()] {
         lines.push(format!("P 01 0000000F 00000001 0000 {digits}"));
     }
@@ -144,12 +158,5 @@ pub fn all(author: &mut Author) {
     for count in [255, 256, 257] {
         lines.push(format!("W {count:04X} {}", "ABCD".repeat(count)));
     }
-    for line in &lines {
-        author.say(line);
-    }
-    author.say("B 01 0000000F 00000001");
-    for line in &lines {
-        author.say(line);
-    }
-    author.show();
+    lines
 }

@@ -13,10 +13,9 @@ pub fn words(author: &mut Author) {
     if author.rng.once_in(8) {
         lend(author, 122);
     }
-    let board = author.board().clone();
     let command = match author.rng.below(3) {
         0 => Some(author.command(0x50, &[])),
-        1 => Some(commands::any(&board, &mut author.rng)),
+        1 => Some(commands::draw(author)),
         _ => None,
     };
     let rail = author.steady();
@@ -32,7 +31,8 @@ pub fn words(author: &mut Author) {
 /// Every number of words, with housekeeping before, in and after the tick.
 pub fn all_words(author: &mut Author) {
     author.reach(Mode::Nominal);
-    for count in [0, 1, 60, 121, 122, 123, 256, 122] {
+    let counts = [122, 60, 121, 123, 122, 0, 1, 256, 122];
+    for count in counts.into_iter().take(if author.is_brief() { 4 } else { 9 }) {
         author.give(0x50, &[]);
         lend(author, count);
         if count == 60 {
@@ -52,6 +52,7 @@ pub fn all_words(author: &mut Author) {
     author.give(0x50, &[]);
 }
 
+/// Bus reads around the length of replies of every size.
 pub fn all_reads(author: &mut Author) {
     for code in [0x02, 0x42, 0x50, 0x16] {
         author.give(code, &[]);
@@ -63,10 +64,10 @@ pub fn all_reads(author: &mut Author) {
     author.say("R 0200");
 }
 
+/// Lends this many random words.
 pub fn lend(author: &mut Author, count: usize) {
     let words: Vec<u8> = (0..2 * count).map(|_| author.rng.byte()).collect();
-    let text = if count == 0 { "-".to_string() } else { hex(&words) };
-    author.say(&format!("W {count:04X} {text}"));
+    author.say(&format!("W {count:04X} {}", hex(&words)));
 }
 
 /// Bus reads of lengths around that of the waiting reply.

@@ -11,6 +11,7 @@ use second::text::Form;
 const DEEP: i16 = 11_999;
 const UP: i16 = 12_401;
 
+/// Every way into emergency and out of it.
 pub fn all(author: &mut Author) {
     author.say("B 03 FF00FF0F 11001103");
     never_spoken_to(author);
@@ -28,9 +29,7 @@ pub fn all(author: &mut Author) {
 
 /// Into emergency and out without a transfer, words or a reply.
 fn never_spoken_to(author: &mut Author) {
-    while author.mode() != Mode::Safety {
-        author.tick(-1, 0, None);
-    }
+    author.startup_at(-1);
     enter(author, None);
     look(author);
     author.give(0x50, &[]);
@@ -68,6 +67,7 @@ fn enter(author: &mut Author, command: Option<&[u8]>) {
     assert_eq!(author.mode(), Mode::Emergency, "the linger is over and the rail is low");
 }
 
+/// Shows the state, and what a framing and a bus read make of it.
 fn look(author: &mut Author) {
     author.show();
     author.say("F 0030");
@@ -97,7 +97,7 @@ fn nothing_but_the_table(author: &mut Author) {
     author.idle();
     author.say("F 0030");
     read_words(author);
-    text_scenes::brief(author);
+    text_scenes::some(author);
     load_up(author);
     look(author);
     author.tick(12_400, u32::MAX, None);
@@ -109,7 +109,7 @@ fn nothing_but_the_table(author: &mut Author) {
     author.give(0x42, &[]);
     commands::all_read_only(author);
     author.set(0x4000, 1);
-    text_scenes::brief(author);
+    text_scenes::some(author);
     for _ in 0..100 {
         author.idle();
     }
@@ -206,6 +206,7 @@ fn low_below_emergency_low(author: &mut Author) {
     author.idle();
 }
 
+/// Safety low above both emergency thresholds: neither way out of emergency asks for it.
 fn low_above_emergency_high(author: &mut Author) {
     author.reach(Mode::Nominal);
     author.set(0x4042, 20_000);

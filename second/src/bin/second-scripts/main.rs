@@ -16,7 +16,7 @@ mod store_scenes;
 mod stretches;
 mod text_scenes;
 
-use author::Author;
+use author::{Author, Wish};
 use second::mode::Mode;
 use std::io::{self, Write};
 use std::path::Path;
@@ -26,10 +26,13 @@ const USAGE: &str = "usage: second-scripts replay SEED LINES   a mixed script of
        second-scripts KIND SEED           one thing gone through: codes, parameters, text,
                                           board, watchdog, damage, stores, ranges, carries;
                                           or one long stretch: lingers, period, counts,
-                                          emergency, timeouts, resets
+                                          emergency, timeouts, resets, bites
+       second-scripts KIND SEED brief     the same by samples
        second-scripts sheet SEED          one session sheet
-       second-scripts sheets SEED COUNT DIR";
+       second-scripts sheets SEED COUNT DIR
+       second-scripts --without-text ...  the same script without its lines L and F";
 
+/// Writes what the arguments ask for, or tells how the program is used.
 fn main() -> ExitCode {
     let arguments: Vec<String> = std::env::args().skip(1).collect();
     match run(&arguments.iter().map(String::as_str).collect::<Vec<_>>()) {
@@ -46,15 +49,20 @@ fn main() -> ExitCode {
     }
 }
 
+/// Does what the arguments ask for; none where they ask for nothing there is.
 fn run(arguments: &[&str]) -> Option<io::Result<()>> {
+    let with_text = arguments.first() != Some(&"--without-text");
+    let arguments = if with_text { arguments } else { &arguments[1..] };
+    let brief = arguments.get(2) == Some(&"brief");
+    let wish = |seed: &str| Some(Wish { seed: seed.parse().ok()?, brief, with_text });
     match arguments {
-        ["replay", seed, lines] => Some(mixed(seed.parse().ok()?, lines.parse().ok()?)),
+        ["replay", seed, lines] => Some(mixed(wish(seed)?, lines.parse().ok()?)),
         ["sheet", seed] => Some(io::stdout().write_all(&sheets::sheet(seed.parse().ok()?))),
         ["sheets", seed, count, directory] => {
             Some(write_sheets(seed.parse().ok()?, count.parse().ok()?, Path::new(directory)))
         }
-        [kind, seed] => {
-            let mut author = Author::new(seed.parse().ok()?);
+        [kind, seed] | [kind, seed, "brief"] => {
+            let mut author = Author::new(wish(seed)?);
             go_through(kind, &mut author)?;
             Some(author.finish())
         }
@@ -62,6 +70,7 @@ fn run(arguments: &[&str]) -> Option<io::Result<()>> {
     }
 }
 
+/// Writes the sheets of a run of seeds into a directory, one file each.
 fn write_sheets(seed: u64, count: u64, directory: &Path) -> io::Result<()> {
     for seed in seed..seed + count {
         std::fs::write(directory.join(format!("{seed}.sheet")), sheets::sheet(seed))?;
@@ -70,8 +79,8 @@ fn write_sheets(seed: u64, count: u64, directory: &Path) -> io::Result<()> {
 }
 
 /// Scenes drawn by lot until the script is long enough.
-fn mixed(seed: u64, lines: usize) -> io::Result<()> {
-    let mut author = Author::new(seed);
+fn mixed(wish: Wish, lines: usize) -> io::Result<()> {
+    let mut author = Author::new(wish);
     if author.rng.once_in(4) {
         author.show();
     }
@@ -91,6 +100,7 @@ fn mixed(seed: u64, lines: usize) -> io::Result<()> {
     author.finish()
 }
 
+/// One scene drawn by lot.
 fn scene(author: &mut Author) {
     match author.rng.below(41) {
         0..=7 => commands::random(author),
@@ -111,57 +121,68 @@ fn scene(author: &mut Author) {
     }
 }
 
+/// Writes the script of one kind; none where there is no such kind.
 fn go_through(kind: &str, author: &mut Author) -> Option<()> {
     match kind {
         "codes" => codes(author),
-        "parameters" => {
-            author.say("B 03 0000FFFF 00000003");
-            commands::all_parameters(author);
-        }
-        "text" => {
-            author.say("B 02 000000FF 00000003");
-            author.reach(Mode::Nominal);
-            text_scenes::all(author);
-        }
+        "parameters" => parameters(author),
+        "text" => text(author),
         "board" => board(author),
-        "watchdog" => {
-            author.say("B 07 0FF000FF 00300003");
-            reset_scenes::all_bites(author);
-            author.show();
-        }
-        "damage" => {
-            damage::all(author);
-            author.break_off("T 0000 00000000 -");
-        }
-        "lingers" => {
-            author.say("B 05 0F0FF0F0 01011010");
-            stretches::lingers(author);
-        }
-        "period" => {
-            author.say("B 06 FFFF0FFF 00F00F00");
-            stretches::period(author);
-        }
+        "watchdog" => watchdog(author),
+        "damage" => damage(author),
         "stores" => store_scenes::all(author),
         "ranges" => starts::stored_ends(author),
         "carries" => carry_scenes::all(author),
+        "lingers" => stretches::lingers(author),
+        "period" => stretches::period(author),
         "emergency" => emergency_scenes::all(author),
         "timeouts" => stretches::timeouts(author),
         "resets" => stretches::resets(author),
+        "bites" => stretches::bites(author),
         "counts" => stretches::counts(author),
         _ => return None,
     }
     Some(())
 }
 
+/// Every id by get, set and reset.
+fn parameters(author: &mut Author) {
+    author.say("B 03 0000FFFF 00000003");
+    commands::all_parameters(author);
+}
+
+/// Every kind of read and framing.
+fn text(author: &mut Author) {
+    author.say("B 02 000000FF 00000003");
+    author.reach(Mode::Nominal);
+    text_scenes::all(author);
+}
+
+/// The shortest watchdog in every setting.
+fn watchdog(author: &mut Author) {
+    author.say("B 07 0FF000FF 00300003");
+    reset_scenes::all_bites(author);
+    author.show();
+}
+
+/// Lines not of a form, and a last one that breaks off.
+fn damage(author: &mut Author) {
+    damage::all(author);
+    author.break_off("T 0000 00000000 -");
+}
+
+/// Every code in the modes that are near.
 fn codes(author: &mut Author) {
     author.say("B 01 00FFFF0F 000F0003");
     for mode in [Mode::Startup, Mode::Nominal, Mode::Safety] {
         author.reach(mode);
         commands::all_in(author, mode, true);
     }
+    commands::long(author);
     author.show();
 }
 
+/// Starts, saves, words, reads, rails, channels and a reset.
 fn board(author: &mut Author) {
     starts::edge_starts(author);
     starts::start(author);
@@ -176,12 +197,13 @@ fn board(author: &mut Author) {
         author.reach(mode);
         mode_scenes::all_rails(author, mode);
     }
-    for _ in 0..12 {
+    for _ in 0..if author.is_brief() { 4 } else { 12 } {
         channel_scenes::channels(author);
     }
     reset_scenes::reset(author);
     author.reach(Mode::Nominal);
     commands::status(author);
     channel_scenes::singles(author);
+    channel_scenes::cancel(author);
     author.show();
 }

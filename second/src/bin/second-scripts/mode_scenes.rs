@@ -2,13 +2,13 @@
 
 use crate::author::Author;
 use crate::commands;
-use second::board::{EMERGENCY_HIGH, EMERGENCY_LOW};
+use second::coverage::rails;
 use second::mode::Mode;
 
 /// The first tick out of startup: forced channels come on and may trip at once.
 pub fn out_of_startup(author: &mut Author) {
     let low = i64::from(author.board().settings().safety_low());
-    for offset in [0, -1, 1] {
+    for offset in [0, -1, 1].into_iter().take(if author.is_brief() { 2 } else { 3 }) {
         author.reach(Mode::Nominal);
         author.give(0xAA, &[0xA6]);
         while author.board().mode().age() < 49 {
@@ -22,27 +22,17 @@ pub fn out_of_startup(author: &mut Author) {
     }
 }
 
-/// On and beside each threshold, and the ends of the type.
-pub fn edge_rails(author: &Author) -> Vec<i64> {
-    let settings = author.board().settings();
-    let mut rails = vec![-32_768, -1, 0, 32_767];
-    for threshold in [settings.safety_low(), settings.safety_high(), EMERGENCY_LOW, EMERGENCY_HIGH]
-    {
-        rails.extend((-1..=1).map(|offset| i64::from(threshold) + offset));
-    }
-    rails
-}
-
-/// One of them. A number of the state picks, so that the call needs no dice.
+/// A rail on or beside a threshold, or an end of the type. A number of the state
+/// picks, so that the call needs no dice.
 fn edge_rail(author: &Author) -> i16 {
-    let rails = edge_rails(author);
+    let rails = rails(author.board());
     let pick = author.lines() * 7 % rails.len();
     rails[pick].clamp(-32_768, 32_767) as i16
 }
 
 /// Every edge rail in one mode, coming back to it each time.
 pub fn all_rails(author: &mut Author, mode: Mode) {
-    for rail in edge_rails(author).into_iter().filter(|rail| *rail <= 32_767) {
+    for rail in rails(author.board()).into_iter().filter(|rail| *rail <= 32_767) {
         author.reach(mode);
         author.tick(rail as i16, 0, None);
     }
@@ -67,11 +57,10 @@ pub fn thresholds(author: &mut Author) {
     author.set(0x4043, pair.1);
     for _ in 0..author.rng.between(5, 20) {
         let rail = edge_rail(author);
-        let board = author.board().clone();
         let command = match author.rng.below(4) {
             0 => Some(author.command(0x30, &[])),
             1 => Some(author.command(0x32, &[])),
-            2 => Some(commands::harmless(&board, &mut author.rng)),
+            2 => Some(commands::draw_harmless(author)),
             _ => None,
         };
         author.tick(rail, 0, command.as_deref());

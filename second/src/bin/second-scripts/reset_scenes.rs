@@ -31,6 +31,9 @@ pub fn watchdog(author: &mut Author) {
 /// without a store, and with each kind of last transfer.
 pub fn all_bites(author: &mut Author) {
     for last in 0..5 {
+        if last == 1 && author.is_brief() {
+            continue;
+        }
         author.reach(Mode::Nominal);
         author.set(0x4000, 1);
         if last == 3 {
@@ -51,6 +54,9 @@ pub fn all_bites(author: &mut Author) {
     // From the store the watchdog is short again at once.
     author.reach(Mode::Nominal);
     commands::status(author);
+    if author.is_brief() {
+        return;
+    }
     run_timer(author, 99);
     author.idle();
     author.reach(Mode::Nominal);
@@ -58,6 +64,7 @@ pub fn all_bites(author: &mut Author) {
     commands::status(author);
 }
 
+/// The tick in which the watchdog bites, with one kind of last transfer.
 fn before_the_bite(author: &mut Author, last: usize) {
     if last < 2 {
         text_scenes::switch(author, Form::Ascii);
@@ -75,6 +82,7 @@ fn before_the_bite(author: &mut Author, last: usize) {
     }
 }
 
+/// Waits until the watchdog bites, with something by lot at each of its two edges.
 fn bite(author: &mut Author, timeout: u64) {
     // What happens at 65 parts: nothing, a feed, or a command for another board.
     run_timer(author, timeout * 65 / 100 - 1);
@@ -96,8 +104,7 @@ fn bite(author: &mut Author, timeout: u64) {
         0 => author.tick(rail, tripped, Some(&[0x12, 7, 2, 1])),
         1 => author.tick(rail, tripped, Some(&[0x11, 7, 2])),
         2 => {
-            let board = author.board().clone();
-            let command = commands::any(&board, &mut author.rng);
+            let command = commands::draw(author);
             author.tick(rail, tripped, Some(&command));
         }
         _ => author.tick(rail, tripped, None),

@@ -5,10 +5,12 @@ pub struct Rng {
 }
 
 impl Rng {
+    /// The numbers that this seed gives.
     pub fn new(seed: u64) -> Rng {
         Rng { state: seed }
     }
 
+    /// The next number, any of 64 bits.
     pub fn next(&mut self) -> u64 {
         self.state = self.state.wrapping_add(0x9E37_79B9_7F4A_7C15);
         let mut mixed = self.state;
@@ -32,10 +34,12 @@ impl Rng {
         self.below(times) == 0
     }
 
+    /// Any byte.
     pub fn byte(&mut self) -> u8 {
         self.next() as u8
     }
 
+    /// One of these.
     pub fn pick<T: Copy>(&mut self, from: &[T]) -> T {
         from[self.below(from.len())]
     }

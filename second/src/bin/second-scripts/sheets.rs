@@ -2,6 +2,7 @@
 
 use crate::commands;
 use crate::rng::Rng;
+use crate::text_scenes::spaced;
 use second::board::{Board, Profile, Tick};
 use second::sheet::LONGEST_SHEET;
 
@@ -18,6 +19,7 @@ struct Draft {
 }
 
 impl Draft {
+    /// The whole sheet.
     fn text(&self) -> String {
         let mut text = format!(
             "{}\n{}\n{}\n{}\n{}\n{}\n",
@@ -164,6 +166,7 @@ const BOTH: [Fault; 10] = [
     },
 ];
 
+/// The lines of a profile without channels.
 fn nothing_fitted() -> (String, String, String, String) {
     ("fitted 0".to_string(), String::new(), "forced 0".to_string(), String::new())
 }
@@ -174,6 +177,7 @@ fn spare_channel(draft: &mut Draft, _: &mut Rng) {
     draft.forced += if draft.forced.is_empty() { "31" } else { " 31" };
 }
 
+/// The same count line with another number.
 fn off_by(count: &str, offset: i64) -> String {
     let (word, number) = count.split_once(' ').unwrap_or((count, "0"));
     let number: i64 = number.parse().unwrap_or(0);
@@ -193,11 +197,13 @@ fn falling(count: &mut String, list: &mut String) {
     *list = format!("31 5 {list}").trim_end().to_string();
 }
 
+/// Does something to one tick line, drawn by lot.
 fn spoil(draft: &mut Draft, rng: &mut Rng, how: fn(&mut String, &mut Rng)) {
     let at = rng.below(draft.ticks.len());
     how(&mut draft.ticks[at], rng);
 }
 
+/// Puts a text in the place of one field of a tick line.
 fn replace_field(draft: &mut Draft, rng: &mut Rng, field: usize, with: &str) {
     let at = rng.below(draft.ticks.len());
     let mut fields: Vec<&str> = draft.ticks[at].splitn(3, ' ').collect();
@@ -205,16 +211,19 @@ fn replace_field(draft: &mut Draft, rng: &mut Rng, field: usize, with: &str) {
     draft.ticks[at] = fields.join(" ");
 }
 
+/// Another rail in one tick line.
 fn rail(draft: &mut Draft, rng: &mut Rng, choices: &[&str]) {
     let with = rng.pick(choices);
     replace_field(draft, rng, 0, with);
 }
 
+/// Another overcurrent set in one tick line.
 fn overcurrent(draft: &mut Draft, rng: &mut Rng, choices: &[&str]) {
     let with = rng.pick(choices);
     replace_field(draft, rng, 1, with);
 }
 
+/// Another command in one tick line.
 fn command(draft: &mut Draft, rng: &mut Rng, choices: &[&str]) {
     let with = rng.pick(choices);
     replace_field(draft, rng, 2, with);
@@ -231,6 +240,7 @@ fn cut_within(draft: &mut Draft, lines: usize) {
     draft.tail = format!("\u{1}{lines} 1");
 }
 
+/// The sheet, cut where its tail orders it.
 fn cut(text: String) -> Vec<u8> {
     let Some((whole, order)) = text.split_once('\u{1}') else {
         return text.into_bytes();
@@ -245,6 +255,7 @@ fn cut(text: String) -> Vec<u8> {
     whole.as_bytes()[..end].to_vec()
 }
 
+/// How many channels the set has, and its list line.
 fn list(set: u32) -> (usize, String) {
     let members: Vec<String> = (0..32)
         .filter(|channel| set >> channel & 1 != 0)
@@ -275,6 +286,7 @@ fn sound(rng: &mut Rng, ticks: usize) -> Draft {
     }
 }
 
+/// One tick line for the state the board is in; the board takes it.
 fn tick_line(board: &mut Board, rng: &mut Rng) -> String {
     let rail = match rng.below(40) {
         0 => rng.pick(&[-32_768, -1, 0, 32_767]),
@@ -285,7 +297,7 @@ fn tick_line(board: &mut Board, rng: &mut Rng) -> String {
     let command = rng.once_in(2).then(|| brief(board, rng)).filter(|bytes| !bytes.is_empty());
     let _ = board.tick(&Tick { rail, overcurrent, words: &[], command: command.as_deref() });
     let text = match &command {
-        Some(bytes) => pairs(bytes, rng),
+        Some(bytes) => String::from_utf8_lossy(&spaced(bytes, rng)).into_owned(),
         None => "-".to_string(),
     };
     let overcurrent = format!("{overcurrent:08X}");
@@ -310,21 +322,12 @@ fn brief(board: &Board, rng: &mut Rng) -> Vec<u8> {
     }
 }
 
-fn pairs(bytes: &[u8], rng: &mut Rng) -> String {
-    let text: Vec<String> = bytes.iter().map(|byte| format!("{byte:02X}")).collect();
-    let text = text.join(" ");
-    if rng.once_in(3) {
-        text.to_lowercase()
-    } else {
-        text
-    }
-}
-
 /// A sound sheet of exactly this many bytes: commands of 256 bytes, and two
 /// last lines that take up what is left.
 fn of_size(size: usize, rng: &mut Rng) -> Vec<u8> {
     let mut draft = sound(rng, 60);
-    let long = ["5A"; 256].join(" ");
+    let bid = draft.board.replace("board ", "");
+    let long = format!("11 07 02 0{bid} {}", ["5A"; 252].join(" "));
     while draft.text().len() + 2 * long.len() + 60 < size {
         draft.ticks.push(format!("{} 00000000 {long}", rng.pick(&[12_400, 13_000, 15_000])));
     }
@@ -345,6 +348,7 @@ fn of_size(size: usize, rng: &mut Rng) -> Vec<u8> {
     text.into_bytes()
 }
 
+/// A sound sheet of this many short tick lines.
 fn many_ticks(count: usize, rng: &mut Rng) -> Vec<u8> {
     let mut draft = sound(rng, 80);
     while draft.ticks.len() < count {
@@ -361,6 +365,7 @@ fn all_fitted(_: &mut Rng) -> Vec<u8> {
     format!("board 8\nfitted 32\n{all}\nforced 32\n{all}\nticks 51\n{ticks}").into_bytes()
 }
 
+/// A sound sheet without ticks.
 fn no_ticks(rng: &mut Rng) -> Vec<u8> {
     sound(rng, 0).text().into_bytes()
 }

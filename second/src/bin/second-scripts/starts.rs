@@ -1,6 +1,7 @@
 //! Starts from a profile, sound ones and those at the edge of refusal.
 
 use crate::author::{hex, Author};
+use second::coverage::value_classes;
 use second::mode::Mode;
 use second::settings::{self, Settings, ROWS};
 
@@ -16,7 +17,8 @@ pub fn start(author: &mut Author) {
     if rng.once_in(3) {
         let count = rng.pick(&[0u16, 1, 7, 0x00FF, 0x0100, 0xFFFD, 0xFFFE, 0xFFFF]);
         let stored = stored(author);
-        author.say(&format!("P {bid:02X} {fitted:08X} {forced:08X} {count:04X} {}", hex(&stored)));
+        let profile = format!("{bid:02X} {fitted:08X} {forced:08X}");
+        author.say(&stored_start(&profile, count, &stored));
         author.show();
     } else {
         author.say(&format!("B {bid:02X} {fitted:08X} {forced:08X}"));
@@ -25,7 +27,7 @@ pub fn start(author: &mut Author) {
 
 /// Stored values in range, some moved off their defaults.
 fn stored(author: &mut Author) -> Vec<u8> {
-    let mut bytes = Settings::defaults().bytes().to_vec();
+    let mut bytes = with(&[]);
     for _ in 0..author.rng.below(8) {
         let row = &ROWS[author.rng.below(ROWS.len())];
         let id = author.rng.between(i64::from(row.first), i64::from(row.last)) as u16;
@@ -37,7 +39,22 @@ fn stored(author: &mut Author) -> Vec<u8> {
     bytes
 }
 
-pub fn put(bytes: &mut [u8], id: u16, value: i64) {
+/// The line that starts from a profile with stored values.
+pub fn stored_start(profile: &str, save_count: u16, stored: &[u8]) -> String {
+    format!("P {profile} {save_count:04X} {}", hex(stored))
+}
+
+/// The defaults with some values changed.
+pub fn with(values: &[(u16, i64)]) -> Vec<u8> {
+    let mut bytes = Settings::defaults().bytes().to_vec();
+    for (id, value) in values {
+        put(&mut bytes, *id, *value);
+    }
+    bytes
+}
+
+/// Puts a value in its place among the stored ones.
+fn put(bytes: &mut [u8], id: u16, value: i64) {
     if let Some(place) = settings::find(id) {
         let size = place.row.kind.size();
         bytes[place.offset..place.offset + size].copy_from_slice(&value.to_le_bytes()[..size]);
@@ -67,14 +84,9 @@ pub fn edge_starts(author: &mut Author) {
 /// Stored values at the ends of each range and beside them.
 pub fn stored_ends(author: &mut Author) {
     for row in &ROWS {
-        for value in [row.low - 1, row.low, row.high, row.high + 1] {
-            if value < row.kind.lowest() || value > row.kind.highest() {
-                continue;
-            }
+        for (_, value) in value_classes(row) {
             let id = author.rng.pick(&[row.first, row.last]);
-            let mut bytes = Settings::defaults().bytes().to_vec();
-            put(&mut bytes, id, value);
-            author.say(&format!("P 04 0000FF0F 00000101 {:04X} {}", id, hex(&bytes)));
+            author.say(&stored_start("04 0000FF0F 00000101", id, &with(&[(id, value)])));
             if value >= row.low && value <= row.high {
                 author.show();
                 author.idle();
@@ -86,9 +98,10 @@ pub fn stored_ends(author: &mut Author) {
 
 /// Stored save counts at the top, saved once more.
 fn save_counts(author: &mut Author) {
-    for (bid, count) in [(1, 0), (5, 0xFFFDu16), (6, 0xFFFE), (7, 0xFFFF)] {
+    let counts = [(6, 0xFFFEu16), (1, 0), (5, 0xFFFD), (7, 0xFFFF)];
+    for (bid, count) in counts.into_iter().take(if author.is_brief() { 1 } else { 4 }) {
         let bytes = stored(author);
-        author.say(&format!("P {bid:02X} 000F000F 00010001 {count:04X} {}", hex(&bytes)));
+        author.say(&stored_start(&format!("{bid:02X} 000F000F 00010001"), count, &bytes));
         author.show();
         author.reach(Mode::Nominal);
         author.give(0x82, &[0x01, 0x48]);

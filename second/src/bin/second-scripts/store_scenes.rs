@@ -1,19 +1,21 @@
 //! Stored settings that move the mode or bite, saves with a wrong checksum, and
 //! the read-only values that must stay 0.
 
-use crate::author::{hex, Author};
+use crate::author::Author;
 use crate::commands;
 use crate::data_scenes::lend;
-use crate::starts::put;
+use crate::starts::{stored_start, with};
 use crate::text_scenes;
 use second::mode::Mode;
-use second::settings::Settings;
 use second::text::Form;
 
+/// Everything that a store may do.
 pub fn all(author: &mut Author) {
     low_above_every_rail(author);
     all_three_stored(author);
-    ends_stored(author);
+    if !author.is_brief() {
+        ends_stored(author);
+    }
     saved_and_loaded(author);
     checksums(author);
     unlike_the_store(author);
@@ -21,24 +23,16 @@ pub fn all(author: &mut Author) {
     author.show();
 }
 
+/// Starts with the defaults stored but for some values, and shows the state.
 fn start_with(author: &mut Author, save_count: u16, values: &[(u16, i64)]) {
-    let mut bytes = Settings::defaults().bytes().to_vec();
-    for (id, value) in values {
-        put(&mut bytes, *id, *value);
-    }
-    author.say(&format!("P 02 00FF00FF 00110011 {save_count:04X} {}", hex(&bytes)));
+    author.say(&stored_start("02 00FF00FF 00110011", save_count, &with(values)));
     author.show();
 }
 
-fn run(author: &mut Author, rail: i16, ticks: usize) {
-    for _ in 0..ticks {
-        author.tick(rail, 0, None);
-    }
-}
-
+/// A stored safety low that no rail reaches keeps the board in safety.
 fn low_above_every_rail(author: &mut Author) {
     start_with(author, 9, &[(0x4042, 40_000)]);
-    run(author, 32_767, 51);
+    author.run(32_767, 51);
     let nominal = author.command(0x30, &[]);
     author.tick(32_767, 0, Some(&nominal));
     author.give(0x82, &[0x0D, 0x48]);
@@ -47,36 +41,39 @@ fn low_above_every_rail(author: &mut Author) {
     author.tick(32_767, 0, Some(&nominal));
     author.give(0xAA, &[0xA6]);
     author.show();
-    run(author, 32_767, 50);
+    author.run(32_767, 50);
 }
 
+/// Stored thresholds and a stored watchdog are in force from the start on.
 fn all_three_stored(author: &mut Author) {
-    let stored = [(0x4042, 500), (0x4043, 5_000), (0x4000, 2)];
+    let seconds = if author.is_brief() { 1 } else { 2 };
+    let stored = [(0x4042, 500), (0x4043, 5_000), (0x4000, seconds as i64)];
     start_with(author, 0xABCD, &stored);
-    run(author, 500, 50);
-    run(author, 499, 1);
+    author.run(500, 50);
+    author.run(499, 1);
     let nominal = author.command(0x30, &[]);
     author.tick(499, 0, Some(&nominal));
     author.tick(500, 0, Some(&nominal));
-    // The watchdog speaks up at 130 and alters nothing; at 200 it bites.
+    // The watchdog speaks up at 65 parts and alters nothing; at 100 it bites.
     text_scenes::switch(author, Form::Ascii);
     lend(author, 122);
     let counts = author.command(0x42, &[]);
     author.tick(500, 0x0011_0000, Some(&counts));
-    run(author, 500, 130);
+    author.run(500, 65 * seconds);
     author.show();
-    run(author, 500, 70);
+    author.run(500, 35 * seconds);
     author.show();
-    run(author, 500, 52);
+    author.run(500, 52);
     author.give(0x82, &[0x0E, 0x48]);
 }
 
+/// The three live settings at the ends of their type.
 fn ends_stored(author: &mut Author) {
     for value in [0, 0x7FFF, 0x8000, 0xFFFF] {
         start_with(author, value as u16, &[(0x4042, value), (0x4043, 1), (0x4000, value)]);
-        run(author, 32_767, 51);
+        author.run(32_767, 51);
         start_with(author, 1, &[(0x4043, value)]);
-        run(author, 12_400, 51);
+        author.run(12_400, 51);
     }
 }
 
@@ -88,13 +85,14 @@ fn saved_and_loaded(author: &mut Author) {
     author.give(0x84, &[0x02, 0x10, 0x55]);
     author.give(0x92, &[0xA7]);
     author.show();
-    for (id, saved, after) in
-        [(0x4042, 300, 700), (0x4043, 70, 20_000), (0x4000, 1, 0), (0x4042, 13_000, 2)]
-    {
+    let changes = [(0x4042, 300, 700), (0x4043, 70, 20_000), (0x4000, 1, 0), (0x4042, 13_000, 2)];
+    for (id, saved, after) in changes.into_iter().skip(if author.is_brief() { 1 } else { 0 }) {
         author.set(id, saved);
         author.give(0x94, &[0xA7, 0, 0]);
         author.set(id, after);
-        author.show();
+        if !author.is_brief() {
+            author.show();
+        }
         author.give(0x92, &[0xA7]);
         author.give(0x82, &id.to_le_bytes());
         author.give(0x86, &id.to_le_bytes());
@@ -105,13 +103,15 @@ fn saved_and_loaded(author: &mut Author) {
         author.reach(Mode::Nominal);
     }
     // The stored watchdog bites, and is there again after it.
-    run(author, 13_000, 101);
+    author.run(13_000, 101);
     author.show();
-    run(author, 13_000, 49);
-    run(author, 12_999, 1);
+    author.run(13_000, 49);
+    author.run(12_999, 1);
     author.give(0x90, &[0xA7]);
     author.show();
-    run(author, 13_000, 101);
+    if !author.is_brief() {
+        author.run(13_000, 101);
+    }
 }
 
 /// Nothing that a read-only value might show is 0 or like the store.

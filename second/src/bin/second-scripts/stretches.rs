@@ -3,8 +3,9 @@
 use crate::author::Author;
 use crate::commands;
 use crate::data_scenes::lend;
-use crate::mode_scenes::edge_rails;
+use crate::starts::{stored_start, with};
 use second::board::EMERGENCY_HIGH;
+use second::coverage::rails;
 use second::mode::Mode;
 
 /// Waits in safety or emergency up to an age, with harmless things going on.
@@ -26,6 +27,7 @@ fn linger_until(author: &mut Author, age: u64) {
     }
 }
 
+/// A tick that brings an overcurrent set and nothing else.
 fn overcurrent_only(author: &mut Author) {
     let (rail, tripped) = (author.steady(), author.rng.channels());
     author.tick(rail, tripped, None);
@@ -38,6 +40,7 @@ fn linger(author: &mut Author) {
     linger_until(author, 5_999);
 }
 
+/// A tick with this rail that feeds the watchdog.
 fn feed_at(author: &mut Author, rail: i64) {
     let command = author.command(0x06, &[]);
     author.tick(rail as i16, 0, Some(&command));
@@ -46,6 +49,7 @@ fn feed_at(author: &mut Author, rail: i64) {
 /// All ways out of safety by the table, each missed by one tick and by one
 /// millivolt before it is taken.
 pub fn lingers(author: &mut Author) {
+    author.say("B 05 0F0FF0F0 01011010");
     let high = i64::from(author.board().settings().safety_high());
     linger(author);
     feed_at(author, high + 1);
@@ -70,6 +74,7 @@ pub fn lingers(author: &mut Author) {
     odd_lingers(author);
 }
 
+/// Lingers with safety high below emergency low, and above every rail.
 fn odd_lingers(author: &mut Author) {
     author.reach(Mode::Safety);
     author.set(0x4043, 5_000);
@@ -92,7 +97,8 @@ fn odd_lingers(author: &mut Author) {
 
 /// Every edge rail in emergency that does not end it, then the one that does.
 fn all_rails_in_emergency(author: &mut Author) {
-    for rail in edge_rails(author).into_iter().filter(|rail| *rail <= i64::from(EMERGENCY_HIGH)) {
+    let below = |rail: &i32| *rail <= i32::from(EMERGENCY_HIGH);
+    for rail in rails(author.board()).into_iter().filter(below) {
         author.tick(rail as i16, u32::MAX, None);
     }
     author.tick(12_401, 0, None);
@@ -103,6 +109,7 @@ fn all_rails_in_emergency(author: &mut Author) {
 
 /// A whole emergency period, with every command tried in it.
 pub fn period(author: &mut Author) {
+    author.say("B 06 FFFF0FFF 00F00F00");
     author.reach(Mode::Nominal);
     lend(author, 122);
     author.give(0x16, &[0]);
@@ -168,6 +175,7 @@ pub fn timeouts(author: &mut Author) {
     commands::status(author);
 }
 
+/// Leaves the watchdog alone for this many ticks, then shows the state.
 fn idle_for(author: &mut Author, ticks: usize) {
     for _ in 0..ticks {
         author.idle();
@@ -175,15 +183,36 @@ fn idle_for(author: &mut Author, ticks: usize) {
     author.show();
 }
 
-/// The command reset count to its top, each reset in the first tick that takes it.
+/// The command reset count to its top and past it, each reset in the first tick
+/// that takes it.
 pub fn resets(author: &mut Author) {
     author.say("B 01 00000001 00000000");
     let reset = author.command(0xAA, &[0xA6]);
     for _ in 0..65_537 {
-        for _ in 0..49 {
-            author.tick(0, 0, None);
-        }
+        author.run(0, 49);
         author.tick(0, 0, Some(&reset));
     }
     author.show();
+    author.startup_at(0);
+    commands::status(author);
+}
+
+/// The watchdog reset count to its top and one past it, from nominal and from
+/// safety in turn. The timeout of 1 s is stored, so that each reset brings it back.
+pub fn bites(author: &mut Author) {
+    author.say(&stored_start("01 00000003 00000001", 1, &with(&[(0x4000, 1)])));
+    for bitten in 0..=65_535 {
+        let rail = if bitten % 2 == 0 { 0 } else { 32_767 };
+        author.startup_at(rail);
+        if bitten >= 65_534 {
+            author.show();
+            commands::status(author);
+        }
+        while author.mode() != Mode::Startup {
+            author.tick(rail, 0, None);
+        }
+    }
+    author.show();
+    author.startup_at(0);
+    commands::status(author);
 }

@@ -3,26 +3,26 @@
 use crate::author::{hex, Author};
 use crate::commands;
 use crate::rng::Rng;
-use second::text::Form;
+use second::text::{Form, CLOSE, OPEN};
 
-const OPEN: &[u8] = b"<cmd>";
-const CLOSE: &[u8] = b"</cmd>";
-
+/// A payload between its tags.
 fn framed(payload: &[u8]) -> Vec<u8> {
     [OPEN, payload, CLOSE].concat()
 }
 
+/// A read of these bytes with a scratch buffer of this size.
 fn receive(author: &mut Author, scratch: usize, received: &[u8]) {
-    let text = if received.is_empty() { "-".to_string() } else { hex(received) };
-    author.say(&format!("L {scratch:04X} {text}"));
+    author.say(&format!("L {scratch:04X} {}", hex(received)));
 }
 
+/// A read that switches to the form.
 pub fn switch(author: &mut Author, form: Form) {
     let scratch = author.rng.below(3);
     receive(author, scratch, &framed(form.text()));
 }
 
-fn spaced(bytes: &[u8], rng: &mut Rng) -> Vec<u8> {
+/// Bytes in ASCII form, digits of either case.
+pub fn spaced(bytes: &[u8], rng: &mut Rng) -> Vec<u8> {
     let pairs: Vec<String> = bytes
         .iter()
         .map(|byte| if rng.once_in(2) { format!("{byte:02x}") } else { format!("{byte:02X}") })
@@ -106,9 +106,8 @@ fn bad_hex(rng: &mut Rng) -> Vec<u8> {
 
 /// Something to receive, whatever the form in force is.
 fn anything(author: &mut Author) -> Vec<u8> {
-    let board = author.board().clone();
-    let command = commands::any(&board, &mut author.rng);
-    let rng = &mut author.rng;
+    let (board, rng) = author.board_and_rng();
+    let command = commands::any(board, rng);
     let payload = match rng.below(10) {
         0 => return broken(rng),
         1 => tagged(rng),
@@ -152,9 +151,7 @@ pub fn random(author: &mut Author) {
     };
     receive(author, scratch, &received);
     if author.rng.once_in(3) {
-        let board = author.board().clone();
-        let command = commands::any(&board, &mut author.rng);
-        author.send(&command);
+        commands::random(author);
     }
     frame(author);
 }
@@ -173,7 +170,7 @@ fn frame(author: &mut Author) {
 }
 
 /// Some of each in both forms, short enough for every mode. It ends in the ASCII form.
-pub fn brief(author: &mut Author) {
+pub fn some(author: &mut Author) {
     for form in [Form::Raw, Form::Ascii] {
         let text = spaced(&[0x11, 0x07, 0x02, author.board().bid()], &mut author.rng);
         for scratch in [0, 3, 4, 6] {
@@ -197,7 +194,9 @@ pub fn brief(author: &mut Author) {
         author.idle();
         author.say("F 0003");
         author.say("R 0006");
-        author.show();
+        if !author.is_brief() {
+            author.show();
+        }
     }
 }
 
@@ -213,6 +212,7 @@ pub fn all(author: &mut Author) {
     }
 }
 
+/// Framings of an echo, of nothing, and of replies of every size.
 fn frames_of_each(author: &mut Author) {
     for room in [0, 1, 22, 23, 24, 25, 26] {
         author.say(&format!("F {room:04X}"));
@@ -225,12 +225,16 @@ fn frames_of_each(author: &mut Author) {
         author.give(code, &[]);
         let reply = author.board().waiting_reply().len();
         for room in [0, reply + 12, reply + 13, reply + 14, 3 * reply + 11, 3 * reply + 12] {
+            if code == 0x50 && author.skips() {
+                continue;
+            }
             author.say(&format!("F {room:04X}"));
         }
     }
     author.say("F 0400");
 }
 
+/// Reads without a frame, with odd payloads, and with payloads around each limit.
 fn reads_of_each(author: &mut Author) {
     for seed in 0..90 {
         let mut rng = Rng::new(seed);
@@ -241,12 +245,14 @@ fn reads_of_each(author: &mut Author) {
         };
         receive(author, 3, &received);
     }
-    for length in [253, 254, 255, 256, 257, 258, 300] {
+    let brief = author.is_brief();
+    let lengths = [254, 256, 257, 253, 255, 258, 300];
+    for length in lengths.into_iter().take(if brief { 3 } else { 7 }) {
         receive(author, 0x56, &framed(&vec![b'A'; length]));
         let bytes = vec![0x5A; length / 3 + 1];
         let mut text = spaced(&bytes, &mut author.rng);
         text.truncate(length);
-        for scratch in [84, 85, 86] {
+        for scratch in [84, 85, 86].into_iter().take(if brief { 2 } else { 3 }) {
             receive(author, scratch, &framed(&text));
         }
     }
