@@ -1,0 +1,74 @@
+// The replies of the board, as the ICD's pages lay them out.
+ghost use mathlib.Core.Path.{_≡_};
+ghost use mathlib.Core.List.{_++_};
+ghost use lib.ListN.{take};
+ghost use Rattle.wire.specs.Replies.{replyOf, laidOut};
+ghost use Rattle.replies.specs.Layouts.{head, reserved, shortReply, faultsReply, housekeepingReply, parameterReply, channelWords};
+use command::Header;
+use value::ValueBytes;
+use wire::Reply;
+
+// The 5-byte reply: the bytes that every reply starts with, and all of most replies.
+pub fn short(board: Header, code: u8, stat: u8) -> Reply
+    ensures { λ r. ⌜ r ≡ replyOf (shortReply board code stat) ⌝ }
+{
+    Reply::short(board.stid, board.ivid, code, board.bid, stat)
+}
+
+// The 6 bytes that every longer reply starts with: a reserved byte stands behind STAT.
+fn longer(board: Header, code: u8, stat: u8) -> Reply
+    ensures { λ r. ⌜ r ≡ replyOf (laidOut (head board code stat ++ reserved)) ⌝ }
+{
+    short(board, code, stat).append_bytes(&[0u8; 1])
+}
+
+// The four channel words: of the channels on and then of those latched, 0 to 15 and then 16 to 31.
+fn channel_words(on: u32, latched: u32) -> [u16; 4]
+    ensures { λ r. ⌜ r ≡ channelWords on latched ⌝ }
+{
+    [
+        (on % 65536) as u16,
+        (on / 65536) as u16,
+        (latched % 65536) as u16,
+        (latched / 65536) as u16,
+    ]
+}
+
+// The reply of 0x42: the channel words, then the overcurrent count of each channel.
+pub fn faults(board: Header, code: u8, stat: u8, on: u32, latched: u32, counts: [u16; 32]) -> Reply
+    ensures { λ r. ⌜ r ≡ replyOf (faultsReply board code stat on latched counts) ⌝ }
+{
+    let four = channel_words(on, latched);
+    longer(board, code, stat)
+        .append_words(&four)
+        .append_words(&counts)
+}
+
+// The reply of 0x50: the first five measured words, the channel words, then the other measured words.
+pub fn housekeeping(
+    board: Header,
+    code: u8,
+    stat: u8,
+    on: u32,
+    latched: u32,
+    words: [u16; 122],
+) -> Reply
+    ensures { λ r. ⌜ r ≡ replyOf (housekeepingReply board code stat on latched words) ⌝ }
+{
+    let four = channel_words(on, latched);
+    longer(board, code, stat)
+        .append_words(&words[0..5])
+        .append_words(&four)
+        .append_words(&words[5..])
+}
+
+// The reply of 0x82, 0x84 and 0x86: the id, then as many bytes as the value has.
+pub fn parameter(board: Header, code: u8, stat: u8, id: u16, value: ValueBytes) -> Reply
+    ensures { λ r. ⌜ r ≡ replyOf (parameterReply board code stat id (take (value .len) (value .bytes))) ⌝ }
+{
+    let id_bytes = wire::bytes16(id);
+    let bytes = value.bytes;
+    longer(board, code, stat)
+        .append_bytes(&id_bytes)
+        .append_bytes(wire::first(&bytes, value.len))
+}
