@@ -1,0 +1,24 @@
+use Rattle.state.specs.Start.{freshOf}
+use borrow.Author.Needs.{needs}
+use Rattle.state.proofs.starting.fresh.Statement.{statement}
+use Rattle.state.proofs.starting.fresh.Tie as tie
+
+start-requires : tie.Need-start-requires
+start-requires c κs = search needs
+
+none-requires : tie.Need-none-requires
+none-requires c κs = search needs
+
+loaded-requires : tie.Need-loaded-requires
+loaded-requires c κs = search needs
+
+clear-requires : tie.Need-clear-requires
+clear-requires c κs = search needs
+
+returns : tie.Need-returns
+unfolding freshOf
+returns c = rw (c .before .before .before .start .ensures, c .before .before .none .ensures, c .before .loaded .ensures, c .clear .ensures)
+
+pub fresh-spec : {M : Type 1} → statement M
+fresh-spec =
+    tie.close (tie.spec start-requires none-requires loaded-requires clear-requires returns)

@@ -1,0 +1,45 @@
+-- What a change of mode brings with it, from the mode before it and the mode after it; where the mode stays the two are the same. Assumes nothing: these are definitions.
+use Prim.Native.Nat.{ℕ}
+use mathlib.Core.Bool.{Bool, true, false, cond, not, _&&_, _||_}
+use Rattle.modes.specs.Table.{same}
+use Rattle.modes.specs.declared.Mode.{Mode}
+use Rattle.modes.specs.declared.Mode.the-variants.{Startup, Nominal, Safety, Emergency}
+use Rattle.channels.specs.Operations.{allOff, forcedOn, commandEnabledOff}
+use Rattle.channels.specs.declared.Channels.{Channels}
+use Rattle.memory.specs.Memory.{oneMore}
+use Rattle.state.specs.declared.parts.Cause.{Cause}
+use Rattle.state.specs.declared.parts.Profile.{Profile}
+use Rattle.state.specs.declared.parts.Resets.{Resets}
+
+-- startup and emergency: the modes in which channels are off
+unfoldable pub isDark : Mode → Bool
+isDark Startup = true
+isDark Nominal = false
+isDark Safety = false
+isDark Emergency = true
+
+unfoldable pub fromNominalToSafety : Mode → Mode → Bool
+fromNominalToSafety before after = same before Nominal && same after Safety
+
+unfoldable pub leavesEmergency : Mode → Mode → Bool
+leavesEmergency before after = same before Emergency && not (same after Emergency)
+
+-- Channels are off in startup and emergency, and entering emergency keeps latches. On leaving either, all latches clear and exactly the force-enabled come on.
+-- Entering safety from nominal only turns command-enabled channels off. From safety to nominal, and where the mode stays, none is altered.
+unfoldable pub enteringOf : Mode → Mode → Profile → Channels → Channels
+enteringOf before after p ch =
+    cond (isDark after) (allOff ch)
+    (cond (isDark before) (forcedOn (p .fitted) (p .forced) ch)
+    (cond (fromNominalToSafety before after) (commandEnabledOff (p .fitted) (p .forced) ch)
+    ch))
+
+-- The timer is 0 in startup and emergency, and at the tick that leaves them.
+unfoldable pub timerAfter : Mode → Mode → ℕ → ℕ
+timerAfter before after timer = cond (isDark before || isDark after) 0 timer
+
+-- Leaving emergency adds 1 to the power reset count, to at most 65,535, and sets the cause to emergency.
+unfoldable pub leftEmergency : Resets → Resets
+leftEmergency r = record { power = oneMore (r .power); watchdog = r .watchdog; command = r .command; cause = Cause.Emergency }
+
+unfoldable pub resetsAfter : Mode → Mode → Resets → Resets
+resetsAfter before after r = cond (leavesEmergency before after) (leftEmergency r) r

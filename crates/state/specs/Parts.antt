@@ -1,0 +1,136 @@
+-- A board with one part changed and all others as they were: there is no shorter way to write this. Assumes nothing: these are definitions.
+use Prim.Native.Nat.{ℕ}
+use Rattle.wire.specs.declared.reply.Reply.{Reply}
+use Rattle.channels.specs.declared.Channels.{Channels}
+use Rattle.modes.specs.declared.ModeAge.{ModeAge}
+use Rattle.modes.specs.declared.Mode.{Mode}
+use Rattle.memory.specs.declared.Memory.{Memory}
+use Rattle.state.specs.declared.parts.Board.{Board}
+use Rattle.state.specs.declared.parts.Cause.{Cause}
+use Rattle.state.specs.declared.parts.Cause.the-variants.{PowerOn, Watchdog, Commanded, Emergency}
+use Rattle.state.specs.declared.parts.Form.{Form}
+use Rattle.state.specs.declared.parts.Measured.{Measured}
+use Rattle.state.specs.declared.parts.Resets.{Resets}
+
+-- the mode that a board is in
+abbrev pub modeOf : Board → Mode
+modeOf b = b .phase .mode
+
+-- the reset cause as 0x4803 shows it
+abbrev pub causeNumber : Cause → ℕ
+causeNumber PowerOn = 0
+causeNumber Watchdog = 1
+causeNumber Commanded = 2
+causeNumber Emergency = 4
+
+abbrev pub withPhase : ModeAge → Board → Board
+withPhase x b =
+    record {
+      phase = x;
+      timer = b .timer;
+      reply = b .reply;
+      memory = b .memory;
+      channels = b .channels;
+      profile = b .profile;
+      measured = b .measured;
+      resets = b .resets;
+      form = b .form;
+    }
+
+abbrev pub withTimer : ℕ → Board → Board
+withTimer x b =
+    record {
+      phase = b .phase;
+      timer = x;
+      reply = b .reply;
+      memory = b .memory;
+      channels = b .channels;
+      profile = b .profile;
+      measured = b .measured;
+      resets = b .resets;
+      form = b .form;
+    }
+
+abbrev pub withReply : Reply → Board → Board
+withReply x b =
+    record {
+      phase = b .phase;
+      timer = b .timer;
+      reply = x;
+      memory = b .memory;
+      channels = b .channels;
+      profile = b .profile;
+      measured = b .measured;
+      resets = b .resets;
+      form = b .form;
+    }
+
+abbrev pub withMemory : Memory → Board → Board
+withMemory x b =
+    record {
+      phase = b .phase;
+      timer = b .timer;
+      reply = b .reply;
+      memory = x;
+      channels = b .channels;
+      profile = b .profile;
+      measured = b .measured;
+      resets = b .resets;
+      form = b .form;
+    }
+
+abbrev pub withChannels : Channels → Board → Board
+withChannels x b =
+    record {
+      phase = b .phase;
+      timer = b .timer;
+      reply = b .reply;
+      memory = b .memory;
+      channels = x;
+      profile = b .profile;
+      measured = b .measured;
+      resets = b .resets;
+      form = b .form;
+    }
+
+abbrev pub withMeasured : Measured → Board → Board
+withMeasured x b =
+    record {
+      phase = b .phase;
+      timer = b .timer;
+      reply = b .reply;
+      memory = b .memory;
+      channels = b .channels;
+      profile = b .profile;
+      measured = x;
+      resets = b .resets;
+      form = b .form;
+    }
+
+abbrev pub withResets : Resets → Board → Board
+withResets x b =
+    record {
+      phase = b .phase;
+      timer = b .timer;
+      reply = b .reply;
+      memory = b .memory;
+      channels = b .channels;
+      profile = b .profile;
+      measured = b .measured;
+      resets = x;
+      form = b .form;
+    }
+
+abbrev pub withForm : Form → Board → Board
+withForm x b =
+    record {
+      phase = b .phase;
+      timer = b .timer;
+      reply = b .reply;
+      memory = b .memory;
+      channels = b .channels;
+      profile = b .profile;
+      measured = b .measured;
+      resets = b .resets;
+      form = x;
+    }

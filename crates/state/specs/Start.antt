@@ -1,0 +1,88 @@
+-- A profile's start, and a reset: what each part of the board then is. Assumes nothing: these are definitions.
+use Prim.Native.Nat.{ℕ}
+use mathlib.Core.Bool.{Bool, true, false, cond, not, _&&_}
+use mathlib.Core.List.{[]}
+use lib.Dec.{eqb, leb}
+use lib.ListN.{replicate}
+use Rattle.wire.specs.Replies.{replyOf}
+use Rattle.modes.specs.Table.{entered}
+use Rattle.modes.specs.declared.Mode.the-variants.{Startup}
+use Rattle.channels.specs.Sets.{isWithin}
+use Rattle.channels.specs.Operations.{cleared}
+use Rattle.settings.specs.Values.{inRangeOf}
+use Rattle.memory.specs.Memory.{oneMore, emptyStore, loadedFrom}
+use Rattle.memory.specs.declared.Store.{Store}
+use Rattle.state.specs.declared.parts.Board.{Board}
+use Rattle.state.specs.declared.parts.Cause.the-variants.{PowerOn, Watchdog, Commanded}
+use Rattle.state.specs.declared.parts.Form.the-variants.{Raw}
+use Rattle.state.specs.declared.parts.Measured.{Measured}
+use Rattle.state.specs.declared.parts.Profile.{Profile}
+use Rattle.state.specs.declared.parts.Resets.{Resets}
+use Rattle.state.specs.declared.starting.StartAnswer.{StartAnswer}
+use Rattle.state.specs.declared.starting.StartAnswer.the-variants.{Accepted, ProfileBreaksARule}
+use Rattle.state.specs.declared.starting.Started.{Started}
+
+-- ---- what a start and a reset have in common
+-- measured words 0, and none of them new
+abbrev pub unmeasured : Measured
+unmeasured = record { words = replicate 122 0; fresh = false }
+
+-- startup at age 0, the timer 0, no waiting reply, settings loaded from the store or defaults, every channel off with no latch and a count of 0,
+-- measured words 0, text form raw
+unfoldable pub freshOf : Profile → Store → Resets → Board
+freshOf profile store resets =
+    record {
+      phase = entered Startup;
+      timer = 0;
+      reply = replyOf [];
+      memory = loadedFrom store;
+      channels = cleared;
+      profile = profile;
+      measured = unmeasured;
+      resets = resets;
+      form = Raw;
+    }
+
+-- ---- a reset: its own count rises by 1 to at most 65,535, and the cause is its own
+unfoldable pub byWatchdog : Resets → Resets
+byWatchdog r = record { power = r .power; watchdog = oneMore (r .watchdog); command = r .command; cause = Watchdog }
+
+unfoldable pub byCommand : Resets → Resets
+byCommand r = record { power = r .power; watchdog = r .watchdog; command = oneMore (r .command); cause = Commanded }
+
+unfoldable pub watchdogResetOf : Board → Board
+watchdogResetOf b = freshOf (b .profile) (b .memory .store) (byWatchdog (b .resets))
+
+unfoldable pub commandResetOf : Board → Board
+commandResetOf b = freshOf (b .profile) (b .memory .store) (byCommand (b .resets))
+
+-- ---- a profile start: the same with all counts 0 and cause power-on
+unfoldable pub neverReset : Resets
+neverReset = record { power = 0; watchdog = 0; command = 0; cause = PowerOn }
+
+-- the values that are stored, if any are, lie in range; none can be a NaN, as no parameter is a float
+abbrev pub storedInRange : Store → Bool
+storedInRange store = cond (store .held) (inRangeOf (store .settings)) true
+
+-- BID 1 to 8; at least one channel fitted; the force-enabled ones all fitted; stored values in range
+unfoldable pub keepsTheRules : Profile → Store → Bool
+keepsTheRules p store =
+    leb 1 (p .bid) && leb (p .bid) 8
+    && not (eqb (p .fitted) 0)
+    && isWithin (p .forced) (p .fitted)
+    && storedInRange store
+
+-- refusal 8 exactly where a rule is broken; the board that was there then stays
+unfoldable pub startOf : Board → Profile → Store → Started
+startOf there p store =
+    cond (keepsTheRules p store)
+    (record { board = freshOf p store neverReset; answer = Accepted })
+    (record { board = there; answer = ProfileBreaksARule })
+
+abbrev pub startNumber : StartAnswer → ℕ
+startNumber Accepted = 0
+startNumber ProfileBreaksARule = 8
+
+-- what stands in for a board before the first start: no channel is fitted
+unfoldable pub unstartedBoard : Board
+unstartedBoard = freshOf (record { fitted = 0; forced = 0; bid = 0 }) emptyStore neverReset

@@ -1,0 +1,22 @@
+// What a board is made of, how it starts and starts over, and what a change of mode brings with it.
+mod change;
+mod parts;
+mod starting;
+
+pub use change::entering;
+pub use change::resets_after;
+pub use change::timer_after;
+pub use parts::Board;
+pub use parts::Cause;
+pub use parts::Form;
+pub use parts::Measured;
+pub use parts::Profile;
+pub use parts::Resets;
+pub use parts::read;
+pub use parts::with_form;
+pub use starting::StartAnswer;
+pub use starting::Started;
+pub use starting::command_reset;
+pub use starting::start;
+pub use starting::unstarted;
+pub use starting::watchdog_reset;

@@ -1,0 +1,88 @@
+// The parts of a board.
+ghost use mathlib.Core.Path.{_≡_};
+ghost use lib.ListN.{length};
+ghost use Rattle.wire.specs.Replies.{found};
+ghost use Rattle.state.specs.Parts.{withForm};
+use channels::Channels;
+use memory::Memory;
+use modes::ModeAge;
+use wire::Reply;
+
+// What a board was started as.
+pub struct Profile {
+    pub fitted: u32,
+    pub forced: u32,
+    pub bid: u8,
+}
+
+// Why a board last started over, or that it left emergency since.
+pub enum Cause {
+    PowerOn,
+    Watchdog,
+    Commanded,
+    Emergency,
+}
+
+// How often each kind of reset happened, and the cause of the latest.
+pub struct Resets {
+    pub power: u16,
+    pub watchdog: u16,
+    pub command: u16,
+    pub cause: Cause,
+}
+
+// The measured words, and whether words came since the last accepted 0x50, reset or start.
+pub struct Measured {
+    pub words: [u16; 122],
+    pub fresh: bool,
+}
+
+// The form of the text line.
+pub enum Form {
+    Raw,
+    Ascii,
+}
+
+pub struct Board {
+    pub phase: ModeAge,
+    pub timer: u64,
+    pub reply: Reply,
+    pub memory: Memory,
+    pub channels: Channels,
+    pub profile: Profile,
+    pub measured: Measured,
+    pub resets: Resets,
+    pub form: Form,
+}
+
+// A bus read: the lent buffer then holds the waiting reply from its first byte and after it 0xFF. The board stays as it is.
+pub fn read(b: Board, out: &mut [u8])
+    ensures { λ _. ⌜ now (out .exit) ≡ found (b .reply) (length (now (out .entry))) ⌝ }
+{
+    let reply = b.reply;
+    reply.fill(out);
+}
+
+// The board with its text line in a form.
+pub fn with_form(b: Board, form: Form) -> Board
+    ensures { λ r. ⌜ r ≡ withForm form b ⌝ }
+{
+    let phase = b.phase;
+    let reply = b.reply;
+    let memory = b.memory;
+    let channels = b.channels;
+    let profile = b.profile;
+    let measured = b.measured;
+    let resets = b.resets;
+    Board {
+        phase,
+        timer: b.timer,
+        reply,
+        memory,
+        channels,
+        profile,
+        measured,
+        resets,
+        form,
+    }
+}

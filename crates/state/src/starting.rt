@@ -1,0 +1,154 @@
+// Starting a board, and starting it over.
+ghost use mathlib.Core.Path.{_≡_};
+ghost use Rattle.state.specs.Start.{neverReset, freshOf, keepsTheRules, unstartedBoard, startOf, byWatchdog, byCommand, watchdogResetOf, commandResetOf};
+use crate::parts::Board;
+use crate::parts::Cause;
+use crate::parts::Form;
+use crate::parts::Measured;
+use crate::parts::Profile;
+use crate::parts::Resets;
+use channels::Channels;
+use memory::Memory;
+use memory::Store;
+use modes::ModeAge;
+use wire::Reply;
+
+// What a start answers.
+pub enum StartAnswer {
+    Accepted,
+    ProfileBreaksARule,
+}
+
+// The board after a start, and the answer.
+pub struct Started {
+    pub board: Board,
+    pub answer: StartAnswer,
+}
+
+// The counts and the cause of a board that was just started.
+fn never_reset() -> Resets
+    ensures { λ r. ⌜ r ≡ neverReset ⌝ }
+{
+    Resets {
+        power: 0,
+        watchdog: 0,
+        command: 0,
+        cause: Cause::PowerOn,
+    }
+}
+
+// A board in startup, which holds nothing from before but its profile, its store and its resets.
+fn fresh(profile: Profile, store: Store, resets: Resets) -> Board
+    ensures { λ r. ⌜ r ≡ freshOf profile store resets ⌝ }
+{
+    let phase = ModeAge::start();
+    let reply = Reply::none();
+    let memory = Memory::loaded(store);
+    let channels = Channels::clear();
+    let measured = Measured {
+        words: [0u16; 122],
+        fresh: false,
+    };
+    Board {
+        phase,
+        timer: 0,
+        reply,
+        memory,
+        channels,
+        profile,
+        measured,
+        resets,
+        form: Form::Raw,
+    }
+}
+
+// Whether a profile, with what is stored, keeps the rules of a profile.
+fn keeps_the_rules(profile: Profile, store: Store) -> bool
+    ensures { λ r. ⌜ r ≡ keepsTheRules profile store ⌝ }
+{
+    if profile.bid < 1 {
+        return false;
+    }
+    if profile.bid > 8 {
+        return false;
+    }
+    if profile.fitted == 0 {
+        return false;
+    }
+    if !channels::within(profile.forced, profile.fitted) {
+        return false;
+    }
+    if store.held {
+        return settings::in_range(store.settings);
+    }
+    true
+}
+
+// A board of no profile, to stand where none was started yet: it has no channel and answers to no BID of a profile.
+pub fn unstarted() -> Board
+    ensures { λ r. ⌜ r ≡ unstartedBoard ⌝ }
+{
+    let profile = Profile {
+        fitted: 0,
+        forced: 0,
+        bid: 0,
+    };
+    fresh(profile, Store::empty(), never_reset())
+}
+
+// A board from a profile and what is stored; where the profile breaks a rule, the board that was there stays.
+pub fn start(there: Board, profile: Profile, store: Store) -> Started
+    ensures { λ r. ⌜ r ≡ startOf there profile store ⌝ }
+{
+    if keeps_the_rules(profile, store) {
+        let board = fresh(profile, store, never_reset());
+        return Started {
+            board,
+            answer: StartAnswer::Accepted,
+        };
+    }
+    Started {
+        board: there,
+        answer: StartAnswer::ProfileBreaksARule,
+    }
+}
+
+// The counts and the cause after a reset by the watchdog.
+fn by_watchdog(r: Resets) -> Resets
+    ensures { λ s. ⌜ s ≡ byWatchdog r ⌝ }
+{
+    Resets {
+        power: r.power,
+        watchdog: memory::one_more(r.watchdog),
+        command: r.command,
+        cause: Cause::Watchdog,
+    }
+}
+
+// The counts and the cause after a reset by command.
+fn by_command(r: Resets) -> Resets
+    ensures { λ s. ⌜ s ≡ byCommand r ⌝ }
+{
+    Resets {
+        power: r.power,
+        watchdog: r.watchdog,
+        command: memory::one_more(r.command),
+        cause: Cause::Commanded,
+    }
+}
+
+// The board after its watchdog reset it.
+pub fn watchdog_reset(b: Board) -> Board
+    ensures { λ r. ⌜ r ≡ watchdogResetOf b ⌝ }
+{
+    let m = b.memory;
+    fresh(b.profile, m.store, by_watchdog(b.resets))
+}
+
+// The board after 0xAA reset it.
+pub fn command_reset(b: Board) -> Board
+    ensures { λ r. ⌜ r ≡ commandResetOf b ⌝ }
+{
+    let m = b.memory;
+    fresh(b.profile, m.store, by_command(b.resets))
+}
