@@ -1,0 +1,85 @@
+-- The answers of document 01's command table: their numbers, and what each returns and leaves. Assumes nothing: these are definitions.
+use Prim.Native.Nat.{ℕ}
+use mathlib.Core.Bool.{true, false}
+use mathlib.Core.List.{List}
+use Rattle.wire.specs.declared.reply.Reply.{Reply}
+use Rattle.wire.specs.Replies.{replyOf}
+use Rattle.command.specs.Decode.{stidOf, ividOf, codeOf, bidOf}
+use Rattle.command.specs.declared.Header.{Header}
+use Rattle.replies.specs.Layouts.{shortReply}
+use Rattle.state.specs.declared.parts.Board.{Board}
+use Rattle.state.specs.declared.parts.Profile.{Profile}
+use Rattle.state.specs.Parts.{withTimer, withReply}
+use Rattle.answers.specs.declared.Answer.{Answer}
+use Rattle.answers.specs.declared.Answer.the-variants.{Accepted, FewerThanFourBytes, InStartup, NotThisBoard, CodeNotListed, TooShort, NotAvailable, Wrong}
+use Rattle.answers.specs.declared.Outcome.{Outcome}
+use Rattle.answers.specs.declared.Outcome.the-variants.{WrongWordCount, NoTransfer, Answered}
+use Rattle.answers.specs.declared.Commanded.{Commanded}
+use Rattle.answers.specs.declared.Received.{Received}
+
+-- ---- numbers
+abbrev pub numberOf : Answer → ℕ
+numberOf Accepted = 0
+numberOf FewerThanFourBytes = 1
+numberOf InStartup = 2
+numberOf NotThisBoard = 3
+numberOf CodeNotListed = 4
+numberOf TooShort = 5
+numberOf NotAvailable = 6
+numberOf Wrong = 7
+
+-- ---- STAT
+-- the flag NEW
+abbrev pub new : ℕ
+new = 0x80
+
+-- Table 3-11's code of that meaning, NEW set where the command is accepted and clear where it is refused. 1 and 2 make no reply, so theirs is never asked for.
+abbrev pub statOf : Answer → ℕ
+statOf Accepted = new  -- accepted is 0x00
+statOf NotThisBoard = 0x06
+statOf CodeNotListed = 0x02
+statOf TooShort = 0x03
+statOf NotAvailable = 0x05
+statOf Wrong = 0x04
+statOf FewerThanFourBytes = 0
+statOf InStartup = 0
+
+-- ---- what an answer returns and leaves
+-- a transfer's own STID, IVID, CC and BID
+unfoldable pub receivedIn : List ℕ → Received
+receivedIn s = record { stid = stidOf s; ivid = ividOf s; code = codeOf s; bid = bidOf s }
+
+-- the board's own STID, IVID and BID
+abbrev pub headerOf : Profile → Header
+headerOf p = record { stid = 0x11; ivid = 7; bid = p .bid }
+
+-- no reply made; the waiting one stays; nothing else
+abbrev pub silentOf : Outcome → Board → Commanded
+silentOf outcome b = record { board = b; outcome = outcome; replied = false }
+
+-- a reply that waits in place of the one before
+abbrev pub replyingOf : Answer → Reply → Board → Commanded
+replyingOf answer reply b = record { board = withReply reply b; outcome = Answered answer; replied = true }
+
+-- the timer set to 0
+abbrev pub fed : Board → Board
+fed b = withTimer 0 b
+
+-- 0: the reply of the command
+unfoldable pub acceptedWith : Reply → Board → Commanded
+acceptedWith reply b = replyingOf Accepted reply (fed b)
+
+-- for most commands that is the 5-byte reply
+abbrev pub shortTo : ℕ → Answer → Board → Reply
+shortTo code answer b = replyOf (shortReply (headerOf (b .profile)) code (statOf answer))
+
+unfoldable pub acceptedOf : ℕ → Board → Commanded
+acceptedOf code b = acceptedWith (shortTo code Accepted b) b
+
+-- 3: the 5-byte reply; the timer not fed
+unfoldable pub notThisBoardOf : ℕ → Board → Commanded
+notThisBoardOf code b = replyingOf NotThisBoard (shortTo code NotThisBoard b) b
+
+-- 4 to 7: the 5-byte reply; the timer set to 0
+unfoldable pub refusedOf : Answer → ℕ → Board → Commanded
+refusedOf answer code b = replyingOf answer (shortTo code answer b) (fed b)
