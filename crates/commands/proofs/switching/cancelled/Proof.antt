@@ -1,0 +1,17 @@
+use Rattle.commands.specs.Effects.{cancelledOf}
+use borrow.Author.Needs.{needs}
+use Rattle.commands.proofs.switching.cancelled.Statement.{statement}
+use Rattle.commands.proofs.switching.cancelled.Tie as tie
+
+command-enabled-off-requires : tie.Need-command-enabled-off-requires
+command-enabled-off-requires c κs = search needs
+
+accepted-requires : tie.Need-accepted-requires
+accepted-requires c κs = search needs
+
+returns : tie.Need-returns
+unfolding cancelledOf
+returns c = rw (c .accepted .ensures, c .before .command-enabled-off .ensures)
+
+pub cancelled-spec : {M : Type 1} → statement M
+cancelled-spec = tie.close (tie.spec command-enabled-off-requires accepted-requires returns)

@@ -1,0 +1,136 @@
+-- Document 01's effects, command by command, in its order. `code` is the command's code, from which the reply's is made; the last argument is the board as the command finds it.
+-- Assumes nothing: these are definitions.
+use Prim.Native.Nat.{ℕ}
+use mathlib.Core.Bool.{Bool, true, false, cond, not}
+use lib.IntN.{ℤ}
+use Rattle.wire.specs.Replies.{replyOf}
+use Rattle.modes.specs.Commands.{toSafety, toNominal}
+use Rattle.modes.specs.declared.Mode.{Mode}
+use Rattle.modes.specs.declared.Mode.the-variants.{Startup, Nominal, Safety, Emergency}
+use Rattle.modes.specs.declared.Limits.{Limits}
+use Rattle.modes.specs.declared.Commanded as change
+use Rattle.channels.specs.Operations.{groupOn, groupOff, groupState, switchOn, switchOff, commandEnabledOff, wrongToSwitchOn, wrongToSwitchOff}
+use Rattle.channels.specs.declared.Channels.{Channels}
+use Rattle.command.specs.declared.Group.{Group}
+use Rattle.command.specs.declared.Command.{Command}
+use Rattle.memory.specs.Memory.{loadOf, defaultedOf, setIn, resetIn, savedOf}
+use Rattle.memory.specs.declared.Memory.{Memory}
+use Rattle.replies.specs.Layouts.{faultsReply, housekeepingReply, parameterReply}
+use Rattle.state.specs.Parts.{modeOf, withPhase, withMemory, withChannels, withMeasured}
+use Rattle.state.specs.Start.{commandResetOf}
+use Rattle.state.specs.Change.{enteringOf}
+use Rattle.state.specs.declared.parts.Board.{Board}
+use Rattle.state.specs.declared.parts.Measured.{Measured}
+use Rattle.answers.specs.Answers.{headerOf, new, silentOf, acceptedWith, acceptedOf, refusedOf}
+use Rattle.answers.specs.Parameters.{valueRead}
+use Rattle.answers.specs.declared.Answer.the-variants.{Accepted, NotAvailable, Wrong}
+use Rattle.answers.specs.declared.Outcome.the-variants.{Answered}
+use Rattle.answers.specs.declared.Commanded.{Commanded}
+
+-- ---- 0x10, 0x12, 0x14, 0x16, 0x18
+unfoldable pub isNominal : Mode → Bool
+isNominal Startup = false
+isNominal Nominal = true
+isNominal Safety = false
+isNominal Emergency = false
+
+-- refused with 6 outside nominal; then with 7 where the channel is wrong; else the channels are as the command leaves them
+unfoldable pub switchedOf : ℕ → Bool → Channels → Board → Commanded
+switchedOf code right channels b =
+    cond (not (isNominal (modeOf b))) (refusedOf NotAvailable code b)
+    (cond (not right) (refusedOf Wrong code b)
+    (acceptedOf code (withChannels channels b)))
+
+-- no mask is wrong: channels that are not fitted are skipped
+unfoldable pub groupOnOf : ℕ → Group → Board → Commanded
+groupOnOf code g b = switchedOf code true (groupOn (b .profile .fitted) (g .spoken) (g .mask) (b .channels)) b
+
+unfoldable pub groupOffOf : ℕ → Group → Board → Commanded
+groupOffOf code g b = switchedOf code true (groupOff (b .profile .fitted) (b .profile .forced) (g .spoken) (g .mask) (b .channels)) b
+
+unfoldable pub groupStateOf : ℕ → Group → Board → Commanded
+groupStateOf code g b = switchedOf code true (groupState (b .profile .fitted) (b .profile .forced) (g .spoken) (g .mask) (b .channels)) b
+
+unfoldable pub channelOnOf : ℕ → ℕ → Board → Commanded
+channelOnOf code one b = switchedOf code (not (wrongToSwitchOn (b .profile .fitted) one)) (switchOn (b .profile .fitted) one (b .channels)) b
+
+unfoldable pub channelOffOf : ℕ → ℕ → Board → Commanded
+channelOffOf code one b =
+    switchedOf code
+    (not (wrongToSwitchOff (b .profile .fitted) (b .profile .forced) one))
+    (switchOff (b .profile .fitted) (b .profile .forced) one (b .channels))
+    b
+
+-- ---- 0x04: command-enabled channels go off, latches stay
+unfoldable pub cancelledOf : ℕ → Board → Commanded
+cancelledOf code b = acceptedOf code (withChannels (commandEnabledOff (b .profile .fitted) (b .profile .forced) (b .channels)) b)
+
+-- ---- 0x30 and 0x32: the mode that the command leads to, with what the change brings for the channels; 6 where it is not available
+unfoldable pub switchedModeOf : ℕ → change.Commanded → Board → Commanded
+switchedModeOf code (change.Commanded.Accepted phase) b =
+    acceptedOf code (withPhase phase (withChannels (enteringOf (modeOf b) (phase .mode) (b .profile) (b .channels)) b))
+switchedModeOf code change.Commanded.Unavailable b = refusedOf NotAvailable code b
+
+-- ---- 0x42: a count for each channel
+unfoldable pub faultsOf : ℕ → Board → Commanded
+faultsOf code b =
+    acceptedWith
+    (replyOf (faultsReply (headerOf (b .profile)) code new (b .channels .on) (b .channels .latched) (b .channels .counts)))
+    b
+
+-- ---- 0x50: the words; NEW only if words came since the last accepted 0x50, reset or start, and from now on they are not new
+abbrev pub newWhere : Bool → ℕ
+newWhere fresh = cond fresh new 0x00
+
+abbrev pub seen : Measured → Measured
+seen m = record { words = m .words; fresh = false }
+
+unfoldable pub housekeepingOf : ℕ → Board → Commanded
+housekeepingOf code b =
+    acceptedWith
+    (replyOf
+    (housekeepingReply (headerOf (b .profile)) code (newWhere (b .measured .fresh)) (b .channels .on) (b .channels .latched) (b .measured .words)))
+    (withMeasured (seen (b .measured)) b)
+
+-- ---- 0x82 get, 0x84 set, 0x86 reset one: the reply has the value that the id then reads
+unfoldable pub parameterOf : ℕ → ℕ → Memory → Board → Commanded
+parameterOf code id memory b =
+    acceptedWith
+    (replyOf (parameterReply (headerOf (b .profile)) code new id (valueRead (b .profile) memory (b .resets) id)))
+    (withMemory memory b)
+
+-- ---- 0x90 defaults, 0x92 load
+unfoldable pub rememberedOf : ℕ → Memory → Board → Commanded
+rememberedOf code memory b = acceptedOf code (withMemory memory b)
+
+-- ---- 0x94 save: a checksum that is neither 0 nor right is 7
+unfoldable pub savedIn : ℕ → ℕ → Board → Commanded
+savedIn code given b =
+    cond (not (savedOf given (b .memory) .right)) (refusedOf Wrong code b)
+    (rememberedOf code (savedOf given (b .memory) .memory) b)
+
+-- ---- 0xAA: a reset, which leaves no reply
+unfoldable pub restartedOf : Board → Commanded
+restartedOf b = silentOf (Answered Accepted) (commandResetOf b)
+
+-- ---- each command; 0x02 and 0x06 do nothing more than be accepted
+unfoldable pub runOf : ℤ → Limits → ℕ → Command → Board → Commanded
+runOf rail limits code (Command.GroupOn g) b = groupOnOf code g b
+runOf rail limits code (Command.GroupOff g) b = groupOffOf code g b
+runOf rail limits code (Command.GroupState g) b = groupStateOf code g b
+runOf rail limits code (Command.ChannelOn one) b = channelOnOf code one b
+runOf rail limits code (Command.ChannelOff one) b = channelOffOf code one b
+runOf rail limits code Command.CancelOperation b = cancelledOf code b
+runOf rail limits code Command.NoOperation b = acceptedOf code b
+runOf rail limits code Command.Watchdog b = acceptedOf code b
+runOf rail limits code Command.SwitchToSafety b = switchedModeOf code (toSafety (b .phase)) b
+runOf rail limits code Command.SwitchToNominal b = switchedModeOf code (toNominal (b .phase) rail limits) b
+runOf rail limits code Command.GetOvercurrentFaultState b = faultsOf code b
+runOf rail limits code Command.GetHousekeeping b = housekeepingOf code b
+runOf rail limits code (Command.GetParameter id) b = parameterOf code id (b .memory) b
+runOf rail limits code (Command.SetParameter id v) b = parameterOf code id (setIn id v (b .memory)) b
+runOf rail limits code (Command.ResetParameter id) b = parameterOf code id (resetIn id (b .memory)) b
+runOf rail limits code Command.ResetConfiguration b = rememberedOf code (defaultedOf (b .memory)) b
+runOf rail limits code Command.LoadConfiguration b = rememberedOf code (loadOf (b .memory)) b
+runOf rail limits code (Command.SaveConfiguration given) b = savedIn code given b
+runOf rail limits code Command.SystemReset b = restartedOf b

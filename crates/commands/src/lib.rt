@@ -1,0 +1,6 @@
+// Step 4 of a tick: the command. What each transfer is answered, what it alters, and the reply that then waits.
+mod effects;
+mod step;
+mod switching;
+
+pub use step::commanded;
