@@ -1,0 +1,77 @@
+-- One tick, as document 01 numbers its steps. `rail` is in millivolts with its sign, `named` the set of channels that reported overcurrent, `words` the words lent, `sent`
+-- whether there is a transfer and `s` its bytes. Assumes nothing: these are definitions.
+use Prim.Native.Nat.{ℕ}
+use mathlib.Core.Bool.{Bool, true, false, cond, not, _||_}
+use mathlib.Core.List.{List}
+use lib.Dec.{eqb}
+use lib.IntN.{ℤ}
+use lib.ListN.{length}
+use Rattle.modes.specs.Table.{olderOf, stepOf}
+use Rattle.modes.specs.declared.Limits.{Limits}
+use Rattle.channels.specs.Operations.{overcurrentAt}
+use Rattle.watchdog.specs.Watchdog as dog
+use Rattle.watchdog.specs.declared.Event.{Event}
+use Rattle.watchdog.specs.declared.Event.the-variants.{NoEvent, PeripheralReset, WatchdogReset}
+use Rattle.memory.specs.Limits.{timeoutOf, limitsOf}
+use Rattle.state.specs.Parts.{modeOf, withPhase, withTimer, withChannels, withMeasured, withResets}
+use Rattle.state.specs.Start.{watchdogResetOf}
+use Rattle.state.specs.Change.{enteringOf, timerAfter, resetsAfter}
+use Rattle.state.specs.declared.parts.Board.{Board}
+use Rattle.state.specs.declared.parts.Measured.{Measured}
+use Rattle.commands.specs.Step.{commandedOf}
+use Rattle.answers.specs.declared.Commanded.{Commanded}
+use Rattle.answers.specs.declared.Outcome.the-variants.{WrongWordCount}
+use Rattle.board.specs.declared.Ticked.{Ticked}
+
+-- ---- step 1: the mode's age and the timer rise by 1; words brought replace the last
+-- 122 words are words brought, and are new
+unfoldable pub broughtBy : List ℕ → Measured → Measured
+broughtBy words m = cond (eqb (length words) 122) (record { words = words; fresh = true }) m
+
+unfoldable pub risenOf : List ℕ → Board → Board
+risenOf words b = withPhase (olderOf (b .phase)) (withTimer (dog.risenOf (b .timer)) (withMeasured (broughtBy words (b .measured)) b))
+
+-- ---- step 2: one automatic mode change at most
+-- the phase after it, with what the change brings for the channels, the timer and the resets
+unfoldable pub changedOf : ℤ → Limits → Board → Board
+changedOf rail limits b =
+    let next = stepOf (b .phase) rail limits in
+    withPhase next
+    (withChannels (enteringOf (modeOf b) (next .mode) (b .profile) (b .channels))
+    (withTimer (timerAfter (modeOf b) (next .mode) (b .timer))
+    (withResets (resetsAfter (modeOf b) (next .mode) (b .resets)) b)))
+
+-- ---- step 3: overcurrent
+unfoldable pub trippedOf : ℕ → Board → Board
+trippedOf named b = withChannels (overcurrentAt named (b .channels)) b
+
+-- ---- step 5: the watchdog, after the command
+-- a reset loses the reply that was made; a peripheral reset is only reported
+abbrev pub watchedAs : Event → Commanded → Ticked
+watchedAs NoEvent c = record { board = c .board; outcome = c .outcome; event = NoEvent; replied = c .replied }
+watchedAs PeripheralReset c = record { board = c .board; outcome = c .outcome; event = PeripheralReset; replied = c .replied }
+watchedAs WatchdogReset c = record { board = watchdogResetOf (c .board); outcome = c .outcome; event = WatchdogReset; replied = false }
+
+unfoldable pub watchedIn : Commanded → Ticked
+watchedIn c = watchedAs (dog.watchedOf (c .board .timer) (dog.secondsInTicks (timeoutOf (c .board .memory)))) c
+
+-- ---- the order within a tick
+unfoldable pub tickWith : Limits → ℤ → ℕ → List ℕ → Bool → List ℕ → Board → Ticked
+tickWith limits rail named words sent s b =
+    let risen = risenOf words b in  -- 1
+    let changed = changedOf rail limits risen in  -- 2
+    let tripped = trippedOf named changed in  -- 3
+    let obeyed = commandedOf rail limits sent s tripped in  -- 4
+    watchedIn obeyed  -- 5
+
+-- ---- words that are neither none nor 122 are refusal 9: the tick does not happen
+unfoldable pub allowedCount : ℕ → Bool
+allowedCount n = eqb n 0 || eqb n 122
+
+abbrev pub notHappened : Board → Ticked
+notHappened b = record { board = b; outcome = WrongWordCount; event = NoEvent; replied = false }
+
+-- the limits are the board's own
+unfoldable pub tickOf : ℤ → ℕ → List ℕ → Bool → List ℕ → Board → Ticked
+tickOf rail named words sent s b =
+    cond (not (allowedCount (length words))) (notHappened b) (tickWith (limitsOf (b .memory)) rail named words sent s b)
