@@ -2,6 +2,7 @@
 use Prim.Native.Nat.{ℕ}
 use mathlib.Core.Bool.{true, false}
 use mathlib.Core.List.{List}
+use mathlib.Core.Option.{Option, none, some}
 use Rattle.wire.specs.declared.reply.Reply.{Reply}
 use Rattle.wire.specs.Replies.{replyOf}
 use Rattle.command.specs.Decode.{stidOf, ividOf, codeOf, bidOf}
@@ -27,6 +28,12 @@ numberOf CodeNotListed = 4
 numberOf TooShort = 5
 numberOf NotAvailable = 6
 numberOf Wrong = 7
+
+-- 9 where the tick did not happen, and no number where there was no transfer to answer
+abbrev pub toldNumber : Outcome → Option ℕ
+toldNumber WrongWordCount = some 9
+toldNumber NoTransfer = none
+toldNumber (Answered answer) = some (numberOf answer)
 
 -- ---- STAT
 -- the flag NEW
