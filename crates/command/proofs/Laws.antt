@@ -1,4 +1,4 @@
--- The decoder answers the number of the first check of document 01's table that applies. Assumes nothing.
+-- The decoder answers the number of the first check of document 01's table that applies, whatever the board's list of codes is. Assumes nothing.
 use Prim.Native.Nat.{ℕ, _≤_, _<_}
 use mathlib.Core.Path.{_≡_, refl, sym, ap, _∙_, subst}
 use mathlib.Core.Bool.{Bool, true, false, cond, not, _&&_, _||_}
@@ -12,11 +12,13 @@ use Rattle.value.specs.declared.Parsed.{Parsed}
 use Rattle.settings.specs.Table.{parameterOf}
 use Rattle.settings.specs.declared.Parameter.{Parameter}
 use Rattle.settings.specs.declared.Parameter.the-variants.{ReadWrite, ReadOnly, Unknown}
-use Rattle.command.specs.Table.{Row, _is_of_bytes, _is_of_bytes-with-key_, base, find}
+use Rattle.command.specs.Codes.{isIn, baseCodes}
+use Rattle.command.specs.Table.{Row, _is_of_bytes, _is_of_bytes-with-key_, table, find}
 use Rattle.command.specs.Decode.{fewerThanFour, headerIs, stidOf, ividOf, codeOf, bidOf, byteAfter, idOf, valuePart, getBy, getting, valued, setBy, setting, resetBy, resetting, carried, listed, decodeBy, decodeOf}
 use Rattle.command.specs.Answers.{numberOf, answerOf}
-use Rattle.command.specs.Checks.{Check, _when_, first, headerDiffers, isIn, codes, idWrong, isTooShort, isNaN, valueOf, checksBy, checks}
-use Rattle.command.specs.declared.Listed.the-variants.{Missing}
+use Rattle.command.specs.Checks.{Check, _when_, first, headerDiffers, noCommand, idWrong, isTooShort, isNaN, valueOf, checksOf, checks}
+use Rattle.command.specs.declared.Listed.{Listed}
+use Rattle.command.specs.declared.Listed.the-variants.{Plain, Keyed, Missing}
 use Rattle.command.specs.declared.Header.{Header}
 use Rattle.command.specs.declared.Decoded.{Decoded}
 use Rattle.command.specs.declared.Decoded.the-variants.{Refused}
@@ -27,10 +29,6 @@ use Rattle.command.specs.declared.Refusal.the-variants.{TooShort, WrongK
 cases : {A : Type 0} (b : Bool) → (b ≡ true → A) → (b ≡ false → A) → A
 cases true t f = t refl
 cases false t f = f refl
-
-or-false : (a b : Bool) → a || b ≡ false → (a ≡ false) × (b ≡ false)
-or-false true b h = absurd (subst T h tt)
-or-false false b h = (refl, h)
 
 -- what holds at each of some numbers, and at one that is none of them, holds
 infixr 20 _and_
@@ -43,24 +41,25 @@ unfolding isIn
 by-code P k [] none other = other refl
 by-code P k (c ∷ cs) (p and ps) other = cases (eqb k c) (λ e. subst P (sym (eqb-true k c e)) p) (λ e. by-code P k cs ps (λ h. other (rw e h)))
 
--- ---- a code that is in no row is not found
+-- ---- the codes of the table
 abbrev pub codeIn : Row → ℕ
 codeIn (c is name of n bytes) = c
 codeIn (c is name of n bytes-with-key k) = c
 
-not-found : (k : ℕ) (rows : List Row) → isIn k (map codeIn rows) ≡ false → find rows k ≡ Missing
-unfolding isIn find
-not-found k [] h = refl
-not-found k (c is name of n bytes ∷ rows) h = let u = or-false (eqb k c) _ h in rw (u .0) (not-found k rows (u .1))
-not-found k (c is name of n bytes-with-key key ∷ rows) h = let u = or-false (eqb k c) _ h in rw (u .0) (not-found k rows (u .1))
-
--- the table's codes are those that document 01 gives, in its order
-pub table-codes : map codeIn base ≡ codes
-unfolding base codes
+-- they are the base list, in its order
+pub table-codes : map codeIn table ≡ baseCodes
+unfolding table baseCodes
 table-codes = refl
 
-missing : (code : ℕ) → isIn code codes ≡ false → find base code ≡ Missing
-missing code h = not-found code base (rw table-codes h)
+no-row : (k : ℕ) (rows : List Row) → noCommand (find rows k) ≡ not (isIn k (map codeIn rows))
+unfolding isIn find
+no-row k [] = refl
+no-row k (c is name of n bytes ∷ rows) = cases (eqb k c) (λ e. rw e) (λ e. rw e (no-row k rows))
+no-row k (c is name of n bytes-with-key key ∷ rows) = cases (eqb k c) (λ e. rw e) (λ e. rw e (no-row k rows))
+
+-- so no command has a code exactly when it is not in the base list
+pub no-command : (code : ℕ) → noCommand (find table code) ≡ not (isIn code baseCodes)
+no-command code = no-row code table ∙ ap (λ (cs : List ℕ). not (isIn code cs)) table-codes
 
 -- ---- the number of an answer behind a check
 behind : (b : Bool) (r : Refusal) (d : Decoded) → answerOf (cond b (Refused r) d) ≡ cond b (numberOf r) (answerOf d)
@@ -101,14 +100,22 @@ module _ (s : List ℕ) where
       ≡ cond (ltb (length s) needed) 5 (cond (not (eqb (byteAfter s) key)) 7 (answerOf d))
   keyed needed key d = behind (ltb (length s) needed) TooShort _ ∙ ap (cond (ltb (length s) needed) 5) (behind (not (eqb (byteAfter s) key)) WrongKey d)
 
-  unlisted : (code : ℕ) → isIn code codes ≡ false → answerOf (listed (find base code) s) ≡ first (checksBy code s)
-  unfolding listed first checksBy
-  unlisted code h = rw (missing code h, h)
+  uncommanded : (entry : Listed) → noCommand entry ≡ true → answerOf (listed entry s) ≡ 4
+  unfolding listed
+  uncommanded (Plain name needed) h = absurd (subst T (sym h) tt)
+  uncommanded (Keyed name needed key) h = absurd (subst T (sym h) tt)
+  uncommanded Missing h = refl
 
-  answers-first : (code : ℕ) → answerOf (listed (find base code) s) ≡ first (checksBy code s)
-  unfolding listed carried find base first checksBy codes isIn idWrong getting setting resetting
+  unlisted : (code : ℕ) → isIn code baseCodes ≡ false → answerOf (listed (find table code) s) ≡ first (checksOf code s)
+  unfolding first checksOf
+  unlisted code h =
+      let n : noCommand (find table code) ≡ true = no-command code ∙ ap not h in
+      uncommanded (find table code) n ∙ rw n
+
+  answers-first : (code : ℕ) → answerOf (listed (find table code) s) ≡ first (checksOf code s)
+  unfolding listed carried find table first checksOf baseCodes idWrong getting setting resetting
   answers-first code =
-      by-code (λ k. answerOf (listed (find base k) s) ≡ first (checksBy k s)) code codes
+      by-code (λ k. answerOf (listed (find table k) s) ≡ first (checksOf k s)) code baseCodes
       (keyed 5 0xA6 _ and plain 4 _ and plain 4 _ and plain 4 _ and plain 6 _ and plain 6 _ and plain 6 _ and plain 5 _ and plain 5 _ and plain 4 _ and plain 4 _ and plain 4 _ and plain 4 _
       and (plain 6 _ ∙ ap (cond (ltb (length s) 6) 5) (get-number (idOf s) (parameterOf (idOf s))))
       and (plain 6 _ ∙ ap (cond (ltb (length s) 6) 5) (set-number (idOf s) (parameterOf (idOf s)) (valuePart s)))
@@ -122,12 +129,15 @@ differs true true c = refl
 differs true false c = refl
 differs false b c = refl
 
-pub first-check : (board : Header) (s : List ℕ) → answerOf (decodeOf board s) ≡ first (checks board s)
-unfolding decodeOf decodeBy first checks headerDiffers headerIs
-first-check board s =
+pub first-check : (codes : List ℕ) (board : Header) (s : List ℕ) → answerOf (decodeBy codes board s) ≡ first (checks codes board s)
+unfolding decodeBy first checks headerDiffers headerIs
+first-check codes board s =
     behind (fewerThanFour s) _ _
     ∙ ap (cond (fewerThanFour s) 1)
-    (rw (sym (differs (eqb (stidOf s) (board .stid)) (eqb (ividOf s) (board .ivid)) (eqb (bidOf s) (board .bid)))) (behind (not (headerIs board s)) _ _ ∙ ap (cond (not (headerIs board s)) 3) (answers-first s (codeOf s))))
+    (rw (sym (differs (eqb (stidOf s) (board .stid)) (eqb (ividOf s) (board .ivid)) (eqb (bidOf s) (board .bid))))
+    (behind (not (headerIs board s)) _ _
+    ∙ ap (cond (not (headerIs board s)) 3)
+    (behind (not (isIn (codeOf s) codes)) _ _ ∙ ap (cond (not (isIn (codeOf s) codes)) 4) (answers-first s (codeOf s)))))
 
 -- ---- a number is answered exactly when its check applies and none before it does
 -- no check of a list has the number n, and n is not 0
@@ -158,39 +168,69 @@ unfolding first
 passed m n true cs d h = absurd (d h)
 passed m n false cs d h = (refl, h)
 
-module _ (board : Header) (s : List ℕ) where
-  -- 1: fewer than 4 bytes
-  pub short-is-1 : length s < 4 → answerOf (decodeOf board s) ≡ 1
-  unfolding first checks fewerThanFour
-  short-is-1 h = first-check board s ∙ rw (lt-ltb (length s) 4 h)
+-- of two checks with one number
+one-of : (n : ℕ) (a b : Bool) (cs : List Check) → absent n cs ≡ true → first (n when a ∷ n when b ∷ cs) ≡ n → a || b ≡ true
+unfolding first
+one-of n true b cs h e = refl
+one-of n false b cs h e = applies n b cs h e
 
-  pub is-1-short : answerOf (decodeOf board s) ≡ 1 → length s < 4
-  unfolding checks checksBy fewerThanFour
-  is-1-short h = ltb-true (length s) 4 (applies 1 (fewerThanFour s) (3 when headerDiffers board s ∷ checksBy (codeOf s) s) refl (sym (first-check board s) ∙ h))
+module _ (codes : List ℕ) (board : Header) (s : List ℕ) where
+  -- the checks behind 1, and those behind 3
+  abbrev behind1 : List Check
+  behind1 = 3 when headerDiffers board s ∷ 4 when not (isIn (codeOf s) codes) ∷ checksOf (codeOf s) s
+
+  abbrev behind3 : List Check
+  behind3 = 4 when not (isIn (codeOf s) codes) ∷ checksOf (codeOf s) s
+
+  -- 1: fewer than 4 bytes
+  pub short-is-1 : length s < 4 → answerOf (decodeBy codes board s) ≡ 1
+  unfolding first checks fewerThanFour
+  short-is-1 h = first-check codes board s ∙ rw (lt-ltb (length s) 4 h)
+
+  pub is-1-short : answerOf (decodeBy codes board s) ≡ 1 → length s < 4
+  unfolding checks checksOf fewerThanFour
+  is-1-short h = ltb-true (length s) 4 (applies 1 (fewerThanFour s) behind1 refl (sym (first-check codes board s) ∙ h))
 
   -- 3: 4 bytes or more, and STID, IVID or BID is not the board's
-  pub other-is-3 : 4 ≤ length s → headerDiffers board s ≡ true → answerOf (decodeOf board s) ≡ 3
+  pub other-is-3 : 4 ≤ length s → headerDiffers board s ≡ true → answerOf (decodeBy codes board s) ≡ 3
   unfolding first checks fewerThanFour
-  other-is-3 h d = first-check board s ∙ rw (le-ltb (length s) 4 h, d)
+  other-is-3 h d = first-check codes board s ∙ rw (le-ltb (length s) 4 h, d)
 
-  behind-1 : (n : ℕ) → (1 ≡ n → ⊥) → answerOf (decodeOf board s) ≡ n → (fewerThanFour s ≡ false) × (first (3 when headerDiffers board s ∷ checksBy (codeOf s) s) ≡ n)
+  past-1 : (n : ℕ) → (1 ≡ n → ⊥) → answerOf (decodeBy codes board s) ≡ n → (fewerThanFour s ≡ false) × (first behind1 ≡ n)
   unfolding checks
-  behind-1 n d h = passed 1 n (fewerThanFour s) (3 when headerDiffers board s ∷ checksBy (codeOf s) s) d (sym (first-check board s) ∙ h)
+  past-1 n d h = passed 1 n (fewerThanFour s) behind1 d (sym (first-check codes board s) ∙ h)
 
-  pub is-3-other : answerOf (decodeOf board s) ≡ 3 → (4 ≤ length s) × (headerDiffers board s ≡ true)
-  unfolding checksBy fewerThanFour
+  pub is-3-other : answerOf (decodeBy codes board s) ≡ 3 → (4 ≤ length s) × (headerDiffers board s ≡ true)
+  unfolding checksOf fewerThanFour
   is-3-other h =
-      let u = behind-1 3 (λ e. omega arith) h in
-      (ltb-false (length s) 4 (u .0), applies 3 (headerDiffers board s) (checksBy (codeOf s) s) refl (u .1))
+      let u = past-1 3 (λ e. omega arith) h in
+      (ltb-false (length s) 4 (u .0), applies 3 (headerDiffers board s) behind3 refl (u .1))
 
-  -- 4: the header is the board's, and the code is not in the base list
-  pub unlisted-is-4 : 4 ≤ length s → headerDiffers board s ≡ false → isIn (codeOf s) codes ≡ false → answerOf (decodeOf board s) ≡ 4
-  unfolding first checks checksBy fewerThanFour
-  unlisted-is-4 h d n = first-check board s ∙ rw (le-ltb (length s) 4 h, d, n)
+  -- 4: the header is the board's, and the code is not in the board's list, or no command has it
+  pub unlisted-is-4 : 4 ≤ length s → headerDiffers board s ≡ false → isIn (codeOf s) codes ≡ false → answerOf (decodeBy codes board s) ≡ 4
+  unfolding first checks fewerThanFour
+  unlisted-is-4 h d n = first-check codes board s ∙ rw (le-ltb (length s) 4 h, d, n)
 
-  pub is-4-unlisted : answerOf (decodeOf board s) ≡ 4 → (4 ≤ length s) × ((headerDiffers board s ≡ false) × (isIn (codeOf s) codes ≡ false))
-  unfolding checksBy fewerThanFour
-  is-4-unlisted h =
-      let u = behind-1 4 (λ e. omega arith) h in
-      let v = passed 3 4 (headerDiffers board s) (checksBy (codeOf s) s) (λ e. omega arith) (u .1) in
-      (ltb-false (length s) 4 (u .0), (v .0, not-true (isIn (codeOf s) codes) (applies 4 (not (isIn (codeOf s) codes)) _ refl (v .1))))
+  pub uncommanded-is-4 : 4 ≤ length s → headerDiffers board s ≡ false → noCommand (find table (codeOf s)) ≡ true → answerOf (decodeBy codes board s) ≡ 4
+  unfolding first checks checksOf fewerThanFour
+  uncommanded-is-4 h d n =
+      cases (isIn (codeOf s) codes) (λ e. first-check codes board s ∙ rw (le-ltb (length s) 4 h, d, e, n)) (unlisted-is-4 h d)
+
+  pub is-4-unlisted-or-uncommanded : answerOf (decodeBy codes board s) ≡ 4
+      → (4 ≤ length s) × ((headerDiffers board s ≡ false) × (not (isIn (codeOf s) codes) || noCommand (find table (codeOf s)) ≡ true))
+  unfolding checksOf fewerThanFour
+  is-4-unlisted-or-uncommanded h =
+      let u = past-1 4 (λ e. omega arith) h in
+      let v = passed 3 4 (headerDiffers board s) behind3 (λ e. omega arith) (u .1) in
+      (ltb-false (length s) 4 (u .0), (v .0, one-of 4 (not (isIn (codeOf s) codes)) (noCommand (find table (codeOf s))) _ refl (v .1)))
+
+-- with the base list: exactly when the code is not in it
+or-same : (a : Bool) → a || a ≡ true → a ≡ true
+or-same true h = refl
+or-same false h = h
+
+pub is-4-unlisted : (board : Header) (s : List ℕ) → answerOf (decodeOf board s) ≡ 4 → (4 ≤ length s) × ((headerDiffers board s ≡ false) × (isIn (codeOf s) baseCodes ≡ false))
+unfolding decodeOf
+is-4-unlisted board s h =
+    let u = is-4-unlisted-or-uncommanded baseCodes board s h in
+    (u .0, (u .1 .0, not-true (isIn (codeOf s) baseCodes) (or-same (not (isIn (codeOf s) baseCodes)) (rw (no-command (codeOf s)) at (u .1 .1)))))

@@ -1,3 +1,4 @@
 pub mod Checks
+pub mod Listing
 pub mod Laws
 pub mod Examples

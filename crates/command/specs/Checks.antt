@@ -10,7 +10,8 @@ use Rattle.value.specs.declared.Parsed.{Parsed}
 use Rattle.settings.specs.Table.{parameterOf}
 use Rattle.settings.specs.declared.Parameter.{Parameter}
 use Rattle.settings.specs.declared.Parameter.the-variants.{ReadWrite, ReadOnly, Unknown}
-use Rattle.command.specs.Table.{base, find}
+use Rattle.command.specs.Codes.{isIn}
+use Rattle.command.specs.Table.{table, find}
 use Rattle.command.specs.Decode.{fewerThanFour, stidOf, ividOf, codeOf, bidOf, byteAfter, idOf, valuePart}
 use Rattle.command.specs.declared.Listed.{Listed}
 use Rattle.command.specs.declared.Listed.the-variants.{Plain, Keyed, Missing}
@@ -29,14 +30,11 @@ first (n when b ∷ checks) = cond b n (first checks)
 unfoldable pub headerDiffers : Header → List ℕ → Bool
 headerDiffers board s = not (eqb (stidOf s) (board .stid)) || not (eqb (ividOf s) (board .ivid)) || not (eqb (bidOf s) (board .bid))
 
--- the code is not in the base list
-unfoldable pub isIn : ℕ → List ℕ → Bool
-isIn x [] = false
-isIn x (y ∷ ys) = eqb x y || isIn x ys
-
--- the codes as document 01 gives them
-unfoldable pub codes : List ℕ
-codes = 0xAA ∷ 0x02 ∷ 0x04 ∷ 0x06 ∷ 0x10 ∷ 0x12 ∷ 0x14 ∷ 0x16 ∷ 0x18 ∷ 0x30 ∷ 0x32 ∷ 0x42 ∷ 0x50 ∷ 0x82 ∷ 0x84 ∷ 0x86 ∷ 0x90 ∷ 0x92 ∷ 0x94 ∷ []
+-- no command has the code
+abbrev pub noCommand : Listed → Bool
+noCommand (Plain name needed) = false
+noCommand (Keyed name needed key) = false
+noCommand Missing = true
 
 -- shorter than the command needs
 abbrev pub shorter : Listed → List ℕ → Bool
@@ -80,20 +78,21 @@ valueOf (ReadWrite t) value is = is (readOf t value)
 valueOf (ReadOnly t) value is = false
 valueOf Unknown value is = false
 
--- the checks behind the code's
-unfoldable pub checksBy : ℕ → List ℕ → List Check
-checksBy code s =
-    4 when not (isIn code codes)
-    ∷ 5 when shorter (find base code) s
-    ∷ 7 when keyWrong (find base code) s
+-- the checks behind that of the board's list of codes; a code that is in the list and that no command has is 4 too
+unfoldable pub checksOf : ℕ → List ℕ → List Check
+checksOf code s =
+    4 when noCommand (find table code)
+    ∷ 5 when shorter (find table code) s
+    ∷ 7 when keyWrong (find table code) s
     ∷ 7 when idWrong code (parameterOf (idOf s))
     ∷ 5 when (eqb code 0x84 && valueOf (parameterOf (idOf s)) (valuePart s) isTooShort)
     ∷ 7 when (eqb code 0x84 && valueOf (parameterOf (idOf s)) (valuePart s) isNaN)
     ∷ []
 
--- the checks of a transfer in their order
-unfoldable pub checks : Header → List ℕ → List Check
-checks board s =
+-- the checks of a transfer in their order, for a board with its own list of codes
+unfoldable pub checks : List ℕ → Header → List ℕ → List Check
+checks codes board s =
     1 when fewerThanFour s
     ∷ 3 when headerDiffers board s
-    ∷ checksBy (codeOf s) s
+    ∷ 4 when not (isIn (codeOf s) codes)
+    ∷ checksOf (codeOf s) s

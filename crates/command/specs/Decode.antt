@@ -11,7 +11,8 @@ use Rattle.value.specs.declared.Parsed.{Parsed}
 use Rattle.settings.specs.Table.{parameterOf}
 use Rattle.settings.specs.declared.Parameter.{Parameter}
 use Rattle.settings.specs.declared.Parameter.the-variants.{ReadWrite, ReadOnly, Unknown}
-use Rattle.command.specs.Table.{Row, base, find}
+use Rattle.command.specs.Codes.{isIn, baseCodes}
+use Rattle.command.specs.Table.{table, find}
 use Rattle.command.specs.declared.Name.{Name}
 use Rattle.command.specs.declared.Listed.{Listed}
 use Rattle.command.specs.declared.Listed.the-variants.{Plain, Keyed, Missing}
@@ -121,7 +122,7 @@ carried Name.SaveConfiguration s = Run (SaveConfiguration (checksumIn s))
 
 -- ---- the checks in their order; 2 and 6, which ask for the mode, are the board's
 unfoldable pub listed : Listed → List ℕ → Decoded
-listed Missing s = Refused CodeNotListed  -- 4
+listed Missing s = Refused CodeNotListed  -- 4 as well: a code of the board's list that no command has
 listed (Plain name needed) s =
     cond (ltb (length s) needed) (Refused TooShort)  -- 5
     (carried name s)  -- 7, a parameter or its value
@@ -131,11 +132,13 @@ listed (Keyed name needed key) s =
     (carried name s))
 
 -- to a board with its own list of codes
-unfoldable pub decodeBy : List Row → Header → List ℕ → Decoded
+unfoldable pub decodeBy : List ℕ → Header → List ℕ → Decoded
 decodeBy codes board s =
     cond (fewerThanFour s) (Refused FewerThanFourBytes)  -- 1
     (cond (not (headerIs board s)) (Refused NotThisBoard)  -- 3
-    (listed (find codes (codeOf s)) s))
+    (cond (not (isIn (codeOf s) codes)) (Refused CodeNotListed)  -- 4
+    (listed (find table (codeOf s)) s)))
 
+-- to a board of the base
 unfoldable pub decodeOf : Header → List ℕ → Decoded
-decodeOf board s = decodeBy base board s
+decodeOf board s = decodeBy baseCodes board s

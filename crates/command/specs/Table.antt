@@ -1,4 +1,4 @@
--- The base list: which codes there are, and the bytes and the key of each, as the ICD's command pages give them.
+-- The commands that the decoder knows: the code, the bytes and the key of each, as the ICD's command pages give them. Which of them a board has, its own list of codes says.
 -- `a ∷ b ∷ []` is a list of two, and `cond b x y` is x where b holds, else y. Assumes nothing.
 use Prim.Native.Nat.{ℕ}
 use mathlib.Core.Bool.{cond}
@@ -17,8 +17,8 @@ pub data Row : Type 0 where
   _is_of_bytes-with-key_ : ℕ → Name → ℕ → ℕ → Row
 
 -- 0x84 needs the two bytes of its id first; how many its value has, the id's type says
-unfoldable pub base : List Row
-base =
+unfoldable pub table : List Row
+table =
     0xAA is SystemReset of 5 bytes-with-key 0xA6  -- page 29
     ∷ 0x02 is NoOperation of 4 bytes  -- page 30
     ∷ 0x04 is CancelOperation of 4 bytes  -- page 31
@@ -40,7 +40,7 @@ base =
     ∷ 0x94 is SaveConfiguration of 7 bytes-with-key 0xA7  -- page 71
     ∷ []
 
--- what a list says of a code: its row, or that it has none
+-- what such rows say of a code: its row, or that it has none
 unfoldable pub find : List Row → ℕ → Listed
 find [] code = Missing
 find (c is name of n bytes ∷ rows) code = cond (eqb code c) (Plain name n) (find rows code)

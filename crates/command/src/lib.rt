@@ -1,7 +1,8 @@
 // A transfer of any length and content to a command or a refusal, for the checks that need neither mode nor state.
 ghost use mathlib.Core.Path.{_≡_};
-ghost use Rattle.command.specs.Table.{base, find};
-ghost use Rattle.command.specs.Decode.{fewerThanFour, headerIs, groupIn, getting, valued, setting, resetting, carried, listed, decodeOf};
+ghost use Rattle.command.specs.Codes.{isIn, baseCodes};
+ghost use Rattle.command.specs.Table.{table, find};
+ghost use Rattle.command.specs.Decode.{fewerThanFour, headerIs, groupIn, getting, valued, setting, resetting, carried, listed, decodeBy};
 use settings::Parameter;
 use value::ParamValue;
 use value::Parsed;
@@ -19,7 +20,7 @@ pub struct Group {
     pub spoken: u32,
 }
 
-// The commands of the base list, by the names of their ICD pages.
+// The commands that the decoder knows, by the names of their ICD pages.
 enum Name {
     SystemReset,
     NoOperation,
@@ -42,7 +43,7 @@ enum Name {
     SaveConfiguration,
 }
 
-// What the list says of a code: the command and the bytes it needs, with its key where it has one.
+// What the table of commands says of a code: the command and the bytes it needs, with its key where it has one.
 enum Listed {
     Plain(Name, usize),
     Keyed(Name, usize, u8),
@@ -109,9 +110,50 @@ fn is_for(board: Header, transfer: &[u8]) -> bool
     wire::byte(transfer, 3) == board.bid
 }
 
-// What the base list says of a code.
+// The base list of codes, for a board whose own list it is.
+pub fn base_codes() -> [u8; 19]
+    ensures { λ r. ⌜ r ≡ baseCodes ⌝ }
+{
+    [
+        0xAA,
+        0x02,
+        0x04,
+        0x06,
+        0x10,
+        0x12,
+        0x14,
+        0x16,
+        0x18,
+        0x30,
+        0x32,
+        0x42,
+        0x50,
+        0x82,
+        0x84,
+        0x86,
+        0x90,
+        0x92,
+        0x94,
+    ]
+}
+
+// Whether a code is in a list of codes.
+fn is_listed(codes: &[u8], code: u8) -> bool
+    ensures { λ r. ⌜ r ≡ isIn code (now (codes .entry)) ⌝ }
+{
+    let mut i = 0;
+    while i < codes.len() {
+        if codes[i] == code {
+            return true;
+        }
+        i += 1;
+    }
+    false
+}
+
+// What the table of commands says of a code.
 fn listed_as(code: u8) -> Listed
-    ensures { λ r. ⌜ r ≡ find base code ⌝ }
+    ensures { λ r. ⌜ r ≡ find table code ⌝ }
 {
     match code {
         0xAA => Listed::Keyed(Name::SystemReset, 5, 0xA6),
@@ -227,7 +269,7 @@ fn carried(name: Name, transfer: &[u8]) -> Decoded
     }
 }
 
-// A command as the list has it: long enough, with its key, and then what it carries.
+// A command as the table has it: long enough, with its key, and then what it carries. A code that has no row is not listed, whatever a board's list says.
 fn by_list(entry: Listed, transfer: &[u8]) -> Decoded
     ensures { λ r. ⌜ r ≡ listed entry (now (transfer .entry)) ⌝ }
 {
@@ -251,16 +293,22 @@ fn by_list(entry: Listed, transfer: &[u8]) -> Decoded
     }
 }
 
-// What a transfer is to a board: the first check that applies answers.
-pub fn decode(header: Header, transfer: &[u8]) -> Decoded
-    ensures { λ r. ⌜ r ≡ decodeOf header (now (transfer .entry)) ⌝ }
+// What a transfer is to a board with its own header and list of codes: the first check that applies answers.
+pub fn decode(header: Header, codes: &[u8], transfer: &[u8]) -> Decoded
+    ensures { λ r. ⌜ r ≡ decodeBy (now (codes .entry)) header (now (transfer .entry)) ⌝ }
 {
+    let code = wire::byte(transfer, 2);
+    let short = too_short(transfer);
     let ours = is_for(header, transfer);
-    if transfer.len() < 4 {
+    let listed = is_listed(codes, code);
+    if short {
         return Decoded::Refused(Refusal::FewerThanFourBytes);
     }
     if !ours {
         return Decoded::Refused(Refusal::NotThisBoard);
     }
-    by_list(listed_as(wire::byte(transfer, 2)), transfer)
+    if !listed {
+        return Decoded::Refused(Refusal::CodeNotListed);
+    }
+    by_list(listed_as(code), transfer)
 }

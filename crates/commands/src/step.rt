@@ -59,16 +59,18 @@ fn decoded(b: Board, rail: i16, limits: Limits, sent: Received, d: Decoded) -> C
 fn transferred(b: Board, rail: i16, limits: Limits, transfer: &[u8]) -> Commanded
     ensures { λ r. ⌜ r ≡ transferredOf rail limits (now (transfer .entry)) b ⌝ }
 {
+    let codes = command::base_codes();
+    let sent = start_of(transfer);
     let short = command::too_short(transfer);
     let in_startup = is_startup(b.phase.mode());
+    let found = command::decode(header(b.profile), &codes, transfer);
     if short {
         return silent(b, Outcome::Answered(Answer::FewerThanFourBytes));
     }
     if in_startup {
         return silent(b, Outcome::Answered(Answer::InStartup));
     }
-    let d = command::decode(header(b.profile), transfer);
-    decoded(b, rail, limits, start_of(transfer), d)
+    decoded(b, rail, limits, sent, found)
 }
 
 // Step 4: no transfer, or one of any length and content. Where none was sent, the slice is not looked at.
