@@ -1,0 +1,72 @@
+-- The two long lines: what a tick prints, and the state. Characters are their ASCII codes: 32 is a space, 45 is `-`, 10 ends a line.
+-- Assumes nothing: these are definitions.
+use Prim.Native.Nat.{ℕ}
+use mathlib.Core.Bool.{cond}
+use mathlib.Core.List.{List, [], _∷_, _++_}
+use lib.ListN.{take}
+use Rattle.wire.specs.declared.reply.Reply.{Reply}
+use Rattle.image.specs.Image.{imageOf}
+use Rattle.memory.specs.declared.Store.{Store}
+use Rattle.memory.specs.declared.Memory.{Memory}
+use Rattle.answers.specs.declared.Outcome.{Outcome}
+use Rattle.state.specs.declared.parts.Resets.{Resets}
+use Rattle.state.specs.declared.parts.Board.{Board}
+use Rattle.board.specs.declared.Ticked.{Ticked}
+use Rattle.script.specs.Printing.{digitsOf, row, hexOf}
+use Rattle.showing.specs.Naming.{modeLetter, eventLetter, answerDigit, causeNumber, formLetter}
+
+-- a space and a number of k digits; a space and one character
+abbrev pub fieldOf : ℕ → ℕ → List ℕ
+fieldOf k n = 32 ∷ digitsOf k n
+
+abbrev pub letterOf : ℕ → List ℕ
+letterOf c = 32 ∷ c ∷ []
+
+-- a space and the bytes that a reply shows
+unfoldable pub replyText : Reply → List ℕ
+replyText r = 32 ∷ hexOf (take (r .len) (r .bytes))
+
+-- ---- the tick line: mode age timer on latched event answer reply
+
+unfoldable pub frontText : Board → List ℕ
+frontText b =
+    modeLetter (b .phase .mode)
+    ∷ fieldOf 16 (b .phase .age)
+    ++ fieldOf 16 (b .timer)
+    ++ fieldOf 8 (b .channels .on)
+    ++ fieldOf 8 (b .channels .latched)
+
+-- the reply made in this tick, or `-`
+unfoldable pub madeText : Ticked → List ℕ
+madeText t = cond (t .replied) (replyText (t .board .reply)) (letterOf 45)
+
+unfoldable pub tickLine : ℕ → Ticked → List ℕ
+tickLine answer t = frontText (t .board) ++ letterOf (eventLetter (t .event)) ++ letterOf answer ++ madeText t ++ 10 ∷ []
+
+-- `refused 9`; the answer is `-` when the tick brought no transfer
+unfoldable pub outcomeLine : Outcome → Ticked → List ℕ
+outcomeLine Outcome.WrongWordCount t = 114 ∷ 101 ∷ 102 ∷ 117 ∷ 115 ∷ 101 ∷ 100 ∷ 32 ∷ 57 ∷ 10 ∷ []
+outcomeLine Outcome.NoTransfer t = tickLine 45 t
+outcomeLine (Outcome.Answered a) t = tickLine (answerDigit a) t
+
+-- ---- the state line: form cause pwr wdg cmd savecount checksum stored settings counts words reply
+
+unfoldable pub resetsText : Resets → List ℕ
+resetsText r = fieldOf 2 (causeNumber (r .cause)) ++ fieldOf 4 (r .power) ++ fieldOf 4 (r .watchdog) ++ fieldOf 4 (r .command)
+
+-- the stored save count, or `-`
+unfoldable pub storedText : Store → List ℕ
+storedText s = cond (s .held) (fieldOf 4 (s .«save_count»)) (letterOf 45)
+
+unfoldable pub memoryText : Memory → List ℕ
+memoryText m = fieldOf 4 (m .shown .«save_count») ++ fieldOf 4 (m .shown .checksum) ++ storedText (m .store) ++ 32 ∷ hexOf (imageOf (m .current))
+
+unfoldable pub stateLine : Board → List ℕ
+stateLine b =
+    formLetter (b .form)
+    ∷ resetsText (b .resets)
+    ++ memoryText (b .memory)
+    ++ (32 ∷ row 4 (b .channels .counts))
+    ++ (32 ∷ row 4 (b .measured .words))
+    ++ replyText (b .reply)
+    ++ 10 ∷ []
