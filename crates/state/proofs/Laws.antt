@@ -1,0 +1,22 @@
+-- The number of a start. Assumes nothing.
+use mathlib.Core.Bool.{Bool, true, false, cond}
+use mathlib.Core.Path.{_≡_, refl}
+use Rattle.memory.specs.declared.Store.{Store}
+use Rattle.state.specs.Start.{keepsTheRules, startOf, startNumber}
+use Rattle.state.specs.declared.parts.Board.{Board}
+use Rattle.state.specs.declared.parts.Profile.{Profile}
+use Rattle.state.specs.declared.starting.Started.{Started}
+
+chosen : (t : Bool) (x y : Started) → startNumber (cond t x y .answer) ≡ cond t (startNumber (x .answer)) (startNumber (y .answer))
+chosen true x y = refl
+chosen false x y = refl
+
+-- 8 exactly where a rule is broken
+pub number-8 : (there : Board) (p : Profile) (store : Store) → startNumber (startOf there p store .answer) ≡ cond (keepsTheRules p store) 0 8
+unfolding startOf
+number-8 there p store = chosen (keepsTheRules p store) _ _
+
+-- and then the board that was there stays
+pub refused-leaves : (there : Board) (p : Profile) (store : Store) → keepsTheRules p store ≡ false → startOf there p store .board ≡ there
+unfolding startOf
+refused-leaves there p store broken = rw broken
