@@ -60,7 +60,7 @@ receivedIn s = record { stid = stidOf s; ivid = ividOf s; code = codeOf s; bid =
 abbrev pub headerOf : Profile → Header
 headerOf p = record { stid = 0x11; ivid = 7; bid = p .bid }
 
--- no reply made; the waiting one stays; nothing else
+-- nothing is said: the board is handed on as it came, with whatever reply waits on it
 abbrev pub silentOf : Outcome → Board → Commanded
 silentOf outcome b = record { board = b; outcome = outcome; replied = false }
 

@@ -23,7 +23,7 @@ use Rattle.answers.specs.declared.Commanded.{Commanded}
 use Rattle.answers.specs.declared.Outcome.the-variants.{WrongWordCount}
 use Rattle.board.specs.declared.Ticked.{Ticked}
 
--- ---- step 1: the mode's age and the timer rise by 1; words brought replace the last
+-- ---- step 1: age and timer go up by one, and words that came take the place of the old
 -- 122 words are words brought, and are new
 unfoldable pub broughtBy : List ℕ → Measured → Measured
 broughtBy words m = cond (eqb (length words) 122) (record { words = words; fresh = true }) m
@@ -31,7 +31,7 @@ broughtBy words m = cond (eqb (length words) 122) (record { words = words; fresh
 unfoldable pub risenOf : List ℕ → Board → Board
 risenOf words b = withPhase (olderOf (b .phase)) (withTimer (dog.risenOf (b .timer)) (withMeasured (broughtBy words (b .measured)) b))
 
--- ---- step 2: one automatic mode change at most
+-- ---- step 2: the change of mode by the table, if there is one
 -- the phase after it, with what the change brings for the channels, the timer and the resets
 unfoldable pub changedOf : ℤ → Limits → Board → Board
 changedOf rail limits b =

@@ -1,5 +1,5 @@
 -- Document 01's table of refusals, for the checks that ask for neither mode nor state: the first that applies answers.
--- `7 when b` is a check that is given the number 7 exactly when b holds. Assumes nothing.
+-- `7 when b` is a check with the number 7 that applies where b holds. Assumes nothing.
 use Prim.Native.Nat.{ℕ}
 use mathlib.Core.Bool.{Bool, true, false, cond, not, _&&_, _||_}
 use mathlib.Core.List.{List, [], _∷_}
@@ -26,7 +26,7 @@ unfoldable pub first : List Check → ℕ
 first [] = 0
 first (n when b ∷ checks) = cond b n (first checks)
 
--- STID, IVID or BID is not the board's
+-- the transfer is for another board, by one of its three identifiers
 unfoldable pub headerDiffers : Header → List ℕ → Bool
 headerDiffers board s = not (eqb (stidOf s) (board .stid)) || not (eqb (ividOf s) (board .ivid)) || not (eqb (bidOf s) (board .bid))
 
@@ -36,7 +36,7 @@ noCommand (Plain name needed) = false
 noCommand (Keyed name needed key) = false
 noCommand Missing = true
 
--- shorter than the command needs
+-- too few bytes for the command
 abbrev pub shorter : Listed → List ℕ → Bool
 shorter (Plain name needed) s = ltb (length s) needed
 shorter (Keyed name needed key) s = ltb (length s) needed

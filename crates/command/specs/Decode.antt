@@ -120,7 +120,7 @@ carried Name.ResetConfiguration s = Run ResetConfiguration
 carried Name.LoadConfiguration s = Run LoadConfiguration
 carried Name.SaveConfiguration s = Run (SaveConfiguration (checksumIn s))
 
--- ---- the checks in their order; 2 and 6, which ask for the mode, are the board's
+-- ---- the checks in their order; 2 and 6, which ask for the mode, and 7 for a channel or a checksum are the board's
 unfoldable pub listed : Listed → List ℕ → Decoded
 listed Missing s = Refused CodeNotListed  -- 4 as well: a code of the board's list that no command has
 listed (Plain name needed) s =

@@ -61,7 +61,7 @@ channelOffOf code one b =
     (switchOff (b .profile .fitted) (b .profile .forced) one (b .channels))
     b
 
--- ---- 0x04: command-enabled channels go off, latches stay
+-- ---- 0x04: no command-enabled channel is on afterwards; every latch is as it was
 unfoldable pub cancelledOf : ℕ → Board → Commanded
 cancelledOf code b = acceptedOf code (withChannels (commandEnabledOff (b .profile .fitted) (b .profile .forced) (b .channels)) b)
 
@@ -78,7 +78,7 @@ faultsOf code b =
     (replyOf (faultsReply (headerOf (b .profile)) code new (b .channels .on) (b .channels .latched) (b .channels .counts)))
     b
 
--- ---- 0x50: the words; NEW only if words came since the last accepted 0x50, reset or start, and from now on they are not new
+-- ---- 0x50: the words, as NEW only where the board remembers that they are; from now on they are not
 abbrev pub newWhere : Bool → ℕ
 newWhere fresh = cond fresh new 0x00
 

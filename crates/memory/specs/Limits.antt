@@ -1,7 +1,7 @@
 -- What the mode table and the watchdog read of the settings. Safety low, safety high and the timeout are the values of 0x4042, 0x4043 and 0x4000 as they
 -- stand; the other four are values of Table 3-26. Assumes nothing: these are definitions.
 use Prim.Native.Nat.{ℕ}
-use lib.IntN.{ℤ, pos, natAbs}
+use lib.IntN.{pos, natAbs}
 use Rattle.settings.specs.Values.{numberOf}
 use Rattle.modes.specs.declared.Limits.{Limits}
 use Rattle.watchdog.specs.Watchdog.{secondsInTicks}

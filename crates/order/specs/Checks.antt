@@ -2,7 +2,7 @@
 -- `7 when b` is a check with the number 7 that applies where b holds. The checks read the bytes, the mode, the profile, the rail and the settings, and nothing
 -- that a decoder makes of the bytes. Assumes nothing: these are definitions.
 use Prim.Native.Nat.{ℕ}
-use mathlib.Core.Bool.{Bool, true, false, cond, not, _&&_, _||_}
+use mathlib.Core.Bool.{Bool, false, cond, not, _&&_, _||_}
 use mathlib.Core.List.{List, [], _∷_}
 use lib.Dec.{eqb}
 use lib.IntN.{ℤ}

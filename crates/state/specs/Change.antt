@@ -24,8 +24,8 @@ fromNominalToSafety before after = same before Nominal && same after Safety
 unfoldable pub leavesEmergency : Mode → Mode → Bool
 leavesEmergency before after = same before Emergency && not (same after Emergency)
 
--- Channels are off in startup and emergency, and entering emergency keeps latches. On leaving either, all latches clear and exactly the force-enabled come on.
--- Entering safety from nominal only turns command-enabled channels off. From safety to nominal, and where the mode stays, none is altered.
+-- In startup and emergency every channel is off, with its latch as it was. When one of the two is left, the channels that are on afterwards are the force-enabled ones and no others, and no latch is left.
+-- From nominal to safety the command-enabled ones go off and nothing else happens to a channel. From safety to nominal, and where the mode stays, nothing at all does.
 unfoldable pub enteringOf : Mode → Mode → Profile → Channels → Channels
 enteringOf before after p ch =
     cond (isDark after) (allOff ch)
@@ -33,11 +33,11 @@ enteringOf before after p ch =
     (cond (fromNominalToSafety before after) (commandEnabledOff (p .fitted) (p .forced) ch)
     ch))
 
--- The timer is 0 in startup and emergency, and at the tick that leaves them.
+-- Startup and emergency hold the timer at 0, the tick that leads out of them included.
 unfoldable pub timerAfter : Mode → Mode → ℕ → ℕ
 timerAfter before after timer = cond (isDark before || isDark after) 0 timer
 
--- Leaving emergency adds 1 to the power reset count, to at most 65,535, and sets the cause to emergency.
+-- Emergency left counts as one power reset more, up to the top, and becomes the cause.
 unfoldable pub leftEmergency : Resets → Resets
 leftEmergency r = record { power = oneMore (r .power); watchdog = r .watchdog; command = r .command; cause = Cause.Emergency }
 

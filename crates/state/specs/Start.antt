@@ -27,8 +27,8 @@ use Rattle.state.specs.declared.starting.Started.{Started}
 abbrev pub unmeasured : Measured
 unmeasured = record { words = replicate 122 0; fresh = false }
 
--- startup at age 0, the timer 0, no waiting reply, settings loaded from the store or defaults, every channel off with no latch and a count of 0,
--- measured words 0, text form raw
+-- a board with nothing behind it: startup just entered, the timer at 0, no reply, what the store holds in force or else the defaults, channels that are off, unlatched and uncounted,
+-- no words, the raw form
 unfoldable pub freshOf : Profile → Store → Resets → Board
 freshOf profile store resets =
     record {
@@ -56,7 +56,7 @@ watchdogResetOf b = freshOf (b .profile) (b .memory .store) (byWatchdog (b .rese
 unfoldable pub commandResetOf : Board → Board
 commandResetOf b = freshOf (b .profile) (b .memory .store) (byCommand (b .resets))
 
--- ---- a profile start: the same with all counts 0 and cause power-on
+-- ---- a start from a profile: likewise, with nothing counted yet and power-on for the cause
 unfoldable pub neverReset : Resets
 neverReset = record { power = 0; watchdog = 0; command = 0; cause = PowerOn }
 

@@ -31,7 +31,7 @@ pub struct Resets {
     pub cause: Cause,
 }
 
-// The measured words, and whether words came since the last accepted 0x50, reset or start.
+// The measured words, and whether they are still new: brought, and not yet told by a 0x50.
 pub struct Measured {
     pub words: [u16; 122],
     pub fresh: bool,
