@@ -83,10 +83,10 @@ shortTo code answer b = replyOf (shortReply (headerOf (b .profile)) code (statOf
 unfoldable pub acceptedOf : ℕ → Board → Commanded
 acceptedOf code b = acceptedWith (shortTo code Accepted b) b
 
--- 3: the 5-byte reply; the timer not fed
+-- 3 is told in 5 bytes, and the timer goes on
 unfoldable pub notThisBoardOf : ℕ → Board → Commanded
 notThisBoardOf code b = replyingOf NotThisBoard (shortTo code NotThisBoard b) b
 
--- 4 to 7: the 5-byte reply; the timer set to 0
+-- 4 to 7 are told in 5 bytes, and the timer starts again at 0
 unfoldable pub refusedOf : Answer → ℕ → Board → Commanded
 refusedOf answer code b = replyingOf answer (shortTo code answer b) (fed b)

@@ -5,6 +5,7 @@ ghost use Rattle.answers.specs.Answers.{receivedIn, headerOf, statOf, si
 mod parameters;
 
 use command::Header;
+pub use parameters::cause_number;
 pub use parameters::value_read;
 use state::Board;
 use state::Profile;

@@ -11,7 +11,7 @@ use state::Resets;
 use value::ValueBytes;
 
 // A cause as 0x4803 shows it.
-fn cause_number(cause: Cause) -> u64
+pub fn cause_number(cause: Cause) -> u64
     ensures { λ r. ⌜ r ≡ causeNumber cause ⌝ }
 {
     match cause {

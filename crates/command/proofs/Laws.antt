@@ -26,17 +26,17 @@ use Rattle.command.specs.declared.Refusal.{Refusal}
 use Rattle.command.specs.declared.Refusal.the-variants.{TooShort, WrongKey}
 
 -- ---- cases
-cases : {A : Type 0} (b : Bool) → (b ≡ true → A) → (b ≡ false → A) → A
+pub cases : {A : Type 0} (b : Bool) → (b ≡ true → A) → (b ≡ false → A) → A
 cases true t f = t refl
 cases false t f = f refl
 
 -- what holds at each of some numbers, and at one that is none of them, holds
 infixr 20 _and_
-data Each (P : ℕ → Type 0) : List ℕ → Type 0 where
+pub data Each (P : ℕ → Type 0) : List ℕ → Type 0 where
   none : Each P []
   _and_ : {c : ℕ} {cs : List ℕ} → P c → Each P cs → Each P (c ∷ cs)
 
-by-code : (P : ℕ → Type 0) (k : ℕ) (cs : List ℕ) → Each P cs → (isIn k cs ≡ false → P k) → P k
+pub by-code : (P : ℕ → Type 0) (k : ℕ) (cs : List ℕ) → Each P cs → (isIn k cs ≡ false → P k) → P k
 unfolding isIn
 by-code P k [] none other = other refl
 by-code P k (c ∷ cs) (p and ps) other = cases (eqb k c) (λ e. subst P (sym (eqb-true k c e)) p) (λ e. by-code P k cs ps (λ h. other (rw e h)))
@@ -124,7 +124,7 @@ module _ (s : List ℕ) where
       (unlisted code)
 
 -- ---- the first check that applies answers
-differs : (a b c : Bool) → not (a && b && c) ≡ (not a || not b || not c)
+pub differs : (a b c : Bool) → not (a && b && c) ≡ (not a || not b || not c)
 differs true true c = refl
 differs true false c = refl
 differs false b c = refl

@@ -34,7 +34,7 @@ use Rattle.command.specs.declared.Decoded.{Decoded}
 use Rattle.command.specs.declared.Decoded.the-variants.{Run, Refused}
 use Rattle.command.specs.declared.Refusal.{Refusal}
 use Rattle.command.specs.declared.Refusal.the-variants.{FewerThanFourBytes, NotThisBoard, CodeNotListed, TooShort, WrongKey, WrongParameter, NotANumber}
-use Rattle.command.proofs.Laws.{first-check}
+use Rattle.command.proofs.Laws.{cases, Each, none, _and_, by-code, differs, first-check}
 use Rattle.memory.specs.Memory.{isRight, savedOf}
 use Rattle.state.specs.Parts.{modeOf}
 use Rattle.state.specs.declared.parts.Board.{Board}
@@ -46,26 +46,9 @@ use Rattle.commands.specs.Effects.{isNominal, switchedOf, groupOnOf, groupOffOf
 use Rattle.commands.specs.Step.{isStartup, turnedDown, decodedOf, transferredOf}
 use Rattle.order.specs.Checks.{_is_, channelCodes, unavailable, channelWrong, checksumWrong, checksBy, checksOf}
 
--- ---- cases
-cases : {A : Type 0} (b : Bool) → (b ≡ true → A) → (b ≡ false → A) → A
-cases true t f = t refl
-cases false t f = f refl
-
--- what holds at each of some numbers holds at one that is among them
-infixr 20 _and_
-data Each (P : ℕ → Type 0) : List ℕ → Type 0 where
-  none : Each P []
-  _and_ : {c : ℕ} {cs : List ℕ} → P c → Each P cs → Each P (c ∷ cs)
-
-by-code : (P : ℕ → Type 0) (k : ℕ) (cs : List ℕ) → isIn k cs ≡ true → Each P cs → P k
-unfolding isIn
-by-code P k [] h none = absurd (subst T (sym h) tt)
-by-code P k (c ∷ cs) h (p and ps) = cases (eqb k c) (λ e. subst P (sym (eqb-true k c e)) p) (λ e. by-code P k cs (rw e at h) ps)
-
-differs : (a b c : Bool) → not (a && b && c) ≡ (not a || not b || not c)
-differs true true c = refl
-differs true false c = refl
-differs false b c = refl
+-- what holds at each of some codes holds at one that is among them
+at-code : (P : ℕ → Type 0) (k : ℕ) (cs : List ℕ) → isIn k cs ≡ true → Each P cs → P k
+at-code P k cs h each = by-code P k cs each (λ e. absurd (subst T (sym (sym e ∙ h)) tt))
 
 startup-is : (m : Mode) → isStartup m ≡ (m is Startup)
 unfolding isStartup
@@ -179,7 +162,7 @@ module _ (rail : ℤ) (limits : Limits) (b : Board) where
     in-list : isStartup (modeOf b) ≡ false → (code : ℕ) → isIn code baseCodes ≡ true → toldOf code (listed (find table code) s) ≡ some (first (checksBy rail limits b code s))
     unfolding listed find table first checksBy baseCodes isIn idWrong unavailable channelCodes channelWrong checksumWrong carried getting setting resetting decodedOf runOf acceptedOf acceptedWith groupOnOf groupOffOf groupStateOf channelOnOf channelOffOf cancelledOf faultsOf housekeepingOf rememberedOf restartedOf toSafety toNominal
     in-list started code h =
-        by-code (λ k. toldOf k (listed (find table k) s) ≡ some (first (checksBy rail limits b k s))) code baseCodes h
+        at-code (λ k. toldOf k (listed (find table k) s) ≡ some (first (checksBy rail limits b k s))) code baseCodes h
         (keyed 0xAA 5 0xA6 _ refl
         and plain 0x02 4 _ refl
         and plain 0x04 4 _ refl

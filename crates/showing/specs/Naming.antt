@@ -1,10 +1,9 @@
--- How a line names a mode, an event, an answer, a cause and a form: characters are their ASCII codes.
+-- How a line names a mode, an event, an answer and a form: characters are their ASCII codes.
 -- Assumes nothing: these are definitions.
 use Prim.Native.Nat.{ℕ}
 use Rattle.modes.specs.declared.Mode.{Mode}
 use Rattle.watchdog.specs.declared.Event.{Event}
 use Rattle.answers.specs.declared.Answer.{Answer}
-use Rattle.state.specs.declared.parts.Cause.{Cause}
 use Rattle.state.specs.declared.parts.Form.{Form}
 
 -- U, N, F, E
@@ -30,13 +29,6 @@ answerDigit Answer.CodeNotListed = 52
 answerDigit Answer.TooShort = 53
 answerDigit Answer.NotAvailable = 54
 answerDigit Answer.Wrong = 55
-
--- the numbers of the ICD's reset causes
-abbrev pub causeNumber : Cause → ℕ
-causeNumber Cause.PowerOn = 0
-causeNumber Cause.Watchdog = 1
-causeNumber Cause.Commanded = 2
-causeNumber Cause.Emergency = 4
 
 -- R, A
 abbrev pub formLetter : Form → ℕ

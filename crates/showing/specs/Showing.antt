@@ -9,11 +9,12 @@ use Rattle.image.specs.Image.{imageOf}
 use Rattle.memory.specs.declared.Store.{Store}
 use Rattle.memory.specs.declared.Memory.{Memory}
 use Rattle.answers.specs.declared.Outcome.{Outcome}
+use Rattle.state.specs.Parts.{causeNumber}
 use Rattle.state.specs.declared.parts.Resets.{Resets}
 use Rattle.state.specs.declared.parts.Board.{Board}
 use Rattle.board.specs.declared.Ticked.{Ticked}
 use Rattle.script.specs.Printing.{digitsOf, row, hexOf}
-use Rattle.showing.specs.Naming.{modeLetter, eventLetter, answerDigit, causeNumber, formLetter}
+use Rattle.showing.specs.Naming.{modeLetter, eventLetter, answerDigit, formLetter}
 
 -- a space and a number of k digits; a space and one character
 abbrev pub fieldOf : ℕ → ℕ → List ℕ

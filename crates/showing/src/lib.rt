@@ -90,7 +90,7 @@ fn resets(out: &mut [u8], start: usize, r: Resets) -> usize
     ensures { λ place. ⌜ page (now (out .exit)) place ≡ typed (page (now (out .entry)) start) (resetsText r) ⌝ }
 {
     let cause = r.cause;
-    let mut at = field(out, start, naming::cause_number(cause), 2);
+    let mut at = field(out, start, answers::cause_number(cause), 2);
     at = field(out, at, r.power as u64, 4);
     at = field(out, at, r.watchdog as u64, 4);
     field(out, at, r.command as u64, 4)

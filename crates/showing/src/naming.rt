@@ -1,11 +1,10 @@
 // The letters and numbers by which a line names a mode, an event, an answer, a cause and a form.
 use answers::Answer;
 use modes::Mode;
-use state::Cause;
 use state::Form;
 use watchdog::Event;
 ghost use mathlib.Core.Path.{_≡_};
-ghost use Rattle.showing.specs.Naming.{modeLetter, eventLetter, answerDigit, causeNumber, formLetter};
+ghost use Rattle.showing.specs.Naming.{modeLetter, eventLetter, answerDigit, formLetter};
 
 // The letter of a mode.
 pub fn mode_letter(mode: Mode) -> u8
@@ -43,18 +42,6 @@ pub fn answer_digit(answer: Answer) -> u8
         Answer::TooShort => b'5',
         Answer::NotAvailable => b'6',
         Answer::Wrong => b'7',
-    }
-}
-
-// The number of a reset's cause.
-pub fn cause_number(cause: Cause) -> u64
-    ensures { λ r. ⌜ r ≡ causeNumber cause ⌝ }
-{
-    match cause {
-        Cause::PowerOn => 0,
-        Cause::Watchdog => 1,
-        Cause::Commanded => 2,
-        Cause::Emergency => 4,
     }
 }
 

@@ -43,7 +43,7 @@ freshOf profile store resets =
       form = Raw;
     }
 
--- ---- a reset: its own count rises by 1 to at most 65,535, and the cause is its own
+-- ---- a reset: the count of its kind goes up by one, to the top at most, and its kind becomes the cause
 unfoldable pub byWatchdog : Resets → Resets
 byWatchdog r = record { power = r .power; watchdog = oneMore (r .watchdog); command = r .command; cause = Watchdog }
 
