@@ -4,7 +4,7 @@ use Prim.Native.Nat.{ℕ}
 use Rattle.modes.specs.declared.Mode.{Mode}
 use Rattle.watchdog.specs.declared.Event.{Event}
 use Rattle.answers.specs.declared.Answer.{Answer}
-use Rattle.state.specs.declared.parts.Form.{Form}
+use Rattle.wire.specs.declared.forms.Form.{Form}
 
 -- U, N, F, E
 abbrev pub modeLetter : Mode → ℕ

@@ -1,8 +1,8 @@
 // The letters and numbers by which a line names a mode, an event, an answer, a cause and a form.
 use answers::Answer;
 use modes::Mode;
-use state::Form;
 use watchdog::Event;
+use wire::Form;
 ghost use mathlib.Core.Path.{_≡_};
 ghost use Rattle.showing.specs.Naming.{modeLetter, eventLetter, answerDigit, formLetter};
 

@@ -14,7 +14,7 @@ use Rattle.memory.specs.Memory.{oneMore, emptyStore, loadedFrom}
 use Rattle.memory.specs.declared.Store.{Store}
 use Rattle.state.specs.declared.parts.Board.{Board}
 use Rattle.state.specs.declared.parts.Cause.the-variants.{PowerOn, Watchdog, Commanded}
-use Rattle.state.specs.declared.parts.Form.the-variants.{Raw}
+use Rattle.wire.specs.declared.forms.Form.the-variants.{Raw}
 use Rattle.state.specs.declared.parts.Measured.{Measured}
 use Rattle.state.specs.declared.parts.Profile.{Profile}
 use Rattle.state.specs.declared.parts.Resets.{Resets}

@@ -8,7 +8,6 @@ pub use change::resets_after;
 pub use change::timer_after;
 pub use parts::Board;
 pub use parts::Cause;
-pub use parts::Form;
 pub use parts::Measured;
 pub use parts::Profile;
 pub use parts::Resets;

@@ -6,6 +6,7 @@ ghost use Rattle.state.specs.Parts.{withForm};
 use channels::Channels;
 use memory::Memory;
 use modes::ModeAge;
+use wire::Form;
 use wire::Reply;
 
 // What a board was started as.
@@ -35,12 +36,6 @@ pub struct Resets {
 pub struct Measured {
     pub words: [u16; 122],
     pub fresh: bool,
-}
-
-// The form of the text line.
-pub enum Form {
-    Raw,
-    Ascii,
 }
 
 pub struct Board {

@@ -3,7 +3,6 @@ ghost use mathlib.Core.Path.{_≡_};
 ghost use Rattle.state.specs.Start.{neverReset, freshOf, keepsTheRules, unstartedBoard, startOf, byWatchdog, byCommand, watchdogResetOf, commandResetOf};
 use crate::parts::Board;
 use crate::parts::Cause;
-use crate::parts::Form;
 use crate::parts::Measured;
 use crate::parts::Profile;
 use crate::parts::Resets;
@@ -11,6 +10,7 @@ use channels::Channels;
 use memory::Memory;
 use memory::Store;
 use modes::ModeAge;
+use wire::Form;
 use wire::Reply;
 
 // What a start answers.

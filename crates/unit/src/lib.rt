@@ -1,0 +1,176 @@
+// What a bench calls, in one place. Every call takes a machine by value, and hands it back where it changes.
+ghost use mathlib.Core.Path.{_≡_};
+ghost use lib.ListN.{length};
+ghost use Rattle.wire.specs.Replies.{found};
+ghost use Rattle.hex.specs.Hex.{laid};
+ghost use Rattle.text.specs.Lines.{lineHeld, payloadIn};
+ghost use Rattle.text.specs.Framing.{framedOf};
+ghost use Rattle.unit.specs.Machine.{noMachine, begunOf, dueBy, dueAfter, toldOf, afterLine, heardOf, dueOf};
+use answers::Outcome;
+use memory::Store;
+use state::Board;
+use state::Profile;
+use state::StartAnswer;
+use text::Due;
+use text::Framed;
+use text::Line;
+use watchdog::Event;
+
+// A board, and what its text line has to say.
+pub struct Machine {
+    pub board: Board,
+    pub due: Due,
+}
+
+// The machine after a start, and the answer.
+pub struct Begun {
+    pub machine: Machine,
+    pub answer: StartAnswer,
+}
+
+// The machine after a tick, what the tick tells of its transfer, what the watchdog did, and whether a reply made in this tick still waits.
+pub struct Told {
+    pub machine: Machine,
+    pub outcome: Outcome,
+    pub event: Event,
+    pub replied: bool,
+}
+
+// The machine after a read of its text line, and what the read answers.
+pub struct Heard {
+    pub machine: Machine,
+    pub line: Line,
+}
+
+// What stands where no machine was started yet: it has no channel and answers to no BID of a profile.
+pub fn unstarted() -> Machine
+    ensures { λ r. ⌜ r ≡ noMachine ⌝ }
+{
+    Machine {
+        board: state::unstarted(),
+        due: Due::Nothing,
+    }
+}
+
+// Starts a machine from a profile and what is stored; where the profile breaks a rule, the machine that was there stays.
+pub fn start(there: Machine, profile: Profile, store: Store) -> Begun
+    ensures { λ r. ⌜ r ≡ begunOf there profile store ⌝ }
+{
+    let s = state::start(there.board, profile, store);
+    let answer = s.answer;
+    match answer {
+        StartAnswer::Accepted => Begun {
+            machine: Machine {
+                board: s.board,
+                due: Due::Nothing,
+            },
+            answer: StartAnswer::Accepted,
+        },
+        StartAnswer::ProfileBreaksARule => Begun {
+            machine: there,
+            answer: StartAnswer::ProfileBreaksARule,
+        },
+    }
+}
+
+// What the text line has to say after a tick that happened.
+fn due_by(replied: bool) -> Due
+    ensures { λ r. ⌜ r ≡ dueBy replied ⌝ }
+{
+    if replied { Due::Reply } else { Due::Nothing }
+}
+
+// What the text line has to say after a tick: the reply made in it that still waits, and else nothing. A tick that did not happen leaves what was due.
+fn due_after(outcome: Outcome, replied: bool, due: Due) -> Due
+    ensures { λ r. ⌜ r ≡ dueAfter outcome replied due ⌝ }
+{
+    match outcome {
+        Outcome::WrongWordCount => due,
+        Outcome::NoTransfer => due_by(replied),
+        Outcome::Answered(_) => due_by(replied),
+    }
+}
+
+// One tick: the rail in millivolts, the channels that reported overcurrent, the words lent, and no transfer or one. With no transfer its slice is not looked at.
+pub fn tick(
+    m: Machine,
+    rail: i16,
+    overcurrent: u32,
+    words: &[u16],
+    sent: bool,
+    transfer: &[u8],
+) -> Told
+    ensures { λ r. ⌜ r ≡ toldOf rail overcurrent (now (words .entry)) sent (now (transfer .entry)) m ⌝ }
+{
+    let t = board::tick(m.board, rail, overcurrent, words, sent, transfer);
+    let outcome = t.outcome;
+    let event = t.event;
+    let due = due_after(outcome, t.replied, m.due);
+    Told {
+        machine: Machine {
+            board: t.board,
+            due,
+        },
+        outcome,
+        event,
+        replied: t.replied,
+    }
+}
+
+// A bus read: the lent buffer then holds the waiting reply from its first byte and after it 0xFF.
+pub fn bus_read(m: Machine, out: &mut [u8])
+    ensures { λ _. ⌜ now (out .exit) ≡ found (m .board .reply) (length (now (out .entry))) ⌝ }
+{
+    state::read(m.board, out);
+}
+
+// The machine after its text line was read: a switch takes at once, and its echo is due.
+fn after_line(m: Machine, line: Line) -> Machine
+    ensures { λ r. ⌜ r ≡ afterLine line m ⌝ }
+{
+    match line {
+        Line::Switch { form, behind: _ } => Machine {
+            board: state::with_form(m.board, form),
+            due: Due::Echo(form),
+        },
+        _ => m,
+    }
+}
+
+// Reads what was received on the text line, by the form in force: a command's payload, a switch of the form, or why there is neither.
+pub fn read_line(m: Machine, received: &[u8], scratch: &mut [u8]) -> Heard
+    ensures answer { λ r. ⌜ r ≡ heardOf (now (received .entry)) (length (now (scratch .entry))) m ⌝ }
+    ensures held { λ _. ⌜ now (scratch .exit) ≡ lineHeld (m .board .form) (now (received .entry)) (now (scratch .entry)) ⌝ }
+{
+    let b = m.board;
+    let line = text::read(b.form, received, scratch);
+    Heard {
+        machine: after_line(m, line),
+        line,
+    }
+}
+
+// The payload that a read handed on: a part of what was received in raw form, and of the scratch buffer in ASCII form. Ends that do not fit are cut.
+pub fn payload<'a>(
+    m: Machine,
+    received: &'a [u8],
+    scratch: &'a [u8],
+    start: usize,
+    end: usize,
+) -> &'a [u8]
+    ensures { λ r. ⌜ now r ≡ payloadIn (m .board .form) (now (received .entry)) (now (scratch .entry)) start end ⌝ }
+{
+    let b = m.board;
+    text::payload(b.form, received, scratch, start, end)
+}
+
+// Frames what the text line has to say into the front of a lent buffer: the reply of the latest tick, the echo of a switch since then, or nothing.
+pub fn frame(m: Machine, out: &mut [u8]) -> Framed
+    ensures answer { λ r. ⌜ r ≡ framedOf (dueOf m) (length (now (out .entry))) ⌝ }
+    ensures held { λ _. ⌜ now (out .exit) ≡ laid (dueOf m) (now (out .entry)) ⌝ }
+{
+    let b = m.board;
+    let reply = b.reply;
+    let bytes = reply.bytes;
+    text::frame(m.due, b.form, wire::first(&bytes, reply.len), out)
+}
