@@ -1,0 +1,4 @@
+pub mod Scanning
+pub mod Search
+pub mod Given
+pub mod Leaves
