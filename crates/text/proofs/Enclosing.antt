@@ -9,7 +9,7 @@ use lib.Dec.{leb}
 use lib.ListN.{length, take, drop, length-append, length-drop, take-append-drop}
 use lib.Seq.{sets, sets-eq, length-take-le, take-append-seam, drop-append-add, drop-append-le, drop-at, drop-drop}
 use borrow.Author.Tests.{le-leb, lt-leb}
-use borrow.Rule.Slice.PartMut.{midOf, putMid, mid-len, put-same}
+use borrow.Rule.Slice.PartMut.{midOf, putMid, mid-len, put-same, same-len-mid}
 use Rattle.laws.proofs.Lists.{lt-or-le, sets-front}
 use Rattle.hex.specs.Hex.{laid, writtenOf}
 use Rattle.hex.specs.declared.Written.{Written as Digits}
@@ -93,32 +93,35 @@ module _ (text out : List ℕ) (room : 13 ≤ length out) where
       ∙ sets-behind (replyTag ++ text) rest replyEnd (5 + length text) (omega arith) (omega arith)
       ∙ ap (λ (l : List ℕ). replyFrame text ++ l) end
 
-  -- the tags are laid where the text was
-  pub enclose-fits : Fits (framedOf text (length between)) (length out)
-  enclose-fits =
-      ⊎-elim
-      (λ (l : length between < length text). rw (framed-short text (length between) l) tt)
-      (λ (l : length text ≤ length between). rw (framed-fits text (length between) l) (omega (arith, between-length)))
-      (lt-or-le (length between) (length text))
+  -- inner is what the writing between the tags answers, and between then holds written
+  module _ (inner : Framed) (written : List ℕ) (answer : inner ≡ framedOf text (length between)) where
+    pub enclose-fits : length written ≡ length between → Fits inner (length (back written))
+    enclose-fits h =
+        rw (answer, same-len-mid 5 (length out - 8 - 5) out written h)
+        (⊎-elim
+        (λ (l : length between < length text). rw (framed-short text (length between) l) tt)
+        (λ (l : length text ≤ length between). rw (framed-fits text (length between) l) (omega (arith, between-length)))
+        (lt-or-le (length between) (length text)))
 
-  pub enclosed : (enclosedOf (framedOf text (length between)) ≡ framedOf (replyFrame text) (length out))
-      × (enclosedHeld (framedOf text (length between)) (back (laid text between)) ≡ laid (replyFrame text) out)
-  enclosed =
-      let n = frame-length text in
-      let b = between-length in
-      ⊎-elim
-      (λ (l : length between < length text). rw (
-          framed-short text (length between) l,
-          framed-short (replyFrame text) (length out) (omega arith),
-          laid-short text between l,
-          laid-short (replyFrame text) out (omega arith),
-        )
-        (refl, put-same 5 (length out - 8 - 5) out))
-      (λ (l : length text ≤ length between). rw (
-          framed-fits text (length between) l,
-          framed-fits (replyFrame text) (length out) (omega arith),
-          laid-fits (replyFrame text) out (omega arith),
-          back-fits (omega arith),
-        )
-        (ap Written (sym n), held-fits (omega arith)))
-      (lt-or-le (length between) (length text))
+    pub enclosed : written ≡ laid text between
+        → (enclosedOf inner ≡ framedOf (replyFrame text) (length out)) × (enclosedHeld inner (back written) ≡ laid (replyFrame text) out)
+    enclosed held =
+        let n = frame-length text in
+        let b = between-length in
+        rw (answer, held)
+        (⊎-elim
+        (λ (l : length between < length text). rw (
+            framed-short text (length between) l,
+            framed-short (replyFrame text) (length out) (omega arith),
+            laid-short text between l,
+            laid-short (replyFrame text) out (omega arith),
+          )
+          (refl, put-same 5 (length out - 8 - 5) out))
+        (λ (l : length text ≤ length between). rw (
+            framed-fits text (length between) l,
+            framed-fits (replyFrame text) (length out) (omega arith),
+            laid-fits (replyFrame text) out (omega arith),
+            back-fits (omega arith),
+          )
+          (ap Written (sym n), held-fits (omega arith)))
+        (lt-or-le (length between) (length text)))
