@@ -2,3 +2,4 @@ pub mod Scanning
 pub mod Search
 pub mod Given
 pub mod Leaves
+pub mod Enclosing
