@@ -1,6 +1,6 @@
 -- Two runs of stores, before the text and behind it. Assumes nothing.
 use native.Mathlib.Omega.{arith}
-use mathlib.Core.Path.{_≡_, refl, sym, ap, _∙_}
+use mathlib.Core.Path.{refl, ap, _∙_}
 use Prim.Native.Nat.{ℕ, _+_}
 use mathlib.Core.List.{List}
 use lib.Seq.{sets}
@@ -8,9 +8,6 @@ use Rattle.text.specs.Framing.{replyEnd}
 use borrow.Author.Needs.{needs}
 use Rattle.text.proofs.framing.enclose.Statement.{statement}
 use Rattle.text.proofs.framing.enclose.Tie as tie
-use Rattle.text.proofs.framing.enclose.Reads as reads
-use Rattle.text.proofs.framing.enclose.Lts as lts
-use Rattle.text.proofs.framing.lay.Reads as lay-reads
 
 enum-known-inner : tie.Need-enum-known-inner
 enum-known-inner c = search needs
