@@ -13,7 +13,7 @@ use Rattle.wire.specs.declared.forms.Form.the-variants.{Raw, Ascii}
 use Rattle.hex.specs.Hex.{payloadOf, textOf, laid}
 use Rattle.hex.proofs.RoundTrip.{reads-back}
 use Rattle.text.specs.Lines.{part, switchText}
-use Rattle.text.specs.Framing.{replyEnd, replyFrame, unframed, written, dueText, framedOf}
+use Rattle.text.specs.Framing.{replyEnd, replyFrame, unframed, dueText, framedOf}
 use Rattle.text.specs.Answers.{framedNumber}
 use Rattle.text.specs.declared.framing.Due.{Due}
 use Rattle.text.specs.declared.framing.Due.the-variants.{Nothing, Reply, Echo}

@@ -1,10 +1,6 @@
 -- Two runs of stores, before the text and behind it. Assumes nothing.
 use native.Mathlib.Omega.{arith}
-use mathlib.Core.Path.{refl, ap, _∙_}
-use Prim.Native.Nat.{ℕ, _+_}
-use mathlib.Core.List.{List}
-use lib.Seq.{sets}
-use Rattle.text.specs.Framing.{replyEnd}
+use mathlib.Core.Path.{refl}
 use borrow.Author.Needs.{needs}
 use Rattle.text.proofs.framing.enclose.Statement.{statement}
 use Rattle.text.proofs.framing.enclose.Tie as tie
@@ -37,7 +33,7 @@ same-length : tie.Need-same-length
 same-length c = search needs
 
 returns : tie.Need-returns
-returns c = rw (c .before .before .before .before .before .before .before .before .before .before .before .inner .given .1) (refl, c .before .before .lay2 .ensures ∙ ap (λ (held : List ℕ). sets held (5 + c .before .before .before .before .before .before .before .before .before .before .before .inner .given .0 .0) replyEnd) (c .before .before .before .before .before .before .before .lay .ensures))
+returns c = rw (c .before .before .before .before .before .before .before .before .before .before .before .inner .given .1) (refl, rw (c .before .before .before .before .before .before .before .lay .ensures) at (c .before .before .lay2 .ensures))
 
 returns-2 : tie.Need-returns-2
 returns-2 c = search needs
