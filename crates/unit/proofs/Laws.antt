@@ -7,7 +7,9 @@ use mathlib.Core.List.{List, []}
 use native.Mathlib.Omega.{arith}
 use lib.IntN.{ℤ}
 use lib.ListN.{length}
+use mathlib.Core.Logic.{_⊎_}
 use Rattle.wire.specs.Replies.{shown}
+use Rattle.wire.specs.declared.reply.Reply as reply
 use Rattle.wire.specs.declared.forms.Form.{Form}
 use Rattle.wire.specs.declared.forms.Form.the-variants.{Raw}
 use Rattle.hex.specs.Hex.{laid}
@@ -20,7 +22,7 @@ use Rattle.command.specs.declared.Command.the-variants.{SystemReset}
 use Rattle.command.specs.declared.Decoded.the-variants.{Run}
 use Rattle.memory.specs.declared.Store.{Store}
 use Rattle.memory.specs.Limits.{timeoutOf, limitsOf}
-use Rattle.state.specs.Parts.{modeOf, withForm}
+use Rattle.state.specs.Parts.{modeOf, withForm, withReply}
 use Rattle.state.specs.declared.parts.Board.{Board}
 use Rattle.state.specs.Start.{commandResetOf, freshOf, keepsTheRules, startOf}
 use Rattle.state.specs.declared.parts.Profile.{Profile}
@@ -34,9 +36,9 @@ use Rattle.answers.specs.declared.Commanded.{Commanded}
 use Rattle.commands.specs.Effects.{runOf, restartedOf}
 use Rattle.commands.specs.Step.{isStartup, decodedOf, transferredOf, commandedOf}
 use Rattle.board.specs.Tick.{risenOf, changedOf, trippedOf, watchedAs, watchedIn, tickWith, allowedCount, tickOf}
-use Rattle.board.proofs.Happened.{told}
+use Rattle.board.proofs.Happened.{told, found, own-reply, form-after, reset-form}
 use Rattle.text.specs.Answers.{lineNumber}
-use Rattle.text.specs.Lines.{lineOf}
+use Rattle.text.specs.Lines.{lineOf, switchText}
 use Rattle.text.specs.Framing.{replyFrame, written, dueText, framedOf}
 use Rattle.text.specs.declared.reading.Line.{Line}
 use Rattle.text.specs.declared.reading.Line.the-variants.{Command, Switch, NoFrame, TooLong, NotOfForm, ScratchTooShort}
@@ -83,11 +85,21 @@ module _ (rail : ℤ) (named : ℕ) (words : List ℕ) (sent : Bool) (s : List �
     silent-tick-frames-nothing quiet out room =
         rw (due-told ∙ ap dueBy quiet) (nothing-due (after .board .form) (shown (after .board .reply)) out room)
 
-    -- else the frame is that of the reply that the tick made
-    pub answered-tick-frames-its-reply : toldOf rail named words sent s m .replied ≡ true
-        → dueOf after ≡ replyFrame (written (after .board .form) (shown (after .board .reply)))
-    unfolding dueOf
-    answered-tick-frames-its-reply replied = rw (due-told ∙ ap dueBy replied)
+    -- else the frame is that of the reply which the command of this tick made, whatever reply r waited before it
+    pub answered-tick-frames-its-reply : toldOf rail named words sent s m .replied ≡ true → (r : reply.Reply)
+        → dueOf after ≡ replyFrame (written (after .board .form) (shown (commandedOf rail (limitsOf (m .board .memory)) sent s (withReply r (found rail named words sent s (m .board) allowed)) .board .reply)))
+    unfolding dueOf toldOf
+    answered-tick-frames-its-reply replied r =
+        rw (due-told ∙ ap dueBy replied, own-reply rail named words sent s (m .board) allowed r replied)
+
+    -- the form of the text line stays, or is raw; it is raw after a reset by the watchdog
+    pub tick-form : (after .board .form ≡ m .board .form) ⊎ (after .board .form ≡ Raw)
+    unfolding toldOf
+    tick-form = form-after rail named words sent s (m .board) allowed
+
+    pub reset-in-raw-form : toldOf rail named words sent s m .event ≡ WatchdogReset → after .board .form ≡ Raw
+    unfolding toldOf
+    reset-in-raw-form e = reset-form rail named words sent s (m .board) allowed e
 
     -- a reset by the watchdog loses the reply
     pub reset-loses-the-reply : toldOf rail named words sent s m .event ≡ WatchdogReset → toldOf rail named words sent s m .replied ≡ false
@@ -102,7 +114,7 @@ module _ (rail : ℤ) (named : ℕ) (words : List ℕ) (sent : Bool) (s : List �
         go c PeripheralReset e = let z : _≡_ {A = ℕ} 0 1 = cc in absurd (omega arith)
         go c WatchdogReset e = refl
 
-    -- and so does a reset by command, which is accepted without a reply
+    -- and a transfer that asks for a reset leaves none
     pub command-reset-loses-the-reply : decodeOf (headerOf (m .board .profile)) s ≡ Run SystemReset → toldOf rail named words sent s m .replied ≡ false
     unfolding toldOf tickOf tickWith watchedIn risenOf changedOf trippedOf
     command-reset-loses-the-reply e =
@@ -123,9 +135,9 @@ module _ (rail : ℤ) (named : ℕ) (words : List ℕ) (sent : Bool) (s : List �
 module _ (received : List ℕ) (room : ℕ) (m : Machine) where
   -- a switch takes at the read, changes nothing else of the board, and its echo is what framing then says
   pub switch-takes : (to : Form) (behind : ℕ) → heardOf received room m .line ≡ Switch to behind
-      → heardOf received room m .machine ≡ record { board = withForm to (m .board); due = Echo to }
-  unfolding heardOf
-  switch-takes to behind e = ap (λ (line : Line). afterLine line m) e
+      → (heardOf received room m .machine ≡ record { board = withForm to (m .board); due = Echo to }) × (dueOf (heardOf received room m .machine) ≡ replyFrame (switchText to))
+  unfolding heardOf dueOf
+  switch-takes to behind e = (ap (λ (line : Line). afterLine line m) e, ap (λ (line : Line). dueOf (afterLine line m)) e)
 
   -- a refused read leaves the machine, and so does a command, which the read only hands on
   pub read-leaves : ((to : Form) (behind : ℕ) → heardOf received room m .line ≡ Switch to behind → ⊥) → heardOf received room m .machine ≡ m
