@@ -1,6 +1,4 @@
 // Runs a replay script from standard input over the proved board, and prints what it then holds. A test instrument.
-mod running;
-
 use libc::STDIN_FILENO;
 use libc::STDOUT_FILENO;
 use trial::Bench;
@@ -16,8 +14,10 @@ struct Turn {
 // Runs one line and writes what it prints.
 // argued: an instrument; what it prints is compared line by line with the second program
 fn run_one(bench: Bench, line: &[u8]) -> Bench {
+    let mut held = io::buffer();
     let mut out = io::buffer();
-    let ran = running::run_line(bench, line, &mut out);
+    let asked = lines::asked(line, &mut held);
+    let ran = trial::run(bench, asked, &held, &mut out);
     io::write_all(STDOUT_FILENO, script::printing::shown(&out, ran.printed));
     ran.bench
 }

@@ -1,8 +1,8 @@
-// The two long lines of a replay: what a tick prints, and the state.
+// The long lines of a replay: what a tick prints, the state, and what a read of the text line and a framing print.
 mod naming;
+mod speaking;
 
 use answers::Outcome;
-use board::Ticked;
 use channels::Channels;
 use memory::Memory;
 use memory::Store;
@@ -11,9 +11,13 @@ use script::printing::put;
 use script::printing::string;
 use script::printing::text;
 use script::printing::words;
+pub use speaking::framed;
+pub use speaking::heard;
 use state::Board;
 use state::Measured;
 use state::Resets;
+use unit::Machine;
+use unit::Told;
 use wire::Reply;
 ghost use mathlib.Core.Path.{_≡_};
 ghost use mathlib.Core.List.{_∷_};
@@ -38,12 +42,11 @@ fn reply(out: &mut [u8], at: usize, r: Reply) -> usize
 }
 
 // The reply that was made in a tick.
-fn made(out: &mut [u8], at: usize, t: Ticked) -> usize
-    ensures { λ r. ⌜ page (now (out .exit)) r ≡ typed (page (now (out .entry)) at) (madeText t) ⌝ }
+fn made(out: &mut [u8], at: usize, replied: bool, r: Reply) -> usize
+    ensures { λ place. ⌜ page (now (out .exit)) place ≡ typed (page (now (out .entry)) at) (madeText replied r) ⌝ }
 {
-    if t.replied {
-        let b = t.board;
-        return reply(out, at, b.reply);
+    if replied {
+        return reply(out, at, r);
     }
     letter(out, at, b'-')
 }
@@ -62,19 +65,21 @@ fn front(out: &mut [u8], b: Board) -> usize
 }
 
 // The tick line, with the letter of its answer.
-fn tick_line(t: Ticked, answer: u8, out: &mut [u8]) -> usize
+fn tick_line(t: Told, answer: u8, out: &mut [u8]) -> usize
     ensures { λ r. ⌜ page (now (out .exit)) r ≡ typed (page (now (out .entry)) 0) (tickLine answer t) ⌝ }
 {
     let event = t.event;
-    let mut at = front(out, t.board);
+    let m = t.machine;
+    let b = m.board;
+    let mut at = front(out, b);
     at = letter(out, at, naming::event_letter(event));
     at = letter(out, at, answer);
-    at = made(out, at, t);
+    at = made(out, at, t.replied, b.reply);
     put(out, at, 10)
 }
 
 // What a tick prints: its line, or that it was refused.
-pub fn ticked(t: Ticked, out: &mut [u8]) -> usize
+pub fn ticked(t: Told, out: &mut [u8]) -> usize
     ensures { λ r. ⌜ page (now (out .exit)) r ≡ typed (page (now (out .entry)) 0) (outcomeLine (t .outcome) t) ⌝ }
 {
     let outcome = t.outcome;
@@ -135,9 +140,10 @@ fn measured(out: &mut [u8], at: usize, m: Measured) -> usize
 }
 
 // The state line.
-pub fn state(b: Board, out: &mut [u8]) -> usize
-    ensures { λ r. ⌜ page (now (out .exit)) r ≡ typed (page (now (out .entry)) 0) (stateLine b) ⌝ }
+pub fn state(m: Machine, out: &mut [u8]) -> usize
+    ensures { λ r. ⌜ page (now (out .exit)) r ≡ typed (page (now (out .entry)) 0) (stateLine (m .board)) ⌝ }
 {
+    let b = m.board;
     let form = b.form;
     let mut at = put(out, 0, naming::form_letter(form));
     at = resets(out, at, b.resets);

@@ -1,26 +1,20 @@
-// A board on the bench, and what one line of a replay script does to it.
-ghost use mathlib.Core.Path.{_≡_};
-ghost use Prim.Native.Nat.{_%_};
-ghost use lib.ListN.{take};
-ghost use Rattle.wire.specs.Numbers.{signed};
-ghost use Rattle.state.specs.Start.{startOf};
-ghost use Rattle.board.specs.Tick.{tickOf};
-ghost use Rattle.trial.specs.Lines.{left, printed, badText, okText, separated, profileFrom, profileOf, withLent, startedOf, tickedOf, showOf};
+// A machine on the bench, and what one line of a replay script does to it.
+use lines::Asked;
 use memory::Store;
 use script::printing::bytes;
 use script::printing::put;
 use script::printing::text;
-use script::reading::Field;
-use script::reading::is_at;
 use script::reading::lent_part;
-use script::reading::number;
-use state::Board;
+use script::reading::lent_words;
 use state::Profile;
 use state::StartAnswer;
+use text::Framed;
+use unit::Heard;
+use unit::Machine;
 
-// A board on the bench, once one was started, and the words for its next tick.
+// A machine on the bench, once one was started, and the words for its next tick.
 pub struct Bench {
-    pub board: Board,
+    pub machine: Machine,
     pub lent: [u16; 256],
     pub lent_count: usize,
     pub started: bool,
@@ -33,10 +27,9 @@ pub struct Ran {
 }
 
 // A bench on which nothing was started.
-// argued: an instrument; what it prints is compared line by line with the second program
 pub fn none() -> Bench {
     Bench {
-        board: state::unstarted(),
+        machine: unit::unstarted(),
         lent: [0u16; 256],
         lent_count: 0,
         started: false,
@@ -44,81 +37,21 @@ pub fn none() -> Bench {
 }
 
 // A line that prints a text.
-pub fn says(bench: Bench, s: &[u8], out: &mut [u8]) -> Ran
-    ensures { λ r. ⌜ left r (now (out .exit)) ≡ printed (now (out .entry)) bench (now (s .entry)) ⌝ }
-{
+fn says(bench: Bench, s: &[u8], out: &mut [u8]) -> Ran {
     Ran {
         bench,
         printed: text(out, 0, s),
     }
 }
 
-// A line that is not of a form.
-pub fn bad(bench: Bench, out: &mut [u8]) -> Ran
-    ensures { λ r. ⌜ left r (now (out .exit)) ≡ printed (now (out .entry)) bench badText ⌝ }
-{
-    says(bench, b"bad\n", out)
-}
-
-// Whether spaces stand at three places.
-pub fn separated(line: &[u8], first: usize, second: usize, third: usize) -> bool
-    ensures { λ r. ⌜ r ≡ separated (now (line .entry)) first second third ⌝ }
-{
-    if is_at(line, first, 32) {
-        if is_at(line, second, 32) {
-            return is_at(line, third, 32);
-        }
-        return false;
-    }
-    false
-}
-
-// What a line names.
-pub enum Named {
-    Profile(Profile),
-    Bad,
-}
-
-// A profile from its three numbers.
-pub fn profile_from(first: Field, second: Field, third: Field) -> Named
-    ensures { λ r. ⌜ r ≡ profileFrom first second third ⌝ }
-{
-    let Field::Number(bid) = first else {
-        return Named::Bad;
-    };
-    let Field::Number(fitted) = second else {
-        return Named::Bad;
-    };
-    let Field::Number(forced) = third else {
-        return Named::Bad;
-    };
-    Named::Profile(Profile {
-        fitted,
-        forced,
-        bid: (bid % 256) as u8,
-    })
-}
-
-// The profile of a line that starts a board.
-pub fn profile_of(line: &[u8]) -> Named
-    ensures { λ r. ⌜ r ≡ profileOf (now (line .entry)) ⌝ }
-{
-    let bid = number(line, 2, 2);
-    let fitted = number(line, 5, 8);
-    let forced = number(line, 14, 8);
-    profile_from(bid, fitted, forced)
-}
-
-// Starts a board, if its profile and its stored settings keep the rules.
-pub fn started(mut bench: Bench, profile: Profile, store: Store, out: &mut [u8]) -> Ran
-    ensures { λ r. ⌜ left r (now (out .exit)) ≡ startedOf (now (out .entry)) bench (startOf (bench .board) profile store) ⌝ }
-{
-    let s = state::start(bench.board, profile, store);
+// Starts a machine, if its profile and its stored settings keep the rules.
+fn started(mut bench: Bench, profile: Profile, store: Store, out: &mut [u8]) -> Ran {
+    let s = unit::start(bench.machine, profile, store);
     let answer = s.answer;
     match answer {
         StartAnswer::Accepted => {
-            let next = s.board;
-            bench.board = next;
+            let next = s.machine;
+            bench.machine = next;
             bench.started = true;
             says(bench, b"ok\n", out)
         }
@@ -126,38 +59,43 @@ pub fn started(mut bench: Bench, profile: Profile, store: Store, out: &mut [u8])
     }
 }
 
+// Stored settings.
+fn stored(image: &[u8], save_count: u16) -> Store {
+    Store {
+        settings: image::read(image),
+        save_count,
+        held: true,
+    }
+}
+
 // The bench with words for its next tick.
-pub fn lent(mut bench: Bench, ws: [u16; 256], count: usize, out: &mut [u8]) -> Ran
-    ensures { λ r. ⌜ left r (now (out .exit)) ≡ printed (now (out .entry)) (withLent ws count bench) okText ⌝ }
-{
+fn lent(mut bench: Bench, ws: [u16; 256], count: usize, out: &mut [u8]) -> Ran {
     bench.lent = ws;
     bench.lent_count = count;
     says(bench, b"ok\n", out)
 }
 
 // One tick, which uses up the words that were lent.
-pub fn ticked(
+fn ticked(
     mut bench: Bench,
-    rail: u32,
-    named: u32,
+    rail: u16,
+    overcurrent: u32,
     sent: bool,
     transfer: &[u8],
     out: &mut [u8],
-) -> Ran
-    ensures { λ r. ⌜ left r (now (out .exit)) ≡ tickedOf (now (out .entry)) bench (tickOf (signed 2 (rail % 65536)) named (take (bench .«lent_count») (bench .lent)) sent (now (transfer .entry)) (bench .board)) ⌝ }
-{
+) -> Ran {
     let ws = bench.lent;
     let n = bench.lent_count;
-    let t = board::tick(
-        bench.board,
-        wire::twos16((rail % 65536) as u16),
-        named,
+    let t = unit::tick(
+        bench.machine,
+        wire::twos16(rail),
+        overcurrent,
         lent_part(&ws, n),
         sent,
         transfer,
     );
-    let next = t.board;
-    bench.board = next;
+    let next = t.machine;
+    bench.machine = next;
     bench.lent_count = 0;
     Ran {
         bench,
@@ -165,34 +103,154 @@ pub fn ticked(
     }
 }
 
+// A buffer that nothing was written to.
+fn untouched() -> [u8; 1024] {
+    [0xEE; 1024]
+}
+
 // A bus read of some bytes, into the front of a buffer.
-// argued: an instrument; what it prints is compared line by line with the second program
-pub fn read_front(board: Board, buffer: &mut [u8], count: usize) {
+fn read_front(m: Machine, buffer: &mut [u8], count: usize) {
     if count < buffer.len() {
-        state::read(board, &mut buffer[..count]);
+        unit::bus_read(m, &mut buffer[..count]);
     } else {
-        state::read(board, buffer);
+        unit::bus_read(m, buffer);
     }
 }
 
 // What a bus read finds.
-// argued: an instrument; what it prints is compared line by line with the second program
-pub fn found(board: Board, count: usize, out: &mut [u8]) -> usize {
-    let mut buffer = io::buffer();
-    read_front(board, &mut buffer, count);
+fn found(m: Machine, count: usize, out: &mut [u8]) -> usize {
+    let mut buffer = untouched();
+    read_front(m, &mut buffer, count);
     let at = bytes(out, 0, wire::first(&buffer, count));
     put(out, at, 10)
 }
 
-// The line that shows the state.
-pub fn show(bench: Bench, line: &[u8], out: &mut [u8]) -> Ran
-    ensures { λ r. ⌜ left r (now (out .exit)) ≡ showOf (now (out .entry)) bench (now (line .entry)) ⌝ }
-{
-    if line.len() != 1 {
-        return bad(bench, out);
+// A read of the text line, with the front of a buffer for scratch.
+fn hear(m: Machine, received: &[u8], buffer: &mut [u8], room: usize) -> Heard {
+    if room < buffer.len() {
+        unit::read_line(m, received, &mut buffer[..room])
+    } else {
+        unit::read_line(m, received, buffer)
     }
+}
+
+// A read of the text line, which may switch its form.
+fn received(mut bench: Bench, bytes: &[u8], room: usize, out: &mut [u8]) -> Ran {
+    let mut buffer = untouched();
+    let heard = hear(bench.machine, bytes, &mut buffer, room);
+    let next = heard.machine;
+    bench.machine = next;
     Ran {
         bench,
-        printed: showing::state(bench.board, out),
+        printed: told(heard, bytes, wire::first(&buffer, room), out),
+    }
+}
+
+// What a read of the text line prints.
+fn told(heard: Heard, received: &[u8], scratch: &[u8], out: &mut [u8]) -> usize {
+    let line = heard.line;
+    match line {
+        text::Line::Command {
+            start,
+            end,
+            behind: _,
+        } => showing::heard(
+            line,
+            unit::payload(heard.machine, received, scratch, start, end),
+            scratch,
+            out,
+        ),
+        _ => showing::heard(line, wire::first(received, 0), scratch, out),
+    }
+}
+
+// A framing, into the front of a buffer.
+fn frame_front(m: Machine, buffer: &mut [u8], room: usize) -> Framed {
+    if room < buffer.len() {
+        unit::frame(m, &mut buffer[..room])
+    } else {
+        unit::frame(m, buffer)
+    }
+}
+
+// What a framing prints.
+fn framed(m: Machine, room: usize, out: &mut [u8]) -> usize {
+    let mut buffer = untouched();
+    let answer = frame_front(m, &mut buffer, room);
+    showing::framed(answer, wire::first(&buffer, room), out)
+}
+
+// A line that needs a machine.
+fn run_started(bench: Bench, asked: Asked, held: &[u8], out: &mut [u8]) -> Ran {
+    match asked {
+        Asked::Lend { count } => lent(bench, lent_words(held), count, out),
+        Asked::Tick {
+            rail,
+            overcurrent,
+            sent,
+            count,
+        } => ticked(
+            bench,
+            rail,
+            overcurrent,
+            sent,
+            wire::first(held, count),
+            out,
+        ),
+        Asked::Read { count } => Ran {
+            bench,
+            printed: found(bench.machine, count, out),
+        },
+        Asked::Receive { room, count } => received(bench, wire::first(held, count), room, out),
+        Asked::Frame { room } => Ran {
+            bench,
+            printed: framed(bench.machine, room, out),
+        },
+        Asked::Show => Ran {
+            bench,
+            printed: showing::state(bench.machine, out),
+        },
+        _ => says(bench, b"bad\n", out),
+    }
+}
+
+// Runs what a line asks for, with the bytes that it holds.
+pub fn run(bench: Bench, asked: Asked, held: &[u8], out: &mut [u8]) -> Ran {
+    match asked {
+        Asked::Start {
+            bid,
+            fitted,
+            forced,
+        } => started(
+            bench,
+            Profile {
+                fitted,
+                forced,
+                bid,
+            },
+            Store::empty(),
+            out,
+        ),
+        Asked::StoredStart {
+            bid,
+            fitted,
+            forced,
+            save_count,
+        } => started(
+            bench,
+            Profile {
+                fitted,
+                forced,
+                bid,
+            },
+            stored(held, save_count),
+            out,
+        ),
+        _ => {
+            if bench.started {
+                return run_started(bench, asked, held, out);
+            }
+            says(bench, b"bad\n", out)
+        }
     }
 }
