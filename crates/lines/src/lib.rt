@@ -2,6 +2,10 @@
 mod fields;
 mod tails;
 
+ghost use mathlib.Core.Path.{_≡_};
+ghost use lib.ListN.{length};
+ghost use lib.Seq.{sets};
+ghost use Rattle.lines.specs.Lines.{sizeOf, readFrom, frameFrom, bare, lineBy, widthOf, askedOf, speltBy};
 use fields::lend;
 use fields::receive;
 use fields::size;
@@ -10,7 +14,7 @@ use fields::stored_start;
 use fields::tick;
 use script::reading::Field;
 use tails::Tail;
-use tails::tail;
+use tails::tail_of;
 
 // What a line asks for. The bytes of its byte string are `count` at the front of the buffer that it was read into.
 pub enum Asked {
@@ -49,7 +53,9 @@ pub enum Asked {
 }
 
 // Where a line's tail begins: the fields before it are as wide as its letter says.
-fn head(letter: u8) -> usize {
+fn head(letter: u8) -> usize
+    ensures { λ r. ⌜ r ≡ widthOf letter ⌝ }
+{
     match letter {
         b'B' => 22,
         b'P' => 28,
@@ -64,7 +70,9 @@ fn head(letter: u8) -> usize {
 }
 
 // A bus read of at most 512 bytes.
-fn read(line: &[u8]) -> Asked {
+fn read(line: &[u8]) -> Asked
+    ensures { λ r. ⌜ r ≡ readFrom (sizeOf 512 (now (line .entry))) ⌝ }
+{
     match size(line, 512) {
         Field::Number(n) => Asked::Read { count: n as usize },
         Field::Bad => Asked::Bad,
@@ -72,7 +80,9 @@ fn read(line: &[u8]) -> Asked {
 }
 
 // A framing into a buffer of at most 1,024 bytes.
-fn frame(line: &[u8]) -> Asked {
+fn frame(line: &[u8]) -> Asked
+    ensures { λ r. ⌜ r ≡ frameFrom (sizeOf 1024 (now (line .entry))) ⌝ }
+{
     match size(line, 1024) {
         Field::Number(n) => Asked::Frame { room: n as usize },
         Field::Bad => Asked::Bad,
@@ -80,15 +90,22 @@ fn frame(line: &[u8]) -> Asked {
 }
 
 // A line that has no tail.
-fn bare(asked: Asked, end: Tail) -> Asked {
+fn bare(asked: Asked, end: Tail) -> Asked
+    ensures { λ r. ⌜ r ≡ bare asked end ⌝ }
+{
     match end {
         Tail::Absent => asked,
-        _ => Asked::Bad,
+        Tail::Dash => Asked::Bad,
+        Tail::Dot => Asked::Bad,
+        Tail::Bytes(_) => Asked::Bad,
+        Tail::Bad => Asked::Bad,
     }
 }
 
 // A line of a letter with its tail.
-fn by_letter(letter: u8, line: &[u8], end: Tail) -> Asked {
+fn by_letter(letter: u8, line: &[u8], end: Tail) -> Asked
+    ensures { λ r. ⌜ r ≡ lineBy letter (now (line .entry)) end ⌝ }
+{
     match letter {
         b'B' => bare(start(line), end),
         b'P' => stored_start(line, end),
@@ -103,8 +120,11 @@ fn by_letter(letter: u8, line: &[u8], end: Tail) -> Asked {
 }
 
 // What a line asks for; its byte string goes into the front of a lent buffer.
-pub fn asked(line: &[u8], held: &mut [u8]) -> Asked {
+pub fn asks(line: &[u8], held: &mut [u8]) -> Asked
+    ensures answer { λ r. ⌜ r ≡ askedOf (length (now (held .entry))) (now (line .entry)) ⌝ }
+    ensures held { λ _. ⌜ now (held .exit) ≡ sets (now (held .entry)) 0 (speltBy (now (line .entry))) ⌝ }
+{
     let letter = wire::byte(line, 0);
-    let end = tail(wire::rest(line, head(letter)), held);
+    let end = tail_of(wire::rest(line, head(letter)), held);
     by_letter(letter, line, end)
 }

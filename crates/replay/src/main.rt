@@ -16,7 +16,7 @@ struct Turn {
 fn run_one(bench: Bench, line: &[u8]) -> Bench {
     let mut held = io::buffer();
     let mut out = io::buffer();
-    let asked = lines::asked(line, &mut held);
+    let asked = lines::asks(line, &mut held);
     let ran = trial::run(bench, asked, &held, &mut out);
     io::write_all(STDOUT_FILENO, script::printing::shown(&out, ran.printed));
     ran.bench
