@@ -1,5 +1,6 @@
 pub mod Frames
 pub mod First
 pub mod Lines
+pub mod Given
 pub mod Framing
 pub mod Answers

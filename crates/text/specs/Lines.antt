@@ -1,13 +1,13 @@
 -- What a read of the text line answers, what the scratch buffer then holds, and the payload handed on. Assumes nothing: these are definitions.
 use Prim.Native.Nat.{ℕ, _-_}
 use mathlib.Core.Bool.{Bool, cond, _&&_}
-use mathlib.Core.Option.{Option, none, some}
 use mathlib.Core.List.{List, [], _∷_}
-use lib.Dec.{eqb, leb, ltb}
+use lib.Dec.{eqb, ltb}
 use lib.ListN.{length, take, drop}
 use Rattle.wire.specs.declared.forms.Form.{Form}
 use Rattle.wire.specs.declared.forms.Form.the-variants.{Raw, Ascii}
-use Rattle.hex.specs.Hex.{payloadOf, heldAfter}
+use Rattle.hex.specs.Hex.{payloadOf, readOf, heldAfter}
+use Rattle.hex.specs.declared.Payload.{Payload}
 use Rattle.text.specs.Frames.{startsWith, frameOf}
 use Rattle.text.specs.declared.frames.Frame.{Frame}
 use Rattle.text.specs.declared.frames.Frame.the-variants.{Found, NotThere}
@@ -37,15 +37,16 @@ switchOf payload = cond (same payload (switchText Raw)) (To Raw) (cond (same pay
 
 -- ---- a payload that is no switch, in a frame whose end has the place behind
 
--- in raw form the payload is what was received
--- in ASCII form it is the bytes that the pairs spell, at the front of the scratch buffer, where that has the room
-abbrev pub spelling : ℕ → ℕ → Option (List ℕ) → Line
-spelling behind room none = NotOfForm behind  -- 12
-spelling behind room (some bytes) = cond (leb (length bytes) room) (Command 0 (length bytes) behind) (ScratchTooShort behind)  -- 13
+-- in ASCII form: the bytes that the pairs spell, from the front of the scratch buffer on; 12 where they are not of the form, 13 where there is no room
+abbrev pub spelt : ℕ → Payload → Line
+spelt behind (Payload.Bytes n) = Command 0 n behind
+spelt behind Payload.NotOfForm = NotOfForm behind
+spelt behind Payload.TooShort = ScratchTooShort behind
 
 unfoldable pub asciiLine : ℕ → List ℕ → ℕ → Line
-asciiLine behind payload room = spelling behind room (payloadOf payload)
+asciiLine behind payload room = spelt behind (readOf (payloadOf payload) room)
 
+-- in raw form: what was received, from the opening tag's end up to the closing tag
 abbrev pub inForm : Form → List ℕ → ℕ → ℕ → ℕ → ℕ → Line
 inForm Raw payload start end behind room = Command start end behind
 inForm Ascii payload start end behind room = asciiLine behind payload room

@@ -1,0 +1,5 @@
+pub mod Scanning
+pub mod Search
+pub mod Given
+pub mod Leaves
+pub mod Enclosing

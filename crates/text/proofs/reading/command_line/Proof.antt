@@ -1,0 +1,58 @@
+-- The length is looked at first, then the form. Assumes nothing.
+use borrow.Author.Tests.{lt-ltb, le-ltb}
+use native.Mathlib.Omega.{arith}
+use mathlib.Core.Path.{_≡_, refl, sym, _∙_}
+use Rattle.text.specs.Lines.{part, commandLine, commandHeld}
+use borrow.Author.Needs.{needs}
+use Rattle.text.proofs.reading.command_line.Statement.{statement}
+use Rattle.text.proofs.reading.command_line.Tie as tie
+use Rattle.text.proofs.reading.command_line.Reads as reads
+use Rattle.text.proofs.reading.command_line.Lts as lts
+use Rattle.text.proofs.reading.ascii_line.Reads as ascii-line-reads
+use Rattle.text.proofs.reading.part.Reads as part-reads
+
+part-requires : tie.Need-part-requires
+part-requires c κs = search needs
+
+returns : tie.Need-returns
+unfolding commandLine commandHeld
+returns c =
+    let long = lt-ltb 256 _ (c .if1 .taken) in
+    rw (← c .before .part .ensures, long) (refl, refl)
+
+enum-told : tie.Need-enum-told
+enum-told c = search needs
+
+enum-told-2 : tie.Need-enum-told-2
+enum-told-2 c = search needs
+
+ascii-line-requires : tie.Need-ascii-line-requires
+ascii-line-requires c κs = search needs
+
+returns-2 : tie.Need-returns-2
+unfolding commandLine commandHeld
+returns-2 c =
+    let short = le-ltb 256 _ (c .before .before .if1 .left) in
+    rw (← c .before .before .before .part .ensures, short, c .enum-told .given .1) (refl, refl)
+
+same-length : tie.Need-same-length
+same-length c = search needs
+
+returns-3 : tie.Need-returns-3
+unfolding commandLine commandHeld
+returns-3 c =
+    let short = le-ltb 256 _ (c .before .before .before .before .before .before .if1 .left) in
+    rw (← c .before .before .before .before .before .before .before .part .ensures, short, c .before .before .before .before .enum-told2 .given .1) (c .before .before .ascii-line .ensures)
+
+pub command-line-spec : {M : Type 1} → statement M
+command-line-spec =
+    tie.close
+    (tie.spec
+    part-requires
+    returns
+    enum-told
+    enum-told-2
+    ascii-line-requires
+    returns-2
+    same-length
+    returns-3)
