@@ -85,8 +85,8 @@ module _ (text out : List ℕ) (room : 13 ≤ length out) where
       let left : length rest ≡ length out - (5 + length text) = length-drop (5 + length text) out in
       let front : length (take 5 out) ≡ 5 = length-take-le 5 out (omega arith) in
       let tag : sets (take 5 out ++ (text ++ rest)) 0 replyTag ≡ replyTag ++ text ++ rest =
-              sets-front (take 5 out ++ (text ++ rest)) replyTag (omega (arith, length-append (take 5 out) (text ++ rest)))
-              ∙ ap (λ (l : List ℕ). replyTag ++ l) (drop-at (take 5 out) (text ++ rest) 5 front) in
+      sets-front (take 5 out ++ (text ++ rest)) replyTag (omega (arith, length-append (take 5 out) (text ++ rest)))
+      ∙ ap (λ (l : List ℕ). replyTag ++ l) (drop-at (take 5 out) (text ++ rest) 5 front) in
       let whole : 5 + length text + 8 ≡ length (replyFrame text) = omega (arith, frame-length text) in
       let end : drop 8 rest ≡ drop (length (replyFrame text)) out = drop-drop 8 (5 + length text) out ∙ ap (λ (n : ℕ). drop n out) whole in
       ap (λ (l : List ℕ). sets l (5 + length text) replyEnd) tag
@@ -111,17 +111,17 @@ module _ (text out : List ℕ) (room : 13 ≤ length out) where
         rw (answer, held)
         (⊎-elim
         (λ (l : length between < length text). rw (
-            framed-short text (length between) l,
-            framed-short (replyFrame text) (length out) (omega arith),
-            laid-short text between l,
-            laid-short (replyFrame text) out (omega arith),
-          )
-          (refl, put-same 5 (length out - 8 - 5) out))
+          framed-short text (length between) l,
+          framed-short (replyFrame text) (length out) (omega arith),
+          laid-short text between l,
+          laid-short (replyFrame text) out (omega arith),
+        )
+        (refl, put-same 5 (length out - 8 - 5) out))
         (λ (l : length text ≤ length between). rw (
-            framed-fits text (length between) l,
-            framed-fits (replyFrame text) (length out) (omega arith),
-            laid-fits (replyFrame text) out (omega arith),
-            back-fits (omega arith),
-          )
-          (ap Written (sym n), held-fits (omega arith)))
+          framed-fits text (length between) l,
+          framed-fits (replyFrame text) (length out) (omega arith),
+          laid-fits (replyFrame text) out (omega arith),
+          back-fits (omega arith),
+        )
+        (ap Written (sym n), held-fits (omega arith)))
         (lt-or-le (length between) (length text)))

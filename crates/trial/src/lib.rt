@@ -99,7 +99,7 @@ fn ticked(
     bench.lent_count = 0;
     Ran {
         bench,
-        printed: showing::ticked(t, out),
+        printed: showing::ticked(next.board, t.outcome, t.event, t.replied, out),
     }
 }
 
@@ -180,6 +180,11 @@ fn framed(m: Machine, room: usize, out: &mut [u8]) -> usize {
     showing::framed(answer, wire::first(&buffer, room), out)
 }
 
+// The state.
+fn shown(m: Machine, out: &mut [u8]) -> usize {
+    showing::state(m.board, out)
+}
+
 // A line that needs a machine.
 fn run_started(bench: Bench, asked: Asked, held: &[u8], out: &mut [u8]) -> Ran {
     match asked {
@@ -208,7 +213,7 @@ fn run_started(bench: Bench, asked: Asked, held: &[u8], out: &mut [u8]) -> Ran {
         },
         Asked::Show => Ran {
             bench,
-            printed: showing::state(bench.machine, out),
+            printed: shown(bench.machine, out),
         },
         _ => says(bench, b"bad\n", out),
     }
