@@ -3,3 +3,4 @@ pub mod Search
 pub mod Given
 pub mod Leaves
 pub mod Enclosing
+pub mod FramingLaws

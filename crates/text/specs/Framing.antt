@@ -1,5 +1,5 @@
 -- The frame of a reply, and what framing answers and leaves. Assumes nothing: these are definitions.
-use Prim.Native.Nat.{ℕ, _+_, _≤_}
+use Prim.Native.Nat.{ℕ, _+_, _-_, _≤_}
 use mathlib.Core.Bool.{cond}
 use mathlib.Core.List.{List, [], _∷_, _++_}
 use lib.Dec.{leb}
@@ -8,7 +8,7 @@ use lib.Seq.{sets}
 use Rattle.wire.specs.declared.forms.Form.{Form}
 use Rattle.wire.specs.declared.forms.Form.the-variants.{Raw, Ascii}
 use Rattle.hex.specs.Hex.{textOf}
-use Rattle.text.specs.Lines.{switchText}
+use Rattle.text.specs.Lines.{part, switchText}
 use Rattle.text.specs.declared.framing.Due.{Due}
 use Rattle.text.specs.declared.framing.Due.the-variants.{Nothing, Reply, Echo}
 use Rattle.text.specs.declared.framing.Framed.{Framed}
@@ -24,6 +24,10 @@ replyEnd = 60 ∷ 47 ∷ 114 ∷ 115 ∷ 112 ∷ 62 ∷ 13 ∷ 10 ∷ []
 
 abbrev pub replyFrame : List ℕ → List ℕ
 replyFrame inner = replyTag ++ inner ++ replyEnd
+
+-- what stands between the tags of a frame
+abbrev pub unframed : List ℕ → List ℕ
+unframed frame = part 5 (length frame - 8) frame
 
 -- a reply in a form: its bytes, or their digits in capitals
 abbrev pub written : Form → List ℕ → List ℕ

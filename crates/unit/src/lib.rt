@@ -58,10 +58,11 @@ pub fn start(there: Machine, profile: Profile, store: Store) -> Begun
 {
     let s = state::start(there.board, profile, store);
     let answer = s.answer;
+    let board = s.board;
     match answer {
         StartAnswer::Accepted => Begun {
             machine: Machine {
-                board: s.board,
+                board,
                 due: Due::Nothing,
             },
             answer: StartAnswer::Accepted,
@@ -103,14 +104,13 @@ pub fn tick(
     ensures { λ r. ⌜ r ≡ toldOf rail overcurrent (now (words .entry)) sent (now (transfer .entry)) m ⌝ }
 {
     let t = board::tick(m.board, rail, overcurrent, words, sent, transfer);
+    let board = t.board;
     let outcome = t.outcome;
     let event = t.event;
-    let due = due_after(outcome, t.replied, m.due);
+    let before = m.due;
+    let due = due_after(outcome, t.replied, before);
     Told {
-        machine: Machine {
-            board: t.board,
-            due,
-        },
+        machine: Machine { board, due },
         outcome,
         event,
         replied: t.replied,
@@ -133,7 +133,15 @@ fn after_line(m: Machine, line: Line) -> Machine
             board: state::with_form(m.board, form),
             due: Due::Echo(form),
         },
-        _ => m,
+        Line::Command {
+            start: _,
+            end: _,
+            behind: _,
+        } => m,
+        Line::NoFrame => m,
+        Line::TooLong { behind: _ } => m,
+        Line::NotOfForm { behind: _ } => m,
+        Line::ScratchTooShort { behind: _ } => m,
     }
 }
 
@@ -143,7 +151,8 @@ pub fn read_line(m: Machine, received: &[u8], scratch: &mut [u8]) -> Heard
     ensures held { λ _. ⌜ now (scratch .exit) ≡ lineHeld (m .board .form) (now (received .entry)) (now (scratch .entry)) ⌝ }
 {
     let b = m.board;
-    let line = text::read(b.form, received, scratch);
+    let form = b.form;
+    let line = text::read(form, received, scratch);
     Heard {
         machine: after_line(m, line),
         line,
@@ -161,7 +170,8 @@ pub fn payload<'a>(
     ensures { λ r. ⌜ now r ≡ payloadIn (m .board .form) (now (received .entry)) (now (scratch .entry)) start end ⌝ }
 {
     let b = m.board;
-    text::payload(b.form, received, scratch, start, end)
+    let form = b.form;
+    text::payload(form, received, scratch, start, end)
 }
 
 // Frames what the text line has to say into the front of a lent buffer: the reply of the latest tick, the echo of a switch since then, or nothing.
@@ -169,8 +179,10 @@ pub fn frame(m: Machine, out: &mut [u8]) -> Framed
     ensures answer { λ r. ⌜ r ≡ framedOf (dueOf m) (length (now (out .entry))) ⌝ }
     ensures held { λ _. ⌜ now (out .exit) ≡ laid (dueOf m) (now (out .entry)) ⌝ }
 {
+    let due = m.due;
     let b = m.board;
+    let form = b.form;
     let reply = b.reply;
     let bytes = reply.bytes;
-    text::frame(m.due, b.form, wire::first(&bytes, reply.len), out)
+    text::frame(due, form, wire::first(&bytes, reply.len), out)
 }

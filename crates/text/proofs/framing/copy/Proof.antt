@@ -1,16 +1,13 @@
 -- There is the room for the text, or there is not. Assumes nothing.
 use native.Mathlib.Omega.{arith}
 use Prim.Native.Nat.{_≤_}
-use mathlib.Core.Path.{_≡_, refl, sym, ap, _∙_}
+use mathlib.Core.Path.{sym, _∙_}
 use lib.ListN.{length}
 use Rattle.laws.proofs.Lists.{sets-front}
 use Rattle.text.proofs.Enclosing.{framed-fits, framed-short, laid-fits, laid-short}
 use borrow.Author.Needs.{needs}
 use Rattle.text.proofs.framing.copy.Statement.{statement}
 use Rattle.text.proofs.framing.copy.Tie as tie
-use Rattle.text.proofs.framing.copy.Reads as reads
-use Rattle.text.proofs.framing.copy.Lts as lts
-use Rattle.text.proofs.framing.lay.Reads as lay-reads
 
 returns : tie.Need-returns
 returns c =

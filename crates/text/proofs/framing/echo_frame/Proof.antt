@@ -1,6 +1,6 @@
 -- The text goes between the tags, or there is no room for it. Assumes nothing.
 use native.Mathlib.Omega.{arith}
-use mathlib.Core.Path.{_≡_, refl, sym, ap, _∙_}
+use mathlib.Core.Path.{sym, _∙_}
 use Prim.Native.Nat.{_<_}
 use lib.ListN.{length}
 use Rattle.text.specs.Framing.{replyFrame}
@@ -9,10 +9,6 @@ use Rattle.text.proofs.Enclosing.{frame-length, framed-short, laid-shor
 use borrow.Author.Needs.{needs}
 use Rattle.text.proofs.framing.echo_frame.Statement.{statement}
 use Rattle.text.proofs.framing.echo_frame.Tie as tie
-use Rattle.text.proofs.framing.echo_frame.Reads as reads
-use Rattle.text.proofs.framing.echo_frame.Lts as lts
-use Rattle.text.proofs.framing.enclose.Reads as enclose-reads
-use Rattle.text.proofs.framing.switch_text.Reads as switch-text-reads
 
 returns : tie.Need-returns
 returns c =

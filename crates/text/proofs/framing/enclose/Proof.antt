@@ -1,16 +1,9 @@
 -- Two runs of stores, before the text and behind it. Assumes nothing.
 use native.Mathlib.Omega.{arith}
-use mathlib.Core.Path.{_≡_, refl, sym, ap, _∙_}
-use Prim.Native.Nat.{ℕ, _+_}
-use mathlib.Core.List.{List}
-use lib.Seq.{sets}
-use Rattle.text.specs.Framing.{replyEnd}
+use mathlib.Core.Path.{refl}
 use borrow.Author.Needs.{needs}
 use Rattle.text.proofs.framing.enclose.Statement.{statement}
 use Rattle.text.proofs.framing.enclose.Tie as tie
-use Rattle.text.proofs.framing.enclose.Reads as reads
-use Rattle.text.proofs.framing.enclose.Lts as lts
-use Rattle.text.proofs.framing.lay.Reads as lay-reads
 
 enum-known-inner : tie.Need-enum-known-inner
 enum-known-inner c = search needs
@@ -40,7 +33,7 @@ same-length : tie.Need-same-length
 same-length c = search needs
 
 returns : tie.Need-returns
-returns c = rw (c .before .before .before .before .before .before .before .before .before .before .before .inner .given .1) (refl, c .before .before .lay2 .ensures ∙ ap (λ (held : List ℕ). sets held (5 + c .before .before .before .before .before .before .before .before .before .before .before .inner .given .0 .0) replyEnd) (c .before .before .before .before .before .before .before .lay .ensures))
+returns c = rw (c .before .before .before .before .before .before .before .before .before .before .before .inner .given .1) (refl, rw (c .before .before .before .before .before .before .before .lay .ensures) at (c .before .before .lay2 .ensures))
 
 returns-2 : tie.Need-returns-2
 returns-2 c = search needs

@@ -1,16 +1,12 @@
 -- What is due is nothing, the reply or the echo. Assumes nothing.
 use native.Mathlib.Omega.{arith}
-use mathlib.Core.Path.{_≡_, refl, sym, ap, _∙_}
+use mathlib.Core.Path.{sym}
 use mathlib.Core.List.{[]}
 use lib.ListN.{length}
 use Rattle.text.proofs.Enclosing.{framed-fits, laid-fits}
 use borrow.Author.Needs.{needs}
 use Rattle.text.proofs.framing.frame.Statement.{statement}
 use Rattle.text.proofs.framing.frame.Tie as tie
-use Rattle.text.proofs.framing.frame.Reads as reads
-use Rattle.text.proofs.framing.frame.Lts as lts
-use Rattle.text.proofs.framing.echo_frame.Reads as echo-frame-reads
-use Rattle.text.proofs.framing.reply_frame.Reads as reply-frame-reads
 
 enum-told : tie.Need-enum-told
 enum-told c = search needs

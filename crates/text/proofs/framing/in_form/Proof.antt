@@ -1,15 +1,11 @@
 -- A reply's bytes are copied, or its digits are written. Assumes nothing.
 use lib.ListN.{length}
 use Rattle.hex.specs.Hex.{textOf}
-use mathlib.Core.Path.{_≡_, refl, sym, ap, _∙_}
+use mathlib.Core.Path.{sym, ap, _∙_}
 use Rattle.text.proofs.Enclosing.{framed, framed-digits}
 use borrow.Author.Needs.{needs}
 use Rattle.text.proofs.framing.in_form.Statement.{statement}
 use Rattle.text.proofs.framing.in_form.Tie as tie
-use Rattle.text.proofs.framing.in_form.Reads as reads
-use Rattle.text.proofs.framing.in_form.Lts as lts
-use Rattle.hex.proofs.write.Reads as write-reads
-use Rattle.text.proofs.framing.copy.Reads as copy-reads
 
 enum-told : tie.Need-enum-told
 enum-told c = search needs

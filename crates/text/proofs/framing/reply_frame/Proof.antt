@@ -1,6 +1,6 @@
 -- The text goes between the tags, or there is no room for it. Assumes nothing.
 use native.Mathlib.Omega.{arith}
-use mathlib.Core.Path.{_≡_, refl, sym, ap, _∙_}
+use mathlib.Core.Path.{sym, _∙_}
 use Prim.Native.Nat.{_<_}
 use lib.ListN.{length}
 use Rattle.text.specs.Framing.{replyFrame, written}
@@ -8,10 +8,6 @@ use Rattle.text.proofs.Enclosing.{frame-length, framed-short, laid-shor
 use borrow.Author.Needs.{needs}
 use Rattle.text.proofs.framing.reply_frame.Statement.{statement}
 use Rattle.text.proofs.framing.reply_frame.Tie as tie
-use Rattle.text.proofs.framing.reply_frame.Reads as reads
-use Rattle.text.proofs.framing.reply_frame.Lts as lts
-use Rattle.text.proofs.framing.enclose.Reads as enclose-reads
-use Rattle.text.proofs.framing.in_form.Reads as in-form-reads
 
 returns : tie.Need-returns
 returns c =

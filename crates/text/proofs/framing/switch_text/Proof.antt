@@ -3,9 +3,6 @@
 use borrow.Author.Needs.{needs}
 use Rattle.text.proofs.framing.switch_text.Statement.{statement}
 use Rattle.text.proofs.framing.switch_text.Tie as tie
-use Rattle.text.proofs.framing.switch_text.Reads as reads
-use Rattle.text.proofs.framing.switch_text.Lts as lts
-use Rattle.text.proofs.framing.copy.Reads as copy-reads
 
 enum-told : tie.Need-enum-told
 enum-told c = search needs

@@ -1,0 +1,26 @@
+-- The read's answer, and the machine after it. Assumes nothing.
+use mathlib.Core.Path.{_≡_, refl}
+use Rattle.unit.specs.Machine.{heardOf}
+use borrow.Author.Needs.{needs}
+use Rattle.unit.proofs.read_line.Statement.{statement}
+use Rattle.unit.proofs.read_line.Tie as tie
+use Rattle.unit.proofs.read_line.Reads as reads
+use Rattle.unit.proofs.read_line.Lts as lts
+use Rattle.text.proofs.read.Reads as read-reads
+use Rattle.unit.proofs.after_line.Reads as after-line-reads
+
+read-requires : tie.Need-read-requires
+read-requires c κs = search needs
+
+after-line-requires : tie.Need-after-line-requires
+after-line-requires c κs = search needs
+
+same-length : tie.Need-same-length
+same-length c = search needs
+
+returns : tie.Need-returns
+unfolding heardOf
+returns c = rw (c .after-line .ensures, c .before .before .before .read .ensures .0) (refl, c .before .before .before .read .ensures .1)
+
+pub read-line-spec : {M : Type 1} → statement M
+read-line-spec = tie.close (tie.spec read-requires after-line-requires same-length returns)
