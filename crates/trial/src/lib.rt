@@ -1,4 +1,15 @@
 // A machine on the bench, and what one line of a replay script does to it.
+ghost use mathlib.Core.Path.{_≡_};
+ghost use mathlib.Core.List.{[], _∷_, _++_};
+ghost use Prim.Native.Nat.{min};
+ghost use lib.ListN.{take, replicate};
+ghost use Rattle.wire.specs.Numbers.{signed};
+ghost use Rattle.wire.specs.Replies.{found};
+ghost use Rattle.unit.specs.Machine.{noMachine, begunOf, toldOf, heardOf};
+ghost use Rattle.script.specs.Printing.{page, typed, hexOf};
+ghost use Rattle.script.specs.Reading.{wordsOf};
+ghost use Rattle.showing.specs.Showing.{stateLine};
+ghost use Rattle.trial.specs.Benches.{emptyBench, left, printed, okText, profileOf, startedOf, storeOf, withLent, tickedOf, spanOf, answerLine, receivedOf, framingLine, untouchedOf, allowedOf, ranOf};
 use lines::Asked;
 use memory::Store;
 use script::printing::bytes;
@@ -8,8 +19,7 @@ use script::reading::lent_part;
 use script::reading::lent_words;
 use state::Profile;
 use state::StartAnswer;
-use text::Framed;
-use unit::Heard;
+use text::Line;
 use unit::Machine;
 
 // A machine on the bench, once one was started, and the words for its next tick.
@@ -27,7 +37,9 @@ pub struct Ran {
 }
 
 // A bench on which nothing was started.
-pub fn none() -> Bench {
+pub fn none() -> Bench
+    ensures { λ r. ⌜ r ≡ emptyBench ⌝ }
+{
     Bench {
         machine: unit::unstarted(),
         lent: [0u16; 256],
@@ -36,16 +48,10 @@ pub fn none() -> Bench {
     }
 }
 
-// A line that prints a text.
-fn says(bench: Bench, s: &[u8], out: &mut [u8]) -> Ran {
-    Ran {
-        bench,
-        printed: text(out, 0, s),
-    }
-}
-
 // Starts a machine, if its profile and its stored settings keep the rules.
-fn started(mut bench: Bench, profile: Profile, store: Store, out: &mut [u8]) -> Ran {
+fn started(mut bench: Bench, profile: Profile, store: Store, out: &mut [u8]) -> Ran
+    ensures { λ r. ⌜ left r (now (out .exit)) ≡ startedOf (now (out .entry)) bench (begunOf (bench .machine) profile store) ⌝ }
+{
     let s = unit::start(bench.machine, profile, store);
     let answer = s.answer;
     match answer {
@@ -53,14 +59,22 @@ fn started(mut bench: Bench, profile: Profile, store: Store, out: &mut [u8]) -> 
             let next = s.machine;
             bench.machine = next;
             bench.started = true;
-            says(bench, b"ok\n", out)
+            Ran {
+                bench,
+                printed: text(out, 0, b"ok\n"),
+            }
         }
-        StartAnswer::ProfileBreaksARule => says(bench, b"refused 8\n", out),
+        StartAnswer::ProfileBreaksARule => Ran {
+            bench,
+            printed: text(out, 0, b"refused 8\n"),
+        },
     }
 }
 
-// Stored settings.
-fn stored(image: &[u8], save_count: u16) -> Store {
+// Settings stored under a save count.
+fn stored(image: &[u8], save_count: u16) -> Store
+    ensures { λ r. ⌜ r ≡ storeOf (now (image .entry)) «save_count» ⌝ }
+{
     Store {
         settings: image::read(image),
         save_count,
@@ -69,10 +83,16 @@ fn stored(image: &[u8], save_count: u16) -> Store {
 }
 
 // The bench with words for its next tick.
-fn lent(mut bench: Bench, ws: [u16; 256], count: usize, out: &mut [u8]) -> Ran {
+fn lent(mut bench: Bench, bytes: &[u8], count: usize, out: &mut [u8]) -> Ran
+    ensures { λ r. ⌜ left r (now (out .exit)) ≡ printed (now (out .entry)) (withLent (wordsOf 256 (now (bytes .entry))) count bench) okText ⌝ }
+{
+    let ws = lent_words(bytes);
     bench.lent = ws;
     bench.lent_count = count;
-    says(bench, b"ok\n", out)
+    Ran {
+        bench,
+        printed: text(out, 0, b"ok\n"),
+    }
 }
 
 // One tick, which uses up the words that were lent.
@@ -83,7 +103,9 @@ fn ticked(
     sent: bool,
     transfer: &[u8],
     out: &mut [u8],
-) -> Ran {
+) -> Ran
+    ensures { λ r. ⌜ left r (now (out .exit)) ≡ tickedOf (now (out .entry)) bench (toldOf (signed 2 rail) overcurrent (take (bench .«lent_count») (bench .lent)) sent (now (transfer .entry)) (bench .machine)) ⌝ }
+{
     let ws = bench.lent;
     let n = bench.lent_count;
     let t = unit::tick(
@@ -95,100 +117,180 @@ fn ticked(
         transfer,
     );
     let next = t.machine;
+    let outcome = t.outcome;
+    let event = t.event;
     bench.machine = next;
     bench.lent_count = 0;
     Ran {
         bench,
-        printed: showing::ticked(next.board, t.outcome, t.event, t.replied, out),
+        printed: showing::ticked(next.board, outcome, event, t.replied, out),
     }
 }
 
 // A buffer that nothing was written to.
-fn untouched() -> [u8; 1024] {
+fn untouched() -> [u8; 1024]
+    ensures { λ r. ⌜ r ≡ replicate 1024 0xEE ⌝ }
+{
     [0xEE; 1024]
 }
 
-// A bus read of some bytes, into the front of a buffer.
-fn read_front(m: Machine, buffer: &mut [u8], count: usize) {
-    if count < buffer.len() {
-        unit::bus_read(m, &mut buffer[..count]);
-    } else {
-        unit::bus_read(m, buffer);
-    }
+// How much of such a buffer is lent: all of it where more is asked for.
+fn within(count: usize) -> usize
+    ensures { λ r. ⌜ r ≡ min count 1024 ⌝ }
+{
+    if count < 1024 { count } else { 1024 }
 }
 
 // What a bus read finds.
-fn found(m: Machine, count: usize, out: &mut [u8]) -> usize {
+fn read(m: Machine, count: usize, out: &mut [u8]) -> usize
+    ensures { λ r. ⌜ page (now (out .exit)) r ≡ typed (page (now (out .entry)) 0) (hexOf (found (m .board .reply) (min count 1024)) ++ 10 ∷ []) ⌝ }
+{
     let mut buffer = untouched();
-    read_front(m, &mut buffer, count);
-    let at = bytes(out, 0, wire::first(&buffer, count));
+    let n = within(count);
+    unit::bus_read(m, &mut buffer[..n]);
+    let at = bytes(out, 0, wire::first(&buffer, n));
     put(out, at, 10)
 }
 
-// A read of the text line, with the front of a buffer for scratch.
-fn hear(m: Machine, received: &[u8], buffer: &mut [u8], room: usize) -> Heard {
-    if room < buffer.len() {
-        unit::read_line(m, received, &mut buffer[..room])
-    } else {
-        unit::read_line(m, received, buffer)
-    }
+// Where a command's payload lies; with any other answer there is none.
+struct Span {
+    start: usize,
+    end: usize,
 }
 
-// A read of the text line, which may switch its form.
-fn received(mut bench: Bench, bytes: &[u8], room: usize, out: &mut [u8]) -> Ran {
-    let mut buffer = untouched();
-    let heard = hear(bench.machine, bytes, &mut buffer, room);
-    let next = heard.machine;
-    bench.machine = next;
-    Ran {
-        bench,
-        printed: told(heard, bytes, wire::first(&buffer, room), out),
+// The span of what a read of the text line answers.
+fn span_of(line: Line) -> Span
+    ensures { λ r. ⌜ r ≡ spanOf line ⌝ }
+{
+    match line {
+        Line::Command {
+            start,
+            end,
+            behind: _,
+        } => Span { start, end },
+        Line::Switch { form: _, behind: _ } => Span { start: 0, end: 0 },
+        Line::NoFrame => Span { start: 0, end: 0 },
+        Line::TooLong { behind: _ } => Span { start: 0, end: 0 },
+        Line::NotOfForm { behind: _ } => Span { start: 0, end: 0 },
+        Line::ScratchTooShort { behind: _ } => Span { start: 0, end: 0 },
     }
 }
 
 // What a read of the text line prints.
-fn told(heard: Heard, received: &[u8], scratch: &[u8], out: &mut [u8]) -> usize {
-    let line = heard.line;
-    match line {
-        text::Line::Command {
-            start,
-            end,
-            behind: _,
-        } => showing::heard(
-            line,
-            unit::payload(heard.machine, received, scratch, start, end),
-            scratch,
-            out,
-        ),
-        _ => showing::heard(line, wire::first(received, 0), scratch, out),
-    }
+fn answer<'a>(
+    m: Machine,
+    line: Line,
+    received: &'a [u8],
+    scratch: &'a [u8],
+    out: &mut [u8],
+) -> usize
+    ensures { λ r. ⌜ page (now (out .exit)) r ≡ typed (page (now (out .entry)) 0) (answerLine line (m .board .form) (now (received .entry)) (now (scratch .entry))) ⌝ }
+{
+    let span = span_of(line);
+    let payload = unit::payload(m, received, scratch, span.start, span.end);
+    showing::heard(line, payload, scratch, out)
 }
 
-// A framing, into the front of a buffer.
-fn frame_front(m: Machine, buffer: &mut [u8], room: usize) -> Framed {
-    if room < buffer.len() {
-        unit::frame(m, &mut buffer[..room])
-    } else {
-        unit::frame(m, buffer)
+// A read of the text line, which may switch its form.
+fn received(mut bench: Bench, bytes: &[u8], room: usize, out: &mut [u8]) -> Ran
+    ensures { λ r. ⌜ left r (now (out .exit)) ≡ receivedOf (now (out .entry)) bench (now (bytes .entry)) (untouchedOf room) ⌝ }
+{
+    let mut buffer = untouched();
+    let n = within(room);
+    let heard = unit::read_line(bench.machine, bytes, &mut buffer[..n]);
+    let next = heard.machine;
+    let line = heard.line;
+    bench.machine = next;
+    Ran {
+        bench,
+        printed: answer(next, line, bytes, wire::first(&buffer, n), out),
     }
 }
 
 // What a framing prints.
-fn framed(m: Machine, room: usize, out: &mut [u8]) -> usize {
+fn framed(m: Machine, room: usize, out: &mut [u8]) -> usize
+    ensures { λ r. ⌜ page (now (out .exit)) r ≡ typed (page (now (out .entry)) 0) (framingLine m (untouchedOf room)) ⌝ }
+{
     let mut buffer = untouched();
-    let answer = frame_front(m, &mut buffer, room);
-    showing::framed(answer, wire::first(&buffer, room), out)
+    let n = within(room);
+    let framed = unit::frame(m, &mut buffer[..n]);
+    showing::framed(framed, wire::first(&buffer, n), out)
 }
 
 // The state.
-fn shown(m: Machine, out: &mut [u8]) -> usize {
+fn shown(m: Machine, out: &mut [u8]) -> usize
+    ensures { λ r. ⌜ page (now (out .exit)) r ≡ typed (page (now (out .entry)) 0) (stateLine (m .board)) ⌝ }
+{
     showing::state(m.board, out)
 }
 
-// A line that needs a machine.
-fn run_started(bench: Bench, asked: Asked, held: &[u8], out: &mut [u8]) -> Ran {
+// What is asked where no machine was started: only a start is.
+fn allowed(started: bool, asked: Asked) -> Asked
+    ensures { λ r. ⌜ r ≡ allowedOf started asked ⌝ }
+{
+    if started {
+        return asked;
+    }
     match asked {
-        Asked::Lend { count } => lent(bench, lent_words(held), count, out),
+        Asked::Start {
+            bid: _,
+            fitted: _,
+            forced: _,
+        } => asked,
+        Asked::StoredStart {
+            bid: _,
+            fitted: _,
+            forced: _,
+            save_count: _,
+        } => asked,
+        Asked::Lend { count: _ } => Asked::Bad,
+        Asked::Tick {
+            rail: _,
+            overcurrent: _,
+            sent: _,
+            count: _,
+        } => Asked::Bad,
+        Asked::Read { count: _ } => Asked::Bad,
+        Asked::Receive { room: _, count: _ } => Asked::Bad,
+        Asked::Frame { room: _ } => Asked::Bad,
+        Asked::Show => Asked::Bad,
+        Asked::Bad => Asked::Bad,
+    }
+}
+
+// A profile.
+fn profile(bid: u8, fitted: u32, forced: u32) -> Profile
+    ensures { λ r. ⌜ r ≡ profileOf bid fitted forced ⌝ }
+{
+    Profile {
+        fitted,
+        forced,
+        bid,
+    }
+}
+
+// Runs what a line asks for, with the bytes that it holds.
+pub fn run(bench: Bench, asked: Asked, held: &[u8], out: &mut [u8]) -> Ran
+    ensures { λ r. ⌜ left r (now (out .exit)) ≡ ranOf (now (out .entry)) bench (allowedOf (bench .started) asked) (now (held .entry)) ⌝ }
+{
+    match allowed(bench.started, asked) {
+        Asked::Start {
+            bid,
+            fitted,
+            forced,
+        } => started(bench, profile(bid, fitted, forced), Store::empty(), out),
+        Asked::StoredStart {
+            bid,
+            fitted,
+            forced,
+            save_count,
+        } => started(
+            bench,
+            profile(bid, fitted, forced),
+            stored(held, save_count),
+            out,
+        ),
+        Asked::Lend { count } => lent(bench, held, count, out),
         Asked::Tick {
             rail,
             overcurrent,
@@ -204,7 +306,7 @@ fn run_started(bench: Bench, asked: Asked, held: &[u8], out: &mut [u8]) -> Ran {
         ),
         Asked::Read { count } => Ran {
             bench,
-            printed: found(bench.machine, count, out),
+            printed: read(bench.machine, count, out),
         },
         Asked::Receive { room, count } => received(bench, wire::first(held, count), room, out),
         Asked::Frame { room } => Ran {
@@ -215,47 +317,9 @@ fn run_started(bench: Bench, asked: Asked, held: &[u8], out: &mut [u8]) -> Ran {
             bench,
             printed: shown(bench.machine, out),
         },
-        _ => says(bench, b"bad\n", out),
-    }
-}
-
-// Runs what a line asks for, with the bytes that it holds.
-pub fn run(bench: Bench, asked: Asked, held: &[u8], out: &mut [u8]) -> Ran {
-    match asked {
-        Asked::Start {
-            bid,
-            fitted,
-            forced,
-        } => started(
+        Asked::Bad => Ran {
             bench,
-            Profile {
-                fitted,
-                forced,
-                bid,
-            },
-            Store::empty(),
-            out,
-        ),
-        Asked::StoredStart {
-            bid,
-            fitted,
-            forced,
-            save_count,
-        } => started(
-            bench,
-            Profile {
-                fitted,
-                forced,
-                bid,
-            },
-            stored(held, save_count),
-            out,
-        ),
-        _ => {
-            if bench.started {
-                return run_started(bench, asked, held, out);
-            }
-            says(bench, b"bad\n", out)
-        }
+            printed: text(out, 0, b"bad\n"),
+        },
     }
 }

@@ -1,5 +1,5 @@
 -- By what the start answers. Assumes nothing.
-use Rattle.trial.specs.Lines.{startedOf}
+use Rattle.trial.specs.Benches.{startedOf}
 use borrow.Author.Needs.{needs}
 use Rattle.trial.proofs.started.Statement.{statement}
 use Rattle.trial.proofs.started.Tie as tie
@@ -10,34 +10,34 @@ start-requires c κs = search needs
 enum-told : tie.Need-enum-told
 enum-told c = search needs
 
-slice-aggregate-says : tie.Need-slice-aggregate-says
-slice-aggregate-says c = search needs
+slice-aggregate-text : tie.Need-slice-aggregate-text
+slice-aggregate-text c = search needs
 
-says-requires : tie.Need-says-requires
-says-requires c κs = search needs
+text-requires : tie.Need-text-requires
+text-requires c κs = search needs
 
 enum-told-2 : tie.Need-enum-told-2
 enum-told-2 c = search needs
 
-slice-aggregate-says-2 : tie.Need-slice-aggregate-says-2
-slice-aggregate-says-2 c = search needs
+slice-aggregate-text-2 : tie.Need-slice-aggregate-text-2
+slice-aggregate-text-2 c = search needs
 
-says-requires-2 : tie.Need-says-requires-2
-says-requires-2 c κs = search needs
+text-requires-2 : tie.Need-text-requires-2
+text-requires-2 c κs = search needs
 
 same-length : tie.Need-same-length
 same-length c = search needs
 
 returns : tie.Need-returns
 unfolding startedOf
-returns c = rw (← c .before .before .before .before .before .before .before .before .start .ensures, c .before .before .before .before .before .before .enum-told .given .1) (c .before .before .says .ensures)
+returns c = rw (← c .before .before .before .before .before .before .before .before .start .ensures, c .before .before .before .before .before .before .enum-told .given .1, c .before .before .text .ensures)
 
 same-length-2 : tie.Need-same-length-2
 same-length-2 c = search needs
 
 returns-2 : tie.Need-returns-2
 unfolding startedOf
-returns-2 c = rw (← c .before .before .before .before .before .before .before .start .ensures, c .before .before .before .before .before .enum-told2 .given .1) (c .before .before .says2 .ensures)
+returns-2 c = rw (← c .before .before .before .before .before .before .before .start .ensures, c .before .before .before .before .before .enum-told2 .given .1, c .before .before .text2 .ensures)
 
 pub started-spec : {M : Type 1} → statement M
 started-spec =
@@ -45,11 +45,11 @@ started-spec =
     (tie.spec
     start-requires
     enum-told
-    slice-aggregate-says
-    says-requires
+    slice-aggregate-text
+    text-requires
     enum-told-2
-    slice-aggregate-says-2
-    says-requires-2
+    slice-aggregate-text-2
+    text-requires-2
     same-length
     returns
     same-length-2
