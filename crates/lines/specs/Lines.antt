@@ -14,6 +14,7 @@ use Rattle.lines.specs.declared.tails.Tail.{Tail}
 use Rattle.lines.specs.declared.tails.Sent.{Sent}
 use Rattle.lines.specs.declared.fields.Named.{Named}
 use Rattle.lines.specs.declared.Asked.{Asked}
+use Rattle.lines.specs.declared.Look.{Look}
 
 -- ---- fields
 
@@ -50,14 +51,14 @@ profileOf line = cond (separated 1 4 13 line) (profileFrom (numberAt 2 2 line) (
 
 abbrev pub startFrom : Named → Asked
 startFrom Named.Bad = Asked.Bad
-startFrom (Named.Profile bid fitted forced) = Asked.Start bid fitted forced
+startFrom (Named.Profile bid fitted forced) = Asked.Start bid fitted forced false 0
 
 -- ---- P bb ffffffff gggggggg cccc STORED: 268 bytes
 
 abbrev pub storedFrom : Named → Field → Asked
 storedFrom Named.Bad count = Asked.Bad
 storedFrom (Named.Profile bid fitted forced) Field.Bad = Asked.Bad
-storedFrom (Named.Profile bid fitted forced) (Field.Number n) = Asked.StoredStart bid fitted forced (n % 65536)
+storedFrom (Named.Profile bid fitted forced) (Field.Number n) = Asked.Start bid fitted forced true (n % 65536)
 
 abbrev pub storedIn : List ℕ → Count → Asked
 storedIn line Count.Bad = Asked.Bad
@@ -99,11 +100,11 @@ receiveIn line string = cond (spaceAt 6 line) (receiveFrom (sizeOf 512 line) str
 -- ---- R nnnn, at most 512 bytes, and F nnnn, at most 1,024
 
 abbrev pub readFrom : Field → Asked
-readFrom (Field.Number n) = Asked.Read n
+readFrom (Field.Number n) = Asked.Look (Look.Read n)
 readFrom Field.Bad = Asked.Bad
 
 abbrev pub frameFrom : Field → Asked
-frameFrom (Field.Number n) = Asked.Frame n
+frameFrom (Field.Number n) = Asked.Look (Look.Frame n)
 frameFrom Field.Bad = Asked.Bad
 
 -- ---- a line by its letter
@@ -126,7 +127,7 @@ lineBy letter line end =
     (cond (eqb letter 82) (bare (readFrom (sizeOf 512 line)) end)
     (cond (eqb letter 76) (receiveIn line (stringLength end))
     (cond (eqb letter 70) (bare (frameFrom (sizeOf 1024 line)) end)
-    (cond (eqb letter 83) (bare Asked.Show end) Asked.Bad)))))))
+    (cond (eqb letter 83) (bare (Asked.Look Look.Show) end) Asked.Bad)))))))
 
 -- how wide the letter and the fields are
 unfoldable pub widthOf : ℕ → ℕ

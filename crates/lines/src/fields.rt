@@ -101,6 +101,8 @@ pub fn start(line: &[u8]) -> Asked
             bid,
             fitted,
             forced,
+            stored: false,
+            save_count: 0,
         },
         Named::Bad => Asked::Bad,
     }
@@ -121,10 +123,11 @@ fn stored_from(profile: Named, count: Field) -> Asked
     let Field::Number(n) = count else {
         return Asked::Bad;
     };
-    Asked::StoredStart {
+    Asked::Start {
         bid,
         fitted,
         forced,
+        stored: true,
         save_count: (n % 65536) as u16,
     }
 }

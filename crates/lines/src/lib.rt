@@ -16,17 +16,14 @@ use script::reading::Field;
 use tails::Tail;
 use tails::tail_of;
 
-// What a line asks for. The bytes of its byte string are `count` at the front of the buffer that it was read into.
+// What a line asks for. The bytes of its byte string are at the front of the buffer that it was read into, `count` of them; those of a start
+// are the stored settings.
 pub enum Asked {
     Start {
         bid: u8,
         fitted: u32,
         forced: u32,
-    },
-    StoredStart {
-        bid: u8,
-        fitted: u32,
-        forced: u32,
+        stored: bool,
         save_count: u16,
     },
     Lend {
@@ -38,18 +35,19 @@ pub enum Asked {
         sent: bool,
         count: usize,
     },
-    Read {
-        count: usize,
-    },
     Receive {
         room: usize,
         count: usize,
     },
-    Frame {
-        room: usize,
-    },
-    Show,
+    Look(Look),
     Bad,
+}
+
+// What a line asks for that changes nothing: a bus read, a framing, or the state.
+pub enum Look {
+    Read { count: usize },
+    Frame { room: usize },
+    Show,
 }
 
 // Where a line's tail begins: the fields before it are as wide as its letter says.
@@ -74,7 +72,7 @@ fn read(line: &[u8]) -> Asked
     ensures { λ r. ⌜ r ≡ readFrom (sizeOf 512 (now (line .entry))) ⌝ }
 {
     match size(line, 512) {
-        Field::Number(n) => Asked::Read { count: n as usize },
+        Field::Number(n) => Asked::Look(Look::Read { count: n as usize }),
         Field::Bad => Asked::Bad,
     }
 }
@@ -84,7 +82,7 @@ fn frame(line: &[u8]) -> Asked
     ensures { λ r. ⌜ r ≡ frameFrom (sizeOf 1024 (now (line .entry))) ⌝ }
 {
     match size(line, 1024) {
-        Field::Number(n) => Asked::Frame { room: n as usize },
+        Field::Number(n) => Asked::Look(Look::Frame { room: n as usize }),
         Field::Bad => Asked::Bad,
     }
 }
@@ -114,7 +112,7 @@ fn by_letter(letter: u8, line: &[u8], end: Tail) -> Asked
         b'R' => bare(read(line), end),
         b'L' => receive(line, end),
         b'F' => bare(frame(line), end),
-        b'S' => bare(Asked::Show, end),
+        b'S' => bare(Asked::Look(Look::Show), end),
         _ => Asked::Bad,
     }
 }

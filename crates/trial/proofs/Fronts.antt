@@ -5,13 +5,18 @@ use mathlib.Core.List.{List, _++_}
 use mathlib.Core.Logic.{⊎-elim}
 use native.Mathlib.Omega.{arith}
 use native.Mathlib.Nat.{min-le-right, min-eq-left, min-eq-right}
-use lib.ListN.{length, take, drop, replicate, length-replicate}
+use lib.ListN.{length, take, drop, length-replicate}
 use lib.Seq.{length-take-le, length-front, take-all, take-append-seam}
 use Rattle.laws.proofs.Lists.{lt-or-le}
+use Rattle.trial.specs.Benches.{blank}
 
-module _ (n count : ℕ) (b : List ℕ) (is : n ≡ min count 1024) (all : b ≡ replicate 1024 0xEE) where
+blank-length : length blank ≡ 1024
+unfolding blank
+blank-length = length-replicate {A = ℕ} 1024 0xEE
+
+module _ (n count : ℕ) (b : List ℕ) (is : n ≡ min count 1024) (all : b ≡ blank) where
   pub room : length b ≡ 1024
-  room = ap length all ∙ length-replicate {A = ℕ} 1024 0xEE
+  room = ap length all ∙ blank-length
 
   fits : n ≤ length b
   fits = rw (room, is) (min-le-right count 1024)
@@ -20,7 +25,7 @@ module _ (n count : ℕ) (b : List ℕ) (is : n ≡ min count 1024) (all : b ≡
   lent = sym (length-take-le n b fits)
 
   -- the part that is lent is the front of an untouched buffer
-  pub untouched : take n b ≡ take count (replicate 1024 0xEE)
+  pub untouched : take n b ≡ take count blank
   untouched =
       ⊎-elim
       (λ (h : count < 1024).
@@ -28,8 +33,7 @@ module _ (n count : ℕ) (b : List ℕ) (is : n ≡ min count 1024) (all : b ≡
       rw (is, all, e))
       (λ (h : 1024 ≤ count).
       let e : min count 1024 ≡ 1024 = min-eq-right h in
-      let l : length {A = ℕ} (replicate 1024 0xEE) ≡ 1024 = length-replicate {A = ℕ} 1024 0xEE in
-      rw (is, all, e, take-all {A = ℕ} 1024 (replicate 1024 0xEE) (omega arith), take-all {A = ℕ} count (replicate 1024 0xEE) (omega arith)))
+      rw (is, all, e, take-all 1024 blank (omega (arith, blank-length)), take-all count blank (omega (arith, blank-length))))
       (lt-or-le count 1024)
 
   module _ (new : List ℕ) (as-long : length new ≡ length (take n b)) where

@@ -24,6 +24,7 @@ use Rattle.unit.specs.declared.Heard.{Heard}
 use Rattle.script.specs.Printing.{Page, page, typed, hexOf}
 use Rattle.script.specs.Reading.{wordsOf}
 use Rattle.lines.specs.declared.Asked.{Asked}
+use Rattle.lines.specs.declared.Look.{Look}
 use Rattle.showing.specs.Showing.{tickedLine, stateLine}
 use Rattle.showing.specs.Speaking.{heardLine, framedLine}
 use Rattle.trial.specs.declared.Bench.{Bench}
@@ -31,7 +32,7 @@ use Rattle.trial.specs.declared.Ran.{Ran}
 use Rattle.trial.specs.declared.Span.{Span}
 
 -- nothing was started, and no words were lent
-abbrev pub emptyBench : Bench
+unfoldable pub emptyBench : Bench
 emptyBench = record { machine = noMachine; lent = replicate 256 0; «lent_count» = 0; started = false }
 
 -- a bench and a page
@@ -61,18 +62,24 @@ refusedText = 114 ∷ 101 ∷ 102 ∷ 117 ∷ 115 ∷ 101 ∷ 100 ∷ 32 ∷ 56 
 abbrev pub profileOf : ℕ → ℕ → ℕ → Profile
 profileOf bid fitted forced = record { fitted = fitted; forced = forced; bid = bid }
 
--- settings stored under a save count
-abbrev pub storeOf : List ℕ → ℕ → Store
-storeOf image count = record { settings = settingsOf image; «save_count» = count; held = true }
+-- settings stored under a save count, or nothing
+unfoldable pub storeOf : Bool → List ℕ → ℕ → Store
+storeOf stored image count = cond stored (record { settings = settingsOf image; «save_count» = count; held = true }) emptyStore
 
--- an accepted machine is on the bench; a refused one leaves the bench as it was
-abbrev pub startedBy : StartAnswer → Machine → List ℕ → Bench → Shown
-startedBy StartAnswer.Accepted m held bench =
-    printed held (record { machine = m; lent = bench .lent; «lent_count» = bench .«lent_count»; started = true }) okText
-startedBy StartAnswer.ProfileBreaksARule m held bench = printed held bench refusedText
+-- an accepted machine is on the bench; where it is refused, the start tells the one that was there
+abbrev pub isThere : StartAnswer → Bool → Bool
+isThere StartAnswer.Accepted before = true
+isThere StartAnswer.ProfileBreaksARule before = before
+
+abbrev pub startText : StartAnswer → List ℕ
+startText StartAnswer.Accepted = okText
+startText StartAnswer.ProfileBreaksARule = refusedText
 
 unfoldable pub startedOf : List ℕ → Bench → Begun → Shown
-startedOf held bench s = startedBy (s .answer) (s .machine) held bench
+startedOf held bench s =
+    printed held
+    (record { machine = s .machine; lent = bench .lent; «lent_count» = bench .«lent_count»; started = isThere (s .answer) (bench .started) })
+    (startText (s .answer))
 
 -- ---- words and ticks
 
@@ -88,6 +95,9 @@ tickedOf held bench t =
     (tickedLine (t .outcome) (t .event) (t .replied) (t .machine .board))
 
 -- ---- the text line, with a scratch buffer or an output of so many bytes, all 0xEE before
+
+unfoldable pub blank : List ℕ
+blank = replicate 1024 0xEE
 
 -- where a command's payload lies
 abbrev pub spanOf : Line → Span
@@ -115,34 +125,35 @@ receivedOf held bench received scratch = receivedBy held bench received scratch 
 unfoldable pub framingLine : Machine → List ℕ → List ℕ
 framingLine m output = framedLine (framedOf (dueOf m) (length output)) (laid (dueOf m) output)
 
-abbrev pub untouchedOf : ℕ → List ℕ
-untouchedOf room = take room (replicate 1024 0xEE)
+-- ---- what changes nothing: a bus read, a framing, the state
+
+unfoldable pub readLine : Machine → ℕ → List ℕ
+readLine m count = hexOf (found (m .board .reply) (min count 1024)) ++ 10 ∷ []
+
+unfoldable pub lookLine : Machine → Look → List ℕ
+lookLine m (Look.Read count) = readLine m count
+lookLine m (Look.Frame room) = framingLine m (take room blank)
+lookLine m Look.Show = stateLine (m .board)
 
 -- ---- a line
 
 -- before a machine was started only a start is of a form
-abbrev pub allowedOf : Bool → Asked → Asked
+unfoldable pub allowedOf : Bool → Asked → Asked
 allowedOf true asked = asked
-allowedOf false (Asked.Start bid fitted forced) = Asked.Start bid fitted forced
-allowedOf false (Asked.StoredStart bid fitted forced count) = Asked.StoredStart bid fitted forced count
+allowedOf false (Asked.Start bid fitted forced stored count) = Asked.Start bid fitted forced stored count
 allowedOf false (Asked.Lend count) = Asked.Bad
 allowedOf false (Asked.Tick rail overcurrent sent count) = Asked.Bad
-allowedOf false (Asked.Read count) = Asked.Bad
 allowedOf false (Asked.Receive room count) = Asked.Bad
-allowedOf false (Asked.Frame room) = Asked.Bad
-allowedOf false Asked.Show = Asked.Bad
+allowedOf false (Asked.Look look) = Asked.Bad
 allowedOf false Asked.Bad = Asked.Bad
 
 -- what a line that asks for this does, with the bytes of its byte string, where its text goes into a buffer
 unfoldable pub ranOf : List ℕ → Bench → Asked → List ℕ → Shown
-ranOf held bench (Asked.Start bid fitted forced) bytes = startedOf held bench (begunOf (bench .machine) (profileOf bid fitted forced) emptyStore)
-ranOf held bench (Asked.StoredStart bid fitted forced count) bytes =
-    startedOf held bench (begunOf (bench .machine) (profileOf bid fitted forced) (storeOf bytes count))
+ranOf held bench (Asked.Start bid fitted forced stored count) bytes =
+    startedOf held bench (begunOf (bench .machine) (profileOf bid fitted forced) (storeOf stored bytes count))
 ranOf held bench (Asked.Lend count) bytes = printed held (withLent (wordsOf 256 bytes) count bench) okText
 ranOf held bench (Asked.Tick rail overcurrent sent count) bytes =
     tickedOf held bench (toldOf (signed 2 rail) overcurrent (take (bench .«lent_count») (bench .lent)) sent (take count bytes) (bench .machine))
-ranOf held bench (Asked.Read count) bytes = printed held bench (hexOf (found (bench .machine .board .reply) (min count 1024)) ++ 10 ∷ [])
-ranOf held bench (Asked.Receive room count) bytes = receivedOf held bench (take count bytes) (untouchedOf room)
-ranOf held bench (Asked.Frame room) bytes = printed held bench (framingLine (bench .machine) (untouchedOf room))
-ranOf held bench Asked.Show bytes = printed held bench (stateLine (bench .machine .board))
+ranOf held bench (Asked.Receive room count) bytes = receivedOf held bench (take count bytes) (take room blank)
+ranOf held bench (Asked.Look look) bytes = printed held bench (lookLine (bench .machine) look)
 ranOf held bench Asked.Bad bytes = printed held bench badText

@@ -1,16 +1,14 @@
 // A machine on the bench, and what one line of a replay script does to it.
 ghost use mathlib.Core.Path.{_≡_};
-ghost use mathlib.Core.List.{[], _∷_, _++_};
 ghost use Prim.Native.Nat.{min};
-ghost use lib.ListN.{take, replicate};
+ghost use lib.ListN.{take};
 ghost use Rattle.wire.specs.Numbers.{signed};
-ghost use Rattle.wire.specs.Replies.{found};
-ghost use Rattle.unit.specs.Machine.{noMachine, begunOf, toldOf, heardOf};
-ghost use Rattle.script.specs.Printing.{page, typed, hexOf};
+ghost use Rattle.unit.specs.Machine.{begunOf, toldOf};
+ghost use Rattle.script.specs.Printing.{page, typed};
 ghost use Rattle.script.specs.Reading.{wordsOf};
-ghost use Rattle.showing.specs.Showing.{stateLine};
-ghost use Rattle.trial.specs.Benches.{emptyBench, left, printed, okText, profileOf, startedOf, storeOf, withLent, tickedOf, spanOf, answerLine, receivedOf, framingLine, untouchedOf, allowedOf, ranOf};
+ghost use Rattle.trial.specs.Benches.{emptyBench, left, printed, okText, isThere, startText, startedOf, storeOf, withLent, tickedOf, blank, spanOf, answerLine, receivedOf, framingLine, readLine, lookLine, profileOf, allowedOf, ranOf};
 use lines::Asked;
+use lines::Look;
 use memory::Store;
 use script::printing::bytes;
 use script::printing::put;
@@ -48,38 +46,54 @@ pub fn none() -> Bench
     }
 }
 
+// Whether a machine is there after a start.
+fn is_there(answer: StartAnswer, before: bool) -> bool
+    ensures { λ r. ⌜ r ≡ isThere answer before ⌝ }
+{
+    match answer {
+        StartAnswer::Accepted => true,
+        StartAnswer::ProfileBreaksARule => before,
+    }
+}
+
+// What a start prints.
+fn start_line(answer: StartAnswer, out: &mut [u8]) -> usize
+    ensures { λ r. ⌜ page (now (out .exit)) r ≡ typed (page (now (out .entry)) 0) (startText answer) ⌝ }
+{
+    match answer {
+        StartAnswer::Accepted => text(out, 0, b"ok\n"),
+        StartAnswer::ProfileBreaksARule => text(out, 0, b"refused 8\n"),
+    }
+}
+
 // Starts a machine, if its profile and its stored settings keep the rules.
 fn started(mut bench: Bench, profile: Profile, store: Store, out: &mut [u8]) -> Ran
     ensures { λ r. ⌜ left r (now (out .exit)) ≡ startedOf (now (out .entry)) bench (begunOf (bench .machine) profile store) ⌝ }
 {
     let s = unit::start(bench.machine, profile, store);
+    let next = s.machine;
     let answer = s.answer;
-    match answer {
-        StartAnswer::Accepted => {
-            let next = s.machine;
-            bench.machine = next;
-            bench.started = true;
-            Ran {
-                bench,
-                printed: text(out, 0, b"ok\n"),
-            }
-        }
-        StartAnswer::ProfileBreaksARule => Ran {
-            bench,
-            printed: text(out, 0, b"refused 8\n"),
-        },
+    let there = is_there(answer, bench.started);
+    bench.machine = next;
+    bench.started = there;
+    Ran {
+        bench,
+        printed: start_line(answer, out),
     }
 }
 
-// Settings stored under a save count.
-fn stored(image: &[u8], save_count: u16) -> Store
-    ensures { λ r. ⌜ r ≡ storeOf (now (image .entry)) «save_count» ⌝ }
+// What is stored: settings under a save count, or nothing.
+fn store_of(stored: bool, image: &[u8], save_count: u16) -> Store
+    ensures { λ r. ⌜ r ≡ storeOf stored (now (image .entry)) «save_count» ⌝ }
 {
-    Store {
-        settings: image::read(image),
-        save_count,
-        held: true,
+    if stored {
+        return Store {
+            settings: image::read(image),
+            save_count,
+            held: true,
+        };
     }
+    Store::empty()
 }
 
 // The bench with words for its next tick.
@@ -129,7 +143,7 @@ fn ticked(
 
 // A buffer that nothing was written to.
 fn untouched() -> [u8; 1024]
-    ensures { λ r. ⌜ r ≡ replicate 1024 0xEE ⌝ }
+    ensures { λ r. ⌜ r ≡ blank ⌝ }
 {
     [0xEE; 1024]
 }
@@ -143,7 +157,7 @@ fn within(count: usize) -> usize
 
 // What a bus read finds.
 fn read(m: Machine, count: usize, out: &mut [u8]) -> usize
-    ensures { λ r. ⌜ page (now (out .exit)) r ≡ typed (page (now (out .entry)) 0) (hexOf (found (m .board .reply) (min count 1024)) ++ 10 ∷ []) ⌝ }
+    ensures { λ r. ⌜ page (now (out .exit)) r ≡ typed (page (now (out .entry)) 0) (readLine m count) ⌝ }
 {
     let mut buffer = untouched();
     let n = within(count);
@@ -193,7 +207,7 @@ fn answer<'a>(
 
 // A read of the text line, which may switch its form.
 fn received(mut bench: Bench, bytes: &[u8], room: usize, out: &mut [u8]) -> Ran
-    ensures { λ r. ⌜ left r (now (out .exit)) ≡ receivedOf (now (out .entry)) bench (now (bytes .entry)) (untouchedOf room) ⌝ }
+    ensures { λ r. ⌜ left r (now (out .exit)) ≡ receivedOf (now (out .entry)) bench (now (bytes .entry)) (take room blank) ⌝ }
 {
     let mut buffer = untouched();
     let n = within(room);
@@ -209,7 +223,7 @@ fn received(mut bench: Bench, bytes: &[u8], room: usize, out: &mut [u8]) -> Ran
 
 // What a framing prints.
 fn framed(m: Machine, room: usize, out: &mut [u8]) -> usize
-    ensures { λ r. ⌜ page (now (out .exit)) r ≡ typed (page (now (out .entry)) 0) (framingLine m (untouchedOf room)) ⌝ }
+    ensures { λ r. ⌜ page (now (out .exit)) r ≡ typed (page (now (out .entry)) 0) (framingLine m (take room blank)) ⌝ }
 {
     let mut buffer = untouched();
     let n = within(room);
@@ -217,11 +231,15 @@ fn framed(m: Machine, room: usize, out: &mut [u8]) -> usize
     showing::framed(framed, wire::first(&buffer, n), out)
 }
 
-// The state.
-fn shown(m: Machine, out: &mut [u8]) -> usize
-    ensures { λ r. ⌜ page (now (out .exit)) r ≡ typed (page (now (out .entry)) 0) (stateLine (m .board)) ⌝ }
+// What a line prints that changes nothing.
+fn looked(m: Machine, look: Look, out: &mut [u8]) -> usize
+    ensures { λ r. ⌜ page (now (out .exit)) r ≡ typed (page (now (out .entry)) 0) (lookLine m look) ⌝ }
 {
-    showing::state(m.board, out)
+    match look {
+        Look::Read { count } => read(m, count, out),
+        Look::Frame { room } => framed(m, room, out),
+        Look::Show => showing::state(m.board, out),
+    }
 }
 
 // What is asked where no machine was started: only a start is.
@@ -236,11 +254,7 @@ fn allowed(started: bool, asked: Asked) -> Asked
             bid: _,
             fitted: _,
             forced: _,
-        } => asked,
-        Asked::StoredStart {
-            bid: _,
-            fitted: _,
-            forced: _,
+            stored: _,
             save_count: _,
         } => asked,
         Asked::Lend { count: _ } => Asked::Bad,
@@ -250,10 +264,8 @@ fn allowed(started: bool, asked: Asked) -> Asked
             sent: _,
             count: _,
         } => Asked::Bad,
-        Asked::Read { count: _ } => Asked::Bad,
         Asked::Receive { room: _, count: _ } => Asked::Bad,
-        Asked::Frame { room: _ } => Asked::Bad,
-        Asked::Show => Asked::Bad,
+        Asked::Look(_) => Asked::Bad,
         Asked::Bad => Asked::Bad,
     }
 }
@@ -278,16 +290,12 @@ pub fn run(bench: Bench, asked: Asked, held: &[u8], out: &mut [u8]) -> Ran
             bid,
             fitted,
             forced,
-        } => started(bench, profile(bid, fitted, forced), Store::empty(), out),
-        Asked::StoredStart {
-            bid,
-            fitted,
-            forced,
+            stored,
             save_count,
         } => started(
             bench,
             profile(bid, fitted, forced),
-            stored(held, save_count),
+            store_of(stored, held, save_count),
             out,
         ),
         Asked::Lend { count } => lent(bench, held, count, out),
@@ -304,18 +312,10 @@ pub fn run(bench: Bench, asked: Asked, held: &[u8], out: &mut [u8]) -> Ran
             wire::first(held, count),
             out,
         ),
-        Asked::Read { count } => Ran {
-            bench,
-            printed: read(bench.machine, count, out),
-        },
         Asked::Receive { room, count } => received(bench, wire::first(held, count), room, out),
-        Asked::Frame { room } => Ran {
+        Asked::Look(look) => Ran {
             bench,
-            printed: framed(bench.machine, room, out),
-        },
-        Asked::Show => Ran {
-            bench,
-            printed: shown(bench.machine, out),
+            printed: looked(bench.machine, look, out),
         },
         Asked::Bad => Ran {
             bench,

@@ -1,9 +1,9 @@
 -- The bytes that were lent, and the line's end behind them. Assumes nothing.
+use Rattle.trial.specs.Benches.{readLine}
 use mathlib.Core.Path.{_≡_, sym, ap, _∙_}
 use Rattle.wire.specs.Replies.{found}
 use Rattle.script.specs.Printing.{typed}
 use Rattle.script.proofs.Turns.{typed-append}
-use mathlib.Core.Path.{_≡_}
 use lib.ListN.{length, take}
 use Rattle.trial.proofs.Fronts.{lent, whole, front}
 use borrow.Author.Needs.{needs}
@@ -42,6 +42,7 @@ same-length : tie.Need-same-length
 same-length c = search needs
 
 returns : tie.Need-returns
+unfolding readLine
 returns c = let l : length (c .before .before .before .before .before .before .before .before .before .before .before .bus-read .last .1 .0) ≡ length (take (c .before .before .before .before .before .before .before .before .before .before .before .before .before .within .result) (c .before .before .before .before .before .before .before .before .before .before .before .before .before .before .untouched .result)) = search needs in
     let e = c .before .before .before .before .before .before .before .first .ensures ∙ front (c .before .before .before .before .before .before .before .before .before .before .before .before .before .within .result) (c .before .before .before .before .before .before .before .before .before .before .before .before .before .before .before .before .args .count) (c .before .before .before .before .before .before .before .before .before .before .before .before .before .before .untouched .result) (c .before .before .before .before .before .before .before .before .before .before .before .before .before .within .ensures) (c .before .before .before .before .before .before .before .before .before .before .before .before .before .before .untouched .ensures) (c .before .before .before .before .before .before .before .before .before .before .before .bus-read .last .1 .0) l ∙ c .before .before .before .before .before .before .before .before .before .before .before .bus-read .ensures ∙ ap (found (c .before .before .before .before .before .before .before .before .before .before .before .before .before .before .before .before .args .m .board .reply)) (sym (lent (c .before .before .before .before .before .before .before .before .before .before .before .before .before .within .result) (c .before .before .before .before .before .before .before .before .before .before .before .before .before .before .before .before .args .count) (c .before .before .before .before .before .before .before .before .before .before .before .before .before .before .untouched .result) (c .before .before .before .before .before .before .before .before .before .before .before .before .before .within .ensures) (c .before .before .before .before .before .before .before .before .before .before .before .before .before .before .untouched .ensures)) ∙ c .before .before .before .before .before .before .before .before .before .before .before .before .before .within .ensures) in
     rw (c .before .before .put .ensures, c .before .before .before .before .before .before .bytes .ensures, e) (simp typed-append)

@@ -1,4 +1,4 @@
--- By what the start answers. Assumes nothing.
+-- The machine after the start, and what it answers. Assumes nothing.
 use Rattle.trial.specs.Benches.{startedOf}
 use borrow.Author.Needs.{needs}
 use Rattle.trial.proofs.started.Statement.{statement}
@@ -7,50 +7,19 @@ use Rattle.trial.proofs.started.Tie as tie
 start-requires : tie.Need-start-requires
 start-requires c κs = search needs
 
-enum-told : tie.Need-enum-told
-enum-told c = search needs
+is-there-requires : tie.Need-is-there-requires
+is-there-requires c κs = search needs
 
-slice-aggregate-text : tie.Need-slice-aggregate-text
-slice-aggregate-text c = search needs
-
-text-requires : tie.Need-text-requires
-text-requires c κs = search needs
-
-enum-told-2 : tie.Need-enum-told-2
-enum-told-2 c = search needs
-
-slice-aggregate-text-2 : tie.Need-slice-aggregate-text-2
-slice-aggregate-text-2 c = search needs
-
-text-requires-2 : tie.Need-text-requires-2
-text-requires-2 c κs = search needs
+start-line-requires : tie.Need-start-line-requires
+start-line-requires c κs = search needs
 
 same-length : tie.Need-same-length
 same-length c = search needs
 
 returns : tie.Need-returns
 unfolding startedOf
-returns c = rw (← c .before .before .before .before .before .before .before .before .start .ensures, c .before .before .before .before .before .before .enum-told .given .1, c .before .before .text .ensures)
-
-same-length-2 : tie.Need-same-length-2
-same-length-2 c = search needs
-
-returns-2 : tie.Need-returns-2
-unfolding startedOf
-returns-2 c = rw (← c .before .before .before .before .before .before .before .start .ensures, c .before .before .before .before .before .enum-told2 .given .1, c .before .before .text2 .ensures)
+returns c = rw (c .before .before .start-line .ensures, c .before .before .before .before .is-there .ensures, ← c .before .before .before .before .before .before .start .ensures)
 
 pub started-spec : {M : Type 1} → statement M
 started-spec =
-    tie.close
-    (tie.spec
-    start-requires
-    enum-told
-    slice-aggregate-text
-    text-requires
-    enum-told-2
-    slice-aggregate-text-2
-    text-requires-2
-    same-length
-    returns
-    same-length-2
-    returns-2)
+    tie.close (tie.spec start-requires is-there-requires start-line-requires same-length returns)
