@@ -53,21 +53,20 @@ fn run_chunk(chunk: &[u8], line: &mut [u8; 4096], turn: Turn) -> Turn {
 
 // Reads once, and runs the lines that came; with nothing more to read there is no more to run.
 // argued: an instrument; what it prints is compared line by line with the second program
-fn run_some(line: &mut [u8; 4096], turn: Turn) -> Turn {
+fn run_some(line: &mut [u8; 4096], mut turn: Turn) -> Turn {
     let mut chunk = io::large_buffer();
     let got = libc::read(STDIN_FILENO, &mut chunk);
     if got <= 0 {
-        let mut ended = turn;
-        ended.more = false;
-        return ended;
+        turn.more = false;
+        return turn;
     }
     let n = io::count(got, &chunk);
     run_chunk(&chunk[..n], line, turn)
 }
 
 // A last piece without a line end is bad.
-fn finish(turn: Turn) {
-    if turn.filled > 0 {
+fn finish(filled: usize) {
+    if filled > 0 {
         io::write_all(STDOUT_FILENO, b"bad\n");
     }
 }
@@ -86,5 +85,5 @@ fn main() {
         turn = run_some(&mut line, turn);
         turns -= 1;
     }
-    finish(turn);
+    finish(turn.filled);
 }
