@@ -66,22 +66,6 @@ fn start_line(answer: StartAnswer, out: &mut [u8]) -> usize
     }
 }
 
-// Starts a machine, if its profile and its stored settings keep the rules.
-fn started(mut bench: Bench, profile: Profile, store: Store, out: &mut [u8]) -> Ran
-    ensures { λ r. ⌜ left r (now (out .exit)) ≡ startedOf (now (out .entry)) bench (begunOf (bench .machine) profile store) ⌝ }
-{
-    let s = unit::start(bench.machine, profile, store);
-    let next = s.machine;
-    let answer = s.answer;
-    let there = is_there(answer, bench.started);
-    bench.machine = next;
-    bench.started = there;
-    Ran {
-        bench,
-        printed: start_line(answer, out),
-    }
-}
-
 // What is stored: settings under a save count, or nothing.
 fn store_of(stored: bool, image: &[u8], save_count: u16) -> Store
     ensures { λ r. ⌜ r ≡ storeOf stored (now (image .entry)) «save_count» ⌝ }
@@ -94,6 +78,37 @@ fn store_of(stored: bool, image: &[u8], save_count: u16) -> Store
         };
     }
     Store::empty()
+}
+
+// Starts a machine, if its profile and its stored settings keep the rules.
+fn started(
+    mut bench: Bench,
+    bid: u8,
+    fitted: u32,
+    forced: u32,
+    stored: bool,
+    save_count: u16,
+    image: &[u8],
+    out: &mut [u8],
+) -> Ran
+    ensures { λ r. ⌜ left r (now (out .exit)) ≡ startedOf (now (out .entry)) bench (begunOf (bench .machine) (profileOf bid fitted forced) (storeOf stored (now (image .entry)) «save_count»)) ⌝ }
+{
+    let profile = Profile {
+        fitted,
+        forced,
+        bid,
+    };
+    let store = store_of(stored, image, save_count);
+    let s = unit::start(bench.machine, profile, store);
+    let next = s.machine;
+    let answer = s.answer;
+    let there = is_there(answer, bench.started);
+    bench.machine = next;
+    bench.started = there;
+    Ran {
+        bench,
+        printed: start_line(answer, out),
+    }
 }
 
 // The bench with words for its next tick.
@@ -270,17 +285,6 @@ fn allowed(started: bool, asked: Asked) -> Asked
     }
 }
 
-// A profile.
-fn profile(bid: u8, fitted: u32, forced: u32) -> Profile
-    ensures { λ r. ⌜ r ≡ profileOf bid fitted forced ⌝ }
-{
-    Profile {
-        fitted,
-        forced,
-        bid,
-    }
-}
-
 // Runs what a line asks for, with the bytes that it holds.
 pub fn run(bench: Bench, asked: Asked, held: &[u8], out: &mut [u8]) -> Ran
     ensures { λ r. ⌜ left r (now (out .exit)) ≡ ranOf (now (out .entry)) bench (allowedOf (bench .started) asked) (now (held .entry)) ⌝ }
@@ -292,12 +296,7 @@ pub fn run(bench: Bench, asked: Asked, held: &[u8], out: &mut [u8]) -> Ran
             forced,
             stored,
             save_count,
-        } => started(
-            bench,
-            profile(bid, fitted, forced),
-            store_of(stored, held, save_count),
-            out,
-        ),
+        } => started(bench, bid, fitted, forced, stored, save_count, held, out),
         Asked::Lend { count } => lent(bench, held, count, out),
         Asked::Tick {
             rail,

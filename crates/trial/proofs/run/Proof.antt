@@ -11,12 +11,6 @@ allowed-requires c κs = search needs
 enum-known-bid : tie.Need-enum-known-bid
 enum-known-bid c = search needs
 
-profile-requires : tie.Need-profile-requires
-profile-requires c κs = search needs
-
-store-of-requires : tie.Need-store-of-requires
-store-of-requires c κs = search needs
-
 started-requires : tie.Need-started-requires
 started-requires c κs = search needs
 
@@ -64,7 +58,7 @@ same-length c = search needs
 
 returns : tie.Need-returns
 unfolding ranOf
-returns c = rw (← c .before .before .before .before .before .before .before .before .before .allowed .ensures, c .before .before .before .before .before .before .before .bid .given .1, c .before .before .started .ensures, c .before .before .before .before .before .profile .ensures, c .before .before .before .before .store-of .ensures)
+returns c = rw (← c .before .before .before .before .before .before .before .allowed .ensures, c .before .before .before .before .before .bid .given .1, c .before .before .started .ensures)
 
 same-length-2 : tie.Need-same-length-2
 same-length-2 c = search needs
@@ -107,8 +101,6 @@ run-spec =
     (tie.spec
     allowed-requires
     enum-known-bid
-    profile-requires
-    store-of-requires
     started-requires
     enum-known-count
     lent-requires

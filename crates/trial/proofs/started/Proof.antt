@@ -4,6 +4,9 @@ use borrow.Author.Needs.{needs}
 use Rattle.trial.proofs.started.Statement.{statement}
 use Rattle.trial.proofs.started.Tie as tie
 
+store-of-requires : tie.Need-store-of-requires
+store-of-requires c κs = search needs
+
 start-requires : tie.Need-start-requires
 start-requires c κs = search needs
 
@@ -18,8 +21,15 @@ same-length c = search needs
 
 returns : tie.Need-returns
 unfolding startedOf
-returns c = rw (c .before .before .start-line .ensures, c .before .before .before .before .is-there .ensures, ← c .before .before .before .before .before .before .start .ensures)
+returns c = rw (c .before .before .start-line .ensures, c .before .before .before .before .is-there .ensures, ← c .before .before .before .before .before .before .before .store-of .ensures, ← c .before .before .before .before .before .before .start .ensures)
 
 pub started-spec : {M : Type 1} → statement M
 started-spec =
-    tie.close (tie.spec start-requires is-there-requires start-line-requires same-length returns)
+    tie.close
+    (tie.spec
+    store-of-requires
+    start-requires
+    is-there-requires
+    start-line-requires
+    same-length
+    returns)
