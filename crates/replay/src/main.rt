@@ -1,6 +1,4 @@
 // Runs a replay script from standard input over the proved board, and prints what it then holds. A test instrument.
-mod running;
-
 use libc::STDIN_FILENO;
 use libc::STDOUT_FILENO;
 use trial::Bench;
@@ -16,8 +14,10 @@ struct Turn {
 // Runs one line and writes what it prints.
 // argued: an instrument; what it prints is compared line by line with the second program
 fn run_one(bench: Bench, line: &[u8]) -> Bench {
+    let mut held = io::buffer();
     let mut out = io::buffer();
-    let ran = running::run_line(bench, line, &mut out);
+    let asked = lines::asks(line, &mut held);
+    let ran = trial::run(bench, asked, &held, &mut out);
     io::write_all(STDOUT_FILENO, script::printing::shown(&out, ran.printed));
     ran.bench
 }
@@ -53,21 +53,20 @@ fn run_chunk(chunk: &[u8], line: &mut [u8; 4096], turn: Turn) -> Turn {
 
 // Reads once, and runs the lines that came; with nothing more to read there is no more to run.
 // argued: an instrument; what it prints is compared line by line with the second program
-fn run_some(line: &mut [u8; 4096], turn: Turn) -> Turn {
+fn run_some(line: &mut [u8; 4096], mut turn: Turn) -> Turn {
     let mut chunk = io::large_buffer();
     let got = libc::read(STDIN_FILENO, &mut chunk);
     if got <= 0 {
-        let mut ended = turn;
-        ended.more = false;
-        return ended;
+        turn.more = false;
+        return turn;
     }
     let n = io::count(got, &chunk);
     run_chunk(&chunk[..n], line, turn)
 }
 
 // A last piece without a line end is bad.
-fn finish(turn: Turn) {
-    if turn.filled > 0 {
+fn finish(filled: usize) {
+    if filled > 0 {
         io::write_all(STDOUT_FILENO, b"bad\n");
     }
 }
@@ -86,5 +85,5 @@ fn main() {
         turn = run_some(&mut line, turn);
         turns -= 1;
     }
-    finish(turn);
+    finish(turn.filled);
 }

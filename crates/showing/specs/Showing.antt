@@ -1,18 +1,20 @@
 -- The two long lines: what a tick prints, and the state. Characters are their ASCII codes: 32 is a space, 45 is `-`, 10 ends a line.
 -- Assumes nothing: these are definitions.
 use Prim.Native.Nat.{ℕ}
-use mathlib.Core.Bool.{cond}
+use mathlib.Core.Bool.{Bool, cond}
 use mathlib.Core.List.{List, [], _∷_, _++_}
 use lib.ListN.{take}
 use Rattle.wire.specs.declared.reply.Reply.{Reply}
 use Rattle.image.specs.Image.{imageOf}
 use Rattle.memory.specs.declared.Store.{Store}
 use Rattle.memory.specs.declared.Memory.{Memory}
+use Rattle.modes.specs.declared.ModeAge.{ModeAge}
+use Rattle.channels.specs.declared.Channels.{Channels}
+use Rattle.watchdog.specs.declared.Event.{Event}
 use Rattle.answers.specs.declared.Outcome.{Outcome}
 use Rattle.state.specs.Parts.{causeNumber}
 use Rattle.state.specs.declared.parts.Resets.{Resets}
 use Rattle.state.specs.declared.parts.Board.{Board}
-use Rattle.board.specs.declared.Ticked.{Ticked}
 use Rattle.script.specs.Printing.{digitsOf, row, hexOf}
 use Rattle.showing.specs.Naming.{modeLetter, eventLetter, answerDigit, formLetter}
 
@@ -29,26 +31,31 @@ replyText r = 32 ∷ hexOf (take (r .len) (r .bytes))
 
 -- ---- the tick line: mode age timer on latched event answer reply
 
-unfoldable pub frontText : Board → List ℕ
-frontText b =
-    modeLetter (b .phase .mode)
-    ∷ fieldOf 16 (b .phase .age)
-    ++ fieldOf 16 (b .timer)
-    ++ fieldOf 8 (b .channels .on)
-    ++ fieldOf 8 (b .channels .latched)
+unfoldable pub frontText : ModeAge → ℕ → Channels → List ℕ
+frontText phase timer c =
+    modeLetter (phase .mode)
+    ∷ fieldOf 16 (phase .age)
+    ++ fieldOf 16 timer
+    ++ fieldOf 8 (c .on)
+    ++ fieldOf 8 (c .latched)
 
 -- the reply made in this tick, or `-`
-unfoldable pub madeText : Ticked → List ℕ
-madeText t = cond (t .replied) (replyText (t .board .reply)) (letterOf 45)
+unfoldable pub madeText : Bool → Reply → List ℕ
+madeText replied r = cond replied (replyText r) (letterOf 45)
 
-unfoldable pub tickLine : ℕ → Ticked → List ℕ
-tickLine answer t = frontText (t .board) ++ letterOf (eventLetter (t .event)) ++ letterOf answer ++ madeText t ++ 10 ∷ []
+unfoldable pub tickLine : ℕ → ℕ → Bool → Board → List ℕ
+tickLine event answer replied b =
+    frontText (b .phase) (b .timer) (b .channels)
+    ++ letterOf event
+    ++ letterOf answer
+    ++ madeText replied (b .reply)
+    ++ 10 ∷ []
 
 -- `refused 9`; the answer is `-` when the tick brought no transfer
-unfoldable pub outcomeLine : Outcome → Ticked → List ℕ
-outcomeLine Outcome.WrongWordCount t = 114 ∷ 101 ∷ 102 ∷ 117 ∷ 115 ∷ 101 ∷ 100 ∷ 32 ∷ 57 ∷ 10 ∷ []
-outcomeLine Outcome.NoTransfer t = tickLine 45 t
-outcomeLine (Outcome.Answered a) t = tickLine (answerDigit a) t
+unfoldable pub tickedLine : Outcome → Event → Bool → Board → List ℕ
+tickedLine Outcome.WrongWordCount event replied b = 114 ∷ 101 ∷ 102 ∷ 117 ∷ 115 ∷ 101 ∷ 100 ∷ 32 ∷ 57 ∷ 10 ∷ []
+tickedLine Outcome.NoTransfer event replied b = tickLine (eventLetter event) 45 replied b
+tickedLine (Outcome.Answered a) event replied b = tickLine (eventLetter event) (answerDigit a) replied b
 
 -- ---- the state line: form cause pwr wdg cmd savecount checksum stored settings counts words reply
 

@@ -1,24 +1,28 @@
-// The two long lines of a replay: what a tick prints, and the state.
+// The long lines of a replay: what a tick prints, the state, and what a read of the text line and a framing print.
 mod naming;
+mod speaking;
 
 use answers::Outcome;
-use board::Ticked;
 use channels::Channels;
 use memory::Memory;
 use memory::Store;
+use modes::ModeAge;
 use script::printing::field;
 use script::printing::put;
 use script::printing::string;
 use script::printing::text;
 use script::printing::words;
+pub use speaking::framed;
+pub use speaking::heard;
 use state::Board;
 use state::Measured;
 use state::Resets;
+use watchdog::Event;
 use wire::Reply;
 ghost use mathlib.Core.Path.{_≡_};
 ghost use mathlib.Core.List.{_∷_};
 ghost use Rattle.script.specs.Printing.{page, typed, row};
-ghost use Rattle.showing.specs.Showing.{letterOf, replyText, madeText, frontText, tickLine, outcomeLine, resetsText, storedText, memoryText, stateLine};
+ghost use Rattle.showing.specs.Showing.{letterOf, replyText, madeText, frontText, tickLine, tickedLine, resetsText, storedText, memoryText, stateLine};
 
 // A space and one character.
 fn letter(out: &mut [u8], at: usize, c: u8) -> usize
@@ -38,50 +42,46 @@ fn reply(out: &mut [u8], at: usize, r: Reply) -> usize
 }
 
 // The reply that was made in a tick.
-fn made(out: &mut [u8], at: usize, t: Ticked) -> usize
-    ensures { λ r. ⌜ page (now (out .exit)) r ≡ typed (page (now (out .entry)) at) (madeText t) ⌝ }
+fn made(out: &mut [u8], at: usize, replied: bool, r: Reply) -> usize
+    ensures { λ place. ⌜ page (now (out .exit)) place ≡ typed (page (now (out .entry)) at) (madeText replied r) ⌝ }
 {
-    if t.replied {
-        let b = t.board;
-        return reply(out, at, b.reply);
+    if replied {
+        return reply(out, at, r);
     }
     letter(out, at, b'-')
 }
 
 // The mode, its age, the timer, and the channels that are on and latched.
-fn front(out: &mut [u8], b: Board) -> usize
-    ensures { λ r. ⌜ page (now (out .exit)) r ≡ typed (page (now (out .entry)) 0) (frontText b) ⌝ }
+fn front(out: &mut [u8], phase: ModeAge, timer: u64, c: Channels) -> usize
+    ensures { λ r. ⌜ page (now (out .exit)) r ≡ typed (page (now (out .entry)) 0) (frontText phase timer c) ⌝ }
 {
-    let phase = b.phase;
-    let c = b.channels;
     let mut at = put(out, 0, naming::mode_letter(phase.mode()));
     at = field(out, at, phase.age(), 16);
-    at = field(out, at, b.timer, 16);
+    at = field(out, at, timer, 16);
     at = field(out, at, c.on() as u64, 8);
     field(out, at, c.latched() as u64, 8)
 }
 
-// The tick line, with the letter of its answer.
-fn tick_line(t: Ticked, answer: u8, out: &mut [u8]) -> usize
-    ensures { λ r. ⌜ page (now (out .exit)) r ≡ typed (page (now (out .entry)) 0) (tickLine answer t) ⌝ }
+// The tick line, with the letters of what the watchdog did and of the answer.
+fn tick_line(b: Board, event: u8, answer: u8, replied: bool, out: &mut [u8]) -> usize
+    ensures { λ r. ⌜ page (now (out .exit)) r ≡ typed (page (now (out .entry)) 0) (tickLine event answer replied b) ⌝ }
 {
-    let event = t.event;
-    let mut at = front(out, t.board);
-    at = letter(out, at, naming::event_letter(event));
+    let mut at = front(out, b.phase, b.timer, b.channels);
+    at = letter(out, at, event);
     at = letter(out, at, answer);
-    at = made(out, at, t);
+    at = made(out, at, replied, b.reply);
     put(out, at, 10)
 }
 
 // What a tick prints: its line, or that it was refused.
-pub fn ticked(t: Ticked, out: &mut [u8]) -> usize
-    ensures { λ r. ⌜ page (now (out .exit)) r ≡ typed (page (now (out .entry)) 0) (outcomeLine (t .outcome) t) ⌝ }
+pub fn ticked(b: Board, outcome: Outcome, event: Event, replied: bool, out: &mut [u8]) -> usize
+    ensures { λ r. ⌜ page (now (out .exit)) r ≡ typed (page (now (out .entry)) 0) (tickedLine outcome event replied b) ⌝ }
 {
-    let outcome = t.outcome;
+    let watched = naming::event_letter(event);
     match outcome {
         Outcome::WrongWordCount => text(out, 0, b"refused 9\n"),
-        Outcome::NoTransfer => tick_line(t, b'-', out),
-        Outcome::Answered(a) => tick_line(t, naming::answer_digit(a), out),
+        Outcome::NoTransfer => tick_line(b, watched, b'-', replied, out),
+        Outcome::Answered(a) => tick_line(b, watched, naming::answer_digit(a), replied, out),
     }
 }
 

@@ -1,26 +1,28 @@
-// A board on the bench, and what one line of a replay script does to it.
+// A machine on the bench, and what one line of a replay script does to it.
 ghost use mathlib.Core.Path.{_≡_};
-ghost use Prim.Native.Nat.{_%_};
+ghost use Prim.Native.Nat.{min};
 ghost use lib.ListN.{take};
 ghost use Rattle.wire.specs.Numbers.{signed};
-ghost use Rattle.state.specs.Start.{startOf};
-ghost use Rattle.board.specs.Tick.{tickOf};
-ghost use Rattle.trial.specs.Lines.{left, printed, badText, okText, separated, profileFrom, profileOf, withLent, startedOf, tickedOf, showOf};
+ghost use Rattle.unit.specs.Machine.{begunOf, toldOf};
+ghost use Rattle.script.specs.Printing.{page, typed};
+ghost use Rattle.script.specs.Reading.{wordsOf};
+ghost use Rattle.trial.specs.Benches.{emptyBench, left, printed, okText, isThere, startText, startedOf, storeOf, withLent, tickedOf, blank, spanOf, answerLine, receivedOf, framingLine, readLine, lookLine, profileOf, allowedOf, ranOf};
+use lines::Asked;
+use lines::Look;
 use memory::Store;
 use script::printing::bytes;
 use script::printing::put;
 use script::printing::text;
-use script::reading::Field;
-use script::reading::is_at;
 use script::reading::lent_part;
-use script::reading::number;
-use state::Board;
+use script::reading::lent_words;
 use state::Profile;
 use state::StartAnswer;
+use text::Line;
+use unit::Machine;
 
-// A board on the bench, once one was started, and the words for its next tick.
+// A machine on the bench, once one was started, and the words for its next tick.
 pub struct Bench {
-    pub board: Board,
+    pub machine: Machine,
     pub lent: [u16; 256],
     pub lent_count: usize,
     pub started: bool,
@@ -33,166 +35,290 @@ pub struct Ran {
 }
 
 // A bench on which nothing was started.
-// argued: an instrument; what it prints is compared line by line with the second program
-pub fn none() -> Bench {
+pub fn none() -> Bench
+    ensures { λ r. ⌜ r ≡ emptyBench ⌝ }
+{
     Bench {
-        board: state::unstarted(),
+        machine: unit::unstarted(),
         lent: [0u16; 256],
         lent_count: 0,
         started: false,
     }
 }
 
-// A line that prints a text.
-pub fn says(bench: Bench, s: &[u8], out: &mut [u8]) -> Ran
-    ensures { λ r. ⌜ left r (now (out .exit)) ≡ printed (now (out .entry)) bench (now (s .entry)) ⌝ }
+// Whether a machine is there after a start.
+fn is_there(answer: StartAnswer, before: bool) -> bool
+    ensures { λ r. ⌜ r ≡ isThere answer before ⌝ }
 {
-    Ran {
-        bench,
-        printed: text(out, 0, s),
+    match answer {
+        StartAnswer::Accepted => true,
+        StartAnswer::ProfileBreaksARule => before,
     }
 }
 
-// A line that is not of a form.
-pub fn bad(bench: Bench, out: &mut [u8]) -> Ran
-    ensures { λ r. ⌜ left r (now (out .exit)) ≡ printed (now (out .entry)) bench badText ⌝ }
+// What a start prints.
+fn start_line(answer: StartAnswer, out: &mut [u8]) -> usize
+    ensures { λ r. ⌜ page (now (out .exit)) r ≡ typed (page (now (out .entry)) 0) (startText answer) ⌝ }
 {
-    says(bench, b"bad\n", out)
-}
-
-// Whether spaces stand at three places.
-pub fn separated(line: &[u8], first: usize, second: usize, third: usize) -> bool
-    ensures { λ r. ⌜ r ≡ separated (now (line .entry)) first second third ⌝ }
-{
-    if is_at(line, first, 32) {
-        if is_at(line, second, 32) {
-            return is_at(line, third, 32);
-        }
-        return false;
+    match answer {
+        StartAnswer::Accepted => text(out, 0, b"ok\n"),
+        StartAnswer::ProfileBreaksARule => text(out, 0, b"refused 8\n"),
     }
-    false
 }
 
-// What a line names.
-pub enum Named {
-    Profile(Profile),
-    Bad,
-}
-
-// A profile from its three numbers.
-pub fn profile_from(first: Field, second: Field, third: Field) -> Named
-    ensures { λ r. ⌜ r ≡ profileFrom first second third ⌝ }
+// What is stored: settings under a save count, or nothing.
+fn store_of(stored: bool, image: &[u8], save_count: u16) -> Store
+    ensures { λ r. ⌜ r ≡ storeOf stored (now (image .entry)) «save_count» ⌝ }
 {
-    let Field::Number(bid) = first else {
-        return Named::Bad;
-    };
-    let Field::Number(fitted) = second else {
-        return Named::Bad;
-    };
-    let Field::Number(forced) = third else {
-        return Named::Bad;
-    };
-    Named::Profile(Profile {
+    if stored {
+        return Store {
+            settings: image::read(image),
+            save_count,
+            held: true,
+        };
+    }
+    Store::empty()
+}
+
+// Starts a machine, if its profile and its stored settings keep the rules.
+fn started(
+    mut bench: Bench,
+    bid: u8,
+    fitted: u32,
+    forced: u32,
+    stored: bool,
+    save_count: u16,
+    image: &[u8],
+    out: &mut [u8],
+) -> Ran
+    ensures { λ r. ⌜ left r (now (out .exit)) ≡ startedOf (now (out .entry)) bench (begunOf (bench .machine) (profileOf bid fitted forced) (storeOf stored (now (image .entry)) «save_count»)) ⌝ }
+{
+    let profile = Profile {
         fitted,
         forced,
-        bid: (bid % 256) as u8,
-    })
-}
-
-// The profile of a line that starts a board.
-pub fn profile_of(line: &[u8]) -> Named
-    ensures { λ r. ⌜ r ≡ profileOf (now (line .entry)) ⌝ }
-{
-    let bid = number(line, 2, 2);
-    let fitted = number(line, 5, 8);
-    let forced = number(line, 14, 8);
-    profile_from(bid, fitted, forced)
-}
-
-// Starts a board, if its profile and its stored settings keep the rules.
-pub fn started(mut bench: Bench, profile: Profile, store: Store, out: &mut [u8]) -> Ran
-    ensures { λ r. ⌜ left r (now (out .exit)) ≡ startedOf (now (out .entry)) bench (startOf (bench .board) profile store) ⌝ }
-{
-    let s = state::start(bench.board, profile, store);
+        bid,
+    };
+    let store = store_of(stored, image, save_count);
+    let s = unit::start(bench.machine, profile, store);
+    let next = s.machine;
     let answer = s.answer;
-    match answer {
-        StartAnswer::Accepted => {
-            let next = s.board;
-            bench.board = next;
-            bench.started = true;
-            says(bench, b"ok\n", out)
-        }
-        StartAnswer::ProfileBreaksARule => says(bench, b"refused 8\n", out),
+    let there = is_there(answer, bench.started);
+    bench.machine = next;
+    bench.started = there;
+    Ran {
+        bench,
+        printed: start_line(answer, out),
     }
 }
 
 // The bench with words for its next tick.
-pub fn lent(mut bench: Bench, ws: [u16; 256], count: usize, out: &mut [u8]) -> Ran
-    ensures { λ r. ⌜ left r (now (out .exit)) ≡ printed (now (out .entry)) (withLent ws count bench) okText ⌝ }
+fn lent(mut bench: Bench, bytes: &[u8], count: usize, out: &mut [u8]) -> Ran
+    ensures { λ r. ⌜ left r (now (out .exit)) ≡ printed (now (out .entry)) (withLent (wordsOf 256 (now (bytes .entry))) count bench) okText ⌝ }
 {
+    let ws = lent_words(bytes);
     bench.lent = ws;
     bench.lent_count = count;
-    says(bench, b"ok\n", out)
+    Ran {
+        bench,
+        printed: text(out, 0, b"ok\n"),
+    }
 }
 
 // One tick, which uses up the words that were lent.
-pub fn ticked(
+fn ticked(
     mut bench: Bench,
-    rail: u32,
-    named: u32,
+    rail: u16,
+    overcurrent: u32,
     sent: bool,
     transfer: &[u8],
     out: &mut [u8],
 ) -> Ran
-    ensures { λ r. ⌜ left r (now (out .exit)) ≡ tickedOf (now (out .entry)) bench (tickOf (signed 2 (rail % 65536)) named (take (bench .«lent_count») (bench .lent)) sent (now (transfer .entry)) (bench .board)) ⌝ }
+    ensures { λ r. ⌜ left r (now (out .exit)) ≡ tickedOf (now (out .entry)) bench (toldOf (signed 2 rail) overcurrent (take (bench .«lent_count») (bench .lent)) sent (now (transfer .entry)) (bench .machine)) ⌝ }
 {
     let ws = bench.lent;
     let n = bench.lent_count;
-    let t = board::tick(
-        bench.board,
-        wire::twos16((rail % 65536) as u16),
-        named,
+    let t = unit::tick(
+        bench.machine,
+        wire::twos16(rail),
+        overcurrent,
         lent_part(&ws, n),
         sent,
         transfer,
     );
-    let next = t.board;
-    bench.board = next;
+    let next = t.machine;
+    let outcome = t.outcome;
+    let event = t.event;
+    bench.machine = next;
     bench.lent_count = 0;
     Ran {
         bench,
-        printed: showing::ticked(t, out),
+        printed: showing::ticked(next.board, outcome, event, t.replied, out),
     }
 }
 
-// A bus read of some bytes, into the front of a buffer.
-// argued: an instrument; what it prints is compared line by line with the second program
-pub fn read_front(board: Board, buffer: &mut [u8], count: usize) {
-    if count < buffer.len() {
-        state::read(board, &mut buffer[..count]);
-    } else {
-        state::read(board, buffer);
-    }
+// A buffer that nothing was written to.
+fn untouched() -> [u8; 1024]
+    ensures { λ r. ⌜ r ≡ blank ⌝ }
+{
+    [0xEE; 1024]
+}
+
+// How much of such a buffer is lent: all of it where more is asked for.
+fn within(count: usize) -> usize
+    ensures { λ r. ⌜ r ≡ min count 1024 ⌝ }
+{
+    if count < 1024 { count } else { 1024 }
 }
 
 // What a bus read finds.
-// argued: an instrument; what it prints is compared line by line with the second program
-pub fn found(board: Board, count: usize, out: &mut [u8]) -> usize {
-    let mut buffer = io::buffer();
-    read_front(board, &mut buffer, count);
-    let at = bytes(out, 0, wire::first(&buffer, count));
+fn read(m: Machine, count: usize, out: &mut [u8]) -> usize
+    ensures { λ r. ⌜ page (now (out .exit)) r ≡ typed (page (now (out .entry)) 0) (readLine m count) ⌝ }
+{
+    let mut buffer = untouched();
+    let n = within(count);
+    unit::bus_read(m, &mut buffer[..n]);
+    let at = bytes(out, 0, wire::first(&buffer, n));
     put(out, at, 10)
 }
 
-// The line that shows the state.
-pub fn show(bench: Bench, line: &[u8], out: &mut [u8]) -> Ran
-    ensures { λ r. ⌜ left r (now (out .exit)) ≡ showOf (now (out .entry)) bench (now (line .entry)) ⌝ }
+// Where a command's payload lies; with any other answer there is none.
+struct Span {
+    start: usize,
+    end: usize,
+}
+
+// The span of what a read of the text line answers.
+fn span_of(line: Line) -> Span
+    ensures { λ r. ⌜ r ≡ spanOf line ⌝ }
 {
-    if line.len() != 1 {
-        return bad(bench, out);
+    match line {
+        Line::Command {
+            start,
+            end,
+            behind: _,
+        } => Span { start, end },
+        Line::Switch { form: _, behind: _ } => Span { start: 0, end: 0 },
+        Line::NoFrame => Span { start: 0, end: 0 },
+        Line::TooLong { behind: _ } => Span { start: 0, end: 0 },
+        Line::NotOfForm { behind: _ } => Span { start: 0, end: 0 },
+        Line::ScratchTooShort { behind: _ } => Span { start: 0, end: 0 },
     }
+}
+
+// What a read of the text line prints.
+fn answer<'a>(
+    m: Machine,
+    line: Line,
+    received: &'a [u8],
+    scratch: &'a [u8],
+    out: &mut [u8],
+) -> usize
+    ensures { λ r. ⌜ page (now (out .exit)) r ≡ typed (page (now (out .entry)) 0) (answerLine line (m .board .form) (now (received .entry)) (now (scratch .entry))) ⌝ }
+{
+    let span = span_of(line);
+    let payload = unit::payload(m, received, scratch, span.start, span.end);
+    showing::heard(line, payload, scratch, out)
+}
+
+// A read of the text line, which may switch its form.
+fn received(mut bench: Bench, bytes: &[u8], room: usize, out: &mut [u8]) -> Ran
+    ensures { λ r. ⌜ left r (now (out .exit)) ≡ receivedOf (now (out .entry)) bench (now (bytes .entry)) (take room blank) ⌝ }
+{
+    let mut buffer = untouched();
+    let n = within(room);
+    let heard = unit::read_line(bench.machine, bytes, &mut buffer[..n]);
+    let next = heard.machine;
+    let line = heard.line;
+    bench.machine = next;
     Ran {
         bench,
-        printed: showing::state(bench.board, out),
+        printed: answer(next, line, bytes, wire::first(&buffer, n), out),
+    }
+}
+
+// What a framing prints.
+fn framed(m: Machine, room: usize, out: &mut [u8]) -> usize
+    ensures { λ r. ⌜ page (now (out .exit)) r ≡ typed (page (now (out .entry)) 0) (framingLine m (take room blank)) ⌝ }
+{
+    let mut buffer = untouched();
+    let n = within(room);
+    let framed = unit::frame(m, &mut buffer[..n]);
+    showing::framed(framed, wire::first(&buffer, n), out)
+}
+
+// What a line prints that changes nothing.
+fn looked(m: Machine, look: Look, out: &mut [u8]) -> usize
+    ensures { λ r. ⌜ page (now (out .exit)) r ≡ typed (page (now (out .entry)) 0) (lookLine m look) ⌝ }
+{
+    match look {
+        Look::Read { count } => read(m, count, out),
+        Look::Frame { room } => framed(m, room, out),
+        Look::Show => showing::state(m.board, out),
+    }
+}
+
+// What is asked where no machine was started: only a start is.
+fn allowed(started: bool, asked: Asked) -> Asked
+    ensures { λ r. ⌜ r ≡ allowedOf started asked ⌝ }
+{
+    if started {
+        return asked;
+    }
+    match asked {
+        Asked::Start {
+            bid: _,
+            fitted: _,
+            forced: _,
+            stored: _,
+            save_count: _,
+        } => asked,
+        Asked::Lend { count: _ } => Asked::Bad,
+        Asked::Tick {
+            rail: _,
+            overcurrent: _,
+            sent: _,
+            count: _,
+        } => Asked::Bad,
+        Asked::Receive { room: _, count: _ } => Asked::Bad,
+        Asked::Look(_) => Asked::Bad,
+        Asked::Bad => Asked::Bad,
+    }
+}
+
+// Runs what a line asks for, with the bytes that it holds.
+pub fn run(bench: Bench, asked: Asked, held: &[u8], out: &mut [u8]) -> Ran
+    ensures { λ r. ⌜ left r (now (out .exit)) ≡ ranOf (now (out .entry)) bench (allowedOf (bench .started) asked) (now (held .entry)) ⌝ }
+{
+    match allowed(bench.started, asked) {
+        Asked::Start {
+            bid,
+            fitted,
+            forced,
+            stored,
+            save_count,
+        } => started(bench, bid, fitted, forced, stored, save_count, held, out),
+        Asked::Lend { count } => lent(bench, held, count, out),
+        Asked::Tick {
+            rail,
+            overcurrent,
+            sent,
+            count,
+        } => ticked(
+            bench,
+            rail,
+            overcurrent,
+            sent,
+            wire::first(held, count),
+            out,
+        ),
+        Asked::Receive { room, count } => received(bench, wire::first(held, count), room, out),
+        Asked::Look(look) => Ran {
+            bench,
+            printed: looked(bench.machine, look, out),
+        },
+        Asked::Bad => Ran {
+            bench,
+            printed: text(out, 0, b"bad\n"),
+        },
     }
 }

@@ -12,7 +12,7 @@ same-length c = search needs
 
 returns : tie.Need-returns
 unfolding madeText
-returns c = rw (c .before .before .before .before .before .if1 .taken) (c .before .before .reply .ensures)
+returns c = rw (c .before .before .before .before .if1 .taken) (c .before .before .reply .ensures)
 
 letter-requires : tie.Need-letter-requires
 letter-requires c κs = search needs

@@ -9,9 +9,6 @@ use Rattle.showing.proofs.tick_line.Tie as tie
 front-requires : tie.Need-front-requires
 front-requires c κs = search needs
 
-event-letter-requires : tie.Need-event-letter-requires
-event-letter-requires c κs = search needs
-
 letter-requires : tie.Need-letter-requires
 letter-requires c κs = search needs
 
@@ -29,14 +26,13 @@ same-length c = search needs
 
 returns : tie.Need-returns
 unfolding typed tickLine
-returns c = rw (c .before .before .put .ensures, c .before .before .before .before .before .before .made .ensures, c .before .before .before .before .before .before .before .before .before .before .letter2 .ensures, c .before .before .before .before .before .before .before .before .before .before .before .before .before .before .letter .ensures, c .before .before .before .before .before .before .before .before .before .before .before .before .before .before .before .before .before .before .before .front .ensures, c .before .before .before .before .before .before .before .before .before .before .before .before .before .before .before .event-letter .ensures) (simp typed-append)
+returns c = rw (c .before .before .put .ensures, c .before .before .before .before .before .before .made .ensures, c .before .before .before .before .before .before .before .before .before .before .letter2 .ensures, c .before .before .before .before .before .before .before .before .before .before .before .before .before .before .letter .ensures, c .before .before .before .before .before .before .before .before .before .before .before .before .before .before .before .before .before .before .front .ensures) (simp typed-append)
 
 pub tick-line-spec : {M : Type 1} → statement M
 tick-line-spec =
     tie.close
     (tie.spec
     front-requires
-    event-letter-requires
     letter-requires
     letter-requires-2
     made-requires

@@ -1,12 +1,12 @@
-use Prim.Native.Nat.{ℕ}
--- By the outcome. Assumes nothing.
-use mathlib.Core.Path.{ap, sym, _∙_}
-use Rattle.answers.specs.declared.Outcome.{Outcome}
-use Rattle.script.specs.Printing.{page, typed}
-use Rattle.showing.specs.Showing.{outcomeLine, tickLine}
+-- By what the tick tells. Assumes nothing.
+use Rattle.script.specs.Printing.{typed}
+use Rattle.showing.specs.Showing.{tickedLine}
 use borrow.Author.Needs.{needs}
 use Rattle.showing.proofs.ticked.Statement.{statement}
 use Rattle.showing.proofs.ticked.Tie as tie
+
+event-letter-requires : tie.Need-event-letter-requires
+event-letter-requires c κs = search needs
 
 enum-told : tie.Need-enum-told
 enum-told c = search needs
@@ -36,30 +36,28 @@ same-length : tie.Need-same-length
 same-length c = search needs
 
 returns : tie.Need-returns
-unfolding outcomeLine
-returns c = c .before .before .text .ensures ∙ ap (λ (o : Outcome). typed (page (c .before .before .before .before .before .before .before .before .args .out .now) 0) (outcomeLine o (c .before .before .before .before .before .before .before .before .args .t))) (sym (c .before .before .before .before .before .enum-told .given .1))
+unfolding tickedLine
+returns c = rw (c .before .before .before .before .before .enum-told .given .1) (c .before .before .text .ensures)
 
 same-length-2 : tie.Need-same-length-2
 same-length-2 c = search needs
 
 returns-2 : tie.Need-returns-2
-unfolding outcomeLine
-returns-2 c = c .before .before .tick-line .ensures ∙ ap (λ (o : Outcome). typed (page (c .before .before .before .before .before .before .before .args .out .now) 0) (outcomeLine o (c .before .before .before .before .before .before .before .args .t))) (sym (c .before .before .before .before .enum-told2 .given .1))
+unfolding tickedLine
+returns-2 c = rw (c .before .before .before .before .enum-told2 .given .1, c .before .before .tick-line .ensures, c .before .before .before .before .before .before .event-letter .ensures)
 
 same-length-3 : tie.Need-same-length-3
 same-length-3 c = search needs
 
 returns-3 : tie.Need-returns-3
-unfolding outcomeLine
-returns-3 c =
-    c .before .before .tick-line2 .ensures
-    ∙ ap (λ (d : ℕ). typed (page (c .before .before .before .before .before .before .before .before .before .args .out .now) 0) (tickLine d (c .before .before .before .before .before .before .before .before .before .args .t))) (c .before .before .before .before .answer-digit .ensures)
-    ∙ ap (λ (o : Outcome). typed (page (c .before .before .before .before .before .before .before .before .before .args .out .now) 0) (outcomeLine o (c .before .before .before .before .before .before .before .before .before .args .t))) (sym (c .before .before .before .before .before .before .outcome .given .1))
+unfolding tickedLine
+returns-3 c = rw (c .before .before .before .before .before .before .outcome .given .1, c .before .before .tick-line2 .ensures, c .before .before .before .before .answer-digit .ensures, c .before .before .before .before .before .before .before .before .event-letter .ensures)
 
 pub ticked-spec : {M : Type 1} → statement M
 ticked-spec =
     tie.close
     (tie.spec
+    event-letter-requires
     enum-told
     slice-aggregate-text
     text-requires

@@ -1,15 +1,11 @@
--- The tick is the board's, at the rail and with the words of the line. Assumes nothing.
-use mathlib.Core.Path.{_≡_, ap, _∙_}
+-- The tick is the machine's, at the rail and with the words of the line. Assumes nothing.
 use mir.Val.{SFits}
 use mir.Syntax.{w16}
 use mir.ValLaws.{toZ-ofZ}
-use Rattle.trial.specs.Lines.{shown, tickedOf}
+use Rattle.trial.specs.Benches.{shown, tickedOf}
 use borrow.Author.Needs.{needs}
 use Rattle.trial.proofs.ticked.Statement.{statement}
 use Rattle.trial.proofs.ticked.Tie as tie
-
-cast-twos16 : tie.Need-cast-twos16
-cast-twos16 c = search needs
 
 twos16-requires : tie.Need-twos16-requires
 twos16-requires c κs = search needs
@@ -31,8 +27,7 @@ same-length c = search needs
 
 returns : tie.Need-returns
 unfolding tickedOf
-returns c =
-    let f : SFits w16 (c .before .before .before .before .before .before .before .before .twos16 .result) = search needs in
+returns c = let f : SFits w16 (c .before .before .before .before .before .before .before .before .twos16 .result) = search needs in
     let e = rw (toZ-ofZ w16 (c .before .before .before .before .before .before .before .before .twos16 .result) f, c .before .before .before .before .before .before .before .before .twos16 .ensures, c .before .before .before .before .before .before .lent-part .ensures) at (c .before .before .before .before .before .tick .ensures) in
     rw (c .before .before .ticked .ensures, ← e)
 
@@ -40,7 +35,6 @@ pub ticked-spec : {M : Type 1} → statement M
 ticked-spec =
     tie.close
     (tie.spec
-    cast-twos16
     twos16-requires
     slice-aggregate-lent-part
     lent-part-requires

@@ -1,0 +1,159 @@
+-- What a line does: the bench after it, and what it prints. Characters are their ASCII codes: 10 ends a line.
+-- Assumes nothing: these are definitions.
+use Prim.Native.Nat.{ℕ, min}
+use mathlib.Core.Bool.{Bool, true, false, cond}
+use mathlib.Core.List.{List, [], _∷_, _++_}
+use lib.ListN.{length, take, replicate}
+use Rattle.wire.specs.Numbers.{signed}
+use Rattle.wire.specs.Replies.{found}
+use Rattle.wire.specs.declared.forms.Form.{Form}
+use Rattle.hex.specs.Hex.{laid}
+use Rattle.text.specs.Lines.{lineHeld, payloadIn}
+use Rattle.text.specs.Framing.{framedOf}
+use Rattle.text.specs.declared.reading.Line.{Line}
+use Rattle.image.specs.Image.{settingsOf}
+use Rattle.memory.specs.Memory.{emptyStore}
+use Rattle.memory.specs.declared.Store.{Store}
+use Rattle.state.specs.declared.parts.Profile.{Profile}
+use Rattle.state.specs.declared.starting.StartAnswer.{StartAnswer}
+use Rattle.unit.specs.Machine.{noMachine, begunOf, toldOf, heardOf, dueOf}
+use Rattle.unit.specs.declared.Machine.{Machine}
+use Rattle.unit.specs.declared.Begun.{Begun}
+use Rattle.unit.specs.declared.Told.{Told}
+use Rattle.unit.specs.declared.Heard.{Heard}
+use Rattle.script.specs.Printing.{Page, page, typed, hexOf}
+use Rattle.script.specs.Reading.{wordsOf}
+use Rattle.lines.specs.declared.Asked.{Asked}
+use Rattle.lines.specs.declared.Look.{Look}
+use Rattle.showing.specs.Showing.{tickedLine, stateLine}
+use Rattle.showing.specs.Speaking.{heardLine, framedLine}
+use Rattle.trial.specs.declared.Bench.{Bench}
+use Rattle.trial.specs.declared.Ran.{Ran}
+use Rattle.trial.specs.declared.Span.{Span}
+
+-- nothing was started, and no words were lent
+unfoldable pub emptyBench : Bench
+emptyBench = record { machine = noMachine; lent = replicate 256 0; «lent_count» = 0; started = false }
+
+-- a bench and a page
+pub data Shown : Type 0 where
+  shown : Bench → Page → Shown
+
+-- what a line left: its bench, and a buffer up to where it printed
+abbrev pub left : Ran → List ℕ → Shown
+left r held = shown (r .bench) (page held (r .printed))
+
+-- what it is to leave: a bench, and a text at the front of a buffer
+abbrev pub printed : List ℕ → Bench → List ℕ → Shown
+printed held b text = shown b (typed (page held 0) text)
+
+-- bad; ok; refused 8
+abbrev pub badText : List ℕ
+badText = 98 ∷ 97 ∷ 100 ∷ 10 ∷ []
+
+abbrev pub okText : List ℕ
+okText = 111 ∷ 107 ∷ 10 ∷ []
+
+abbrev pub refusedText : List ℕ
+refusedText = 114 ∷ 101 ∷ 102 ∷ 117 ∷ 115 ∷ 101 ∷ 100 ∷ 32 ∷ 56 ∷ 10 ∷ []
+
+-- ---- starting
+
+abbrev pub profileOf : ℕ → ℕ → ℕ → Profile
+profileOf bid fitted forced = record { fitted = fitted; forced = forced; bid = bid }
+
+-- settings stored under a save count, or nothing
+unfoldable pub storeOf : Bool → List ℕ → ℕ → Store
+storeOf stored image count = cond stored (record { settings = settingsOf image; «save_count» = count; held = true }) emptyStore
+
+-- an accepted machine is on the bench; where it is refused, the start tells the one that was there
+abbrev pub isThere : StartAnswer → Bool → Bool
+isThere StartAnswer.Accepted before = true
+isThere StartAnswer.ProfileBreaksARule before = before
+
+abbrev pub startText : StartAnswer → List ℕ
+startText StartAnswer.Accepted = okText
+startText StartAnswer.ProfileBreaksARule = refusedText
+
+unfoldable pub startedOf : List ℕ → Bench → Begun → Shown
+startedOf held bench s =
+    printed held
+    (record { machine = s .machine; lent = bench .lent; «lent_count» = bench .«lent_count»; started = isThere (s .answer) (bench .started) })
+    (startText (s .answer))
+
+-- ---- words and ticks
+
+-- words for the next tick
+abbrev pub withLent : List ℕ → ℕ → Bench → Bench
+withLent ws n bench = record { machine = bench .machine; lent = ws; «lent_count» = n; started = bench .started }
+
+-- a tick's machine, and no words any more, refused or not
+unfoldable pub tickedOf : List ℕ → Bench → Told → Shown
+tickedOf held bench t =
+    printed held
+    (record { machine = t .machine; lent = bench .lent; «lent_count» = 0; started = bench .started })
+    (tickedLine (t .outcome) (t .event) (t .replied) (t .machine .board))
+
+-- ---- the text line, with a scratch buffer or an output of so many bytes, all 0xEE before
+
+unfoldable pub blank : List ℕ
+blank = replicate 1024 0xEE
+
+-- where a command's payload lies
+abbrev pub spanOf : Line → Span
+spanOf (Line.Command start end behind) = record { start = start; end = end }
+spanOf (Line.Switch form behind) = record { start = 0; end = 0 }
+spanOf Line.NoFrame = record { start = 0; end = 0 }
+spanOf (Line.TooLong behind) = record { start = 0; end = 0 }
+spanOf (Line.NotOfForm behind) = record { start = 0; end = 0 }
+spanOf (Line.ScratchTooShort behind) = record { start = 0; end = 0 }
+
+unfoldable pub answerLine : Line → Form → List ℕ → List ℕ → List ℕ
+answerLine line form received scratch =
+    heardLine line (payloadIn form received scratch (spanOf line .start) (spanOf line .end)) scratch
+
+-- the machine after the read; what was read, by the form before it
+abbrev pub receivedBy : List ℕ → Bench → List ℕ → List ℕ → Heard → Shown
+receivedBy held bench received scratch heard =
+    printed held
+    (record { machine = heard .machine; lent = bench .lent; «lent_count» = bench .«lent_count»; started = bench .started })
+    (answerLine (heard .line) (heard .machine .board .form) received (lineHeld (bench .machine .board .form) received scratch))
+
+unfoldable pub receivedOf : List ℕ → Bench → List ℕ → List ℕ → Shown
+receivedOf held bench received scratch = receivedBy held bench received scratch (heardOf received (length scratch) (bench .machine))
+
+unfoldable pub framingLine : Machine → List ℕ → List ℕ
+framingLine m output = framedLine (framedOf (dueOf m) (length output)) (laid (dueOf m) output)
+
+-- ---- what changes nothing: a bus read, a framing, the state
+
+unfoldable pub readLine : Machine → ℕ → List ℕ
+readLine m count = hexOf (found (m .board .reply) (min count 1024)) ++ 10 ∷ []
+
+unfoldable pub lookLine : Machine → Look → List ℕ
+lookLine m (Look.Read count) = readLine m count
+lookLine m (Look.Frame room) = framingLine m (take room blank)
+lookLine m Look.Show = stateLine (m .board)
+
+-- ---- a line
+
+-- before a machine was started only a start is of a form
+unfoldable pub allowedOf : Bool → Asked → Asked
+allowedOf true asked = asked
+allowedOf false (Asked.Start bid fitted forced stored count) = Asked.Start bid fitted forced stored count
+allowedOf false (Asked.Lend count) = Asked.Bad
+allowedOf false (Asked.Tick rail overcurrent sent count) = Asked.Bad
+allowedOf false (Asked.Receive room count) = Asked.Bad
+allowedOf false (Asked.Look look) = Asked.Bad
+allowedOf false Asked.Bad = Asked.Bad
+
+-- what a line that asks for this does, with the bytes of its byte string, where its text goes into a buffer
+unfoldable pub ranOf : List ℕ → Bench → Asked → List ℕ → Shown
+ranOf held bench (Asked.Start bid fitted forced stored count) bytes =
+    startedOf held bench (begunOf (bench .machine) (profileOf bid fitted forced) (storeOf stored bytes count))
+ranOf held bench (Asked.Lend count) bytes = printed held (withLent (wordsOf 256 bytes) count bench) okText
+ranOf held bench (Asked.Tick rail overcurrent sent count) bytes =
+    tickedOf held bench (toldOf (signed 2 rail) overcurrent (take (bench .«lent_count») (bench .lent)) sent (take count bytes) (bench .machine))
+ranOf held bench (Asked.Receive room count) bytes = receivedOf held bench (take count bytes) (take room blank)
+ranOf held bench (Asked.Look look) bytes = printed held bench (lookLine (bench .machine) look)
+ranOf held bench Asked.Bad bytes = printed held bench badText
