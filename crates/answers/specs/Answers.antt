@@ -56,7 +56,7 @@ statOf InStartup = 0
 unfoldable pub receivedIn : List ℕ → Received
 receivedIn s = record { stid = stidOf s; ivid = ividOf s; code = codeOf s; bid = bidOf s }
 
--- the board's own STID, IVID and BID
+-- what the board itself is called by
 abbrev pub headerOf : Profile → Header
 headerOf p = record { stid = 0x11; ivid = 7; bid = p .bid }
 

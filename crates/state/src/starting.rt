@@ -84,7 +84,7 @@ fn keeps_the_rules(profile: Profile, store: Store) -> bool
     true
 }
 
-// A board of no profile, to stand where none was started yet: it has no channel and answers to no BID of a profile.
+// A board of no profile, to stand where none was started yet: it has no channel and the BID 0, which no profile has.
 pub fn unstarted() -> Board
     ensures { λ r. ⌜ r ≡ unstartedBoard ⌝ }
 {

@@ -1,4 +1,4 @@
--- A read gives each answer exactly when `GivenWhen` says; a switch is exactly its text; and what the scratch buffer and the payload are after each answer. Assumes nothing.
+-- A read gives each answer exactly when `GivenWhen` says, and a switch is exactly its text. Assumes nothing.
 use Prim.Native.Nat.{ℕ, _+_, _≤_, _<_}
 use mathlib.Core.Path.{_≡_, refl, ap, sym, _∙_}
 use mathlib.Core.Bool.{Bool, true, false, cond, _&&_}

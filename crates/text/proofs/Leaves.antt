@@ -6,7 +6,7 @@ use mathlib.Core.Bool.{Bool, true, false, cond}
 use mathlib.Core.Option.{Option, none, some}
 use mathlib.Core.List.{List, [], _∷_, _++_}
 use native.Mathlib.Omega.{arith}
-use lib.Dec.{leb, ltb}
+use lib.Dec.{eqb, leb, ltb}
 use lib.ListN.{length, take, drop}
 use lib.Seq.{take-at, drop-at}
 use borrow.Author.Tests.{le-ltb, le-leb}
@@ -122,22 +122,36 @@ payload-spelt s held start end behind p bytes q l =
 
 -- ---- numbers and places
 
--- 10 exactly where no frame is complete
-pub number-10 : (form : Form) (s : List ℕ) (room : ℕ) → lineNumber (lineOf form s room) ≡ 10 → Complete s → ⊥
-number-10 form s room e = go (lineOf form s room) e (given form s room)
+-- the refusal of a number, with the place that it tells
+abbrev pub refusal : ℕ → ℕ → Line
+refusal n behind = cond (eqb n 10) NoFrame (cond (eqb n 11) (TooLong behind) (cond (eqb n 12) (NotOfForm behind) (ScratchTooShort behind)))
+
+-- a number is told only where its line of `GivenWhen` holds
+pub number-given : (form : Form) (s : List ℕ) (room : ℕ) → (lineNumber (lineOf form s room) ≡ 0 → ⊥) → (behind : ℕ) × GivenWhen form s room (refusal (lineNumber (lineOf form s room)) behind)
+number-given form s room n = go (lineOf form s room) n (given form s room)
   where
-    go : (line : Line) → lineNumber line ≡ 10 → GivenWhen form s room line → Complete s → ⊥
-    go (Command start end behind) e g = absurd (omega arith)
-    go (Switch to behind) e g = absurd (omega arith)
-    go NoFrame e g = g
-    go (TooLong behind) e g = absurd (omega arith)
-    go (NotOfForm behind) e g = absurd (omega arith)
-    go (ScratchTooShort behind) e g = absurd (omega arith)
+    go : (line : Line) → (lineNumber line ≡ 0 → ⊥) → GivenWhen form s room line → (behind : ℕ) × GivenWhen form s room (refusal (lineNumber line) behind)
+    go (Command start end behind) n g = absurd (n refl)
+    go (Switch to behind) n g = absurd (n refl)
+    go NoFrame n g = (0, g)
+    go (TooLong behind) n g = (behind, g)
+    go (NotOfForm behind) n g = (behind, g)
+    go (ScratchTooShort behind) n g = (behind, g)
+
+-- and each line of it that holds gives its number
+pub given-number : (form : Form) (s : List ℕ) (room : ℕ) (line : Line) → GivenWhen form s room line → lineNumber (lineOf form s room) ≡ lineNumber line
+given-number form s room line g = sym (ap lineNumber (given-only form s room line g))
+
+-- so 10 is told exactly where no frame is complete
+pub number-10 : (form : Form) (s : List ℕ) (room : ℕ) → lineNumber (lineOf form s room) ≡ 10 → Complete s → ⊥
+number-10 form s room e =
+    let told = number-given form s room (λ z. absurd (omega (arith, e, z))) in
+    subst (λ (n : ℕ). GivenWhen form s room (refusal n (told .0))) e (told .1)
 
 pub incomplete-10 : (form : Form) (s : List ℕ) (room : ℕ) → (Complete s → ⊥) → lineNumber (lineOf form s room) ≡ 10
-incomplete-10 form s room n = sym (ap lineNumber (given-only form s room NoFrame n))
+incomplete-10 form s room n = given-number form s room NoFrame n
 
--- so it is where no opening tag stands, and where behind none of them a closing tag stands
+-- as where no opening tag stands, and where behind none of them a closing tag stands
 pub unopened-10 : (form : Form) (s : List ℕ) (room : ℕ) → ((place : ℕ) → StandsAt openingTag s place → ⊥) → lineNumber (lineOf form s room) ≡ 10
 unopened-10 form s room n = incomplete-10 form s room (λ c. n (c .opening) (c .opened))
 

@@ -62,7 +62,10 @@ module _ (tag s : List ℕ) (i : ℕ) where
       let f : startsWith tag (getD s i 0 ∷ drop (i + 1) s) ≡ false = rw (drop-step s i h) at e in
       rw (drop-step s i h, f)
 
--- ---- what a search's answer tells
+-- ---- what a search answers, and what its answer tells
+pub found-at : (tag s : List ℕ) (i behind : ℕ) → behind ≡ i + length tag → startsWith tag (drop i s) ≡ true → At i behind ≡ placeOf (length tag) (firstAt tag i (drop i s))
+found-at tag s i behind e t = rw (first-here tag s i t, e)
+
 pub known-nowhere : (n : ℕ) (o : Option ℕ) → placeOf n o ≡ Nowhere → o ≡ none
 known-nowhere n none e = refl
 known-nowhere n (some i) e = let z : _≡_ {A = ℕ} 0 1 = cc in absurd (omega arith)

@@ -1,4 +1,4 @@
--- What a frame is, said of every place and without a search: `Laws` proves that the search of `Frames` finds just this. Assumes nothing: these are definitions.
+-- What a frame is, said of every place and without a search: the laws in `Search` prove that the search of `Frames` finds just this. Assumes nothing: these are definitions.
 use Prim.Native.Nat.{ℕ, _+_, _≤_, _<_}
 use mathlib.Core.Path.{_≡_}
 use mathlib.Core.Bool.{true}

@@ -45,4 +45,4 @@ GivenWhen form s room (NotOfForm behind) =
 GivenWhen form s room (ScratchTooShort behind) =
     (start : ℕ) × (end : ℕ) × Plain s start end behind × (bytes : List ℕ) × Spelt (part start end s) bytes form × (room < length bytes)  -- 13
 GivenWhen form s room (Command from to behind) =
-    (start : ℕ) × (end : ℕ) × Plain s start end behind × Handed form (part start end s) room start end from to  -- 0
+    (start : ℕ) × (end : ℕ) × Plain s start end behind × Handed form (part start end s) room start end from to

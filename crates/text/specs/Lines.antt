@@ -88,7 +88,7 @@ heldBy (Found start end behind) form s held = switchHeld (switchOf (part start e
 unfoldable pub lineHeld : Form → List ℕ → List ℕ → List ℕ
 lineHeld form s held = heldBy (frameOf s) form s held
 
--- ---- the payload handed on: a part of what was received in raw form, of the scratch buffer in ASCII form
+-- ---- the payload handed on: in raw form a part of what was received, in ASCII form a part of the scratch buffer
 abbrev pub payloadIn : Form → List ℕ → List ℕ → ℕ → ℕ → List ℕ
 payloadIn Raw received scratch start end = part start end received
 payloadIn Ascii received scratch start end = part start end scratch

@@ -135,7 +135,7 @@ fn part(s: &[u8], start: usize, end: usize) -> &[u8]
     wire::first(wire::rest(s, start), end - start)
 }
 
-// The payload handed on: a part of what was received in raw form, and of the scratch buffer in ASCII form. Ends that do not fit are cut.
+// The payload handed on: in raw form a part of what was received, in ASCII form a part of the scratch buffer. Ends that do not fit are cut.
 pub fn payload<'a>(
     form: Form,
     received: &'a [u8],

@@ -43,7 +43,7 @@ begunOf there profile store = begunBy (startOf (there .board) profile store .ans
 
 -- ---- a tick
 
--- the reply made in this tick and still waiting is to be said
+-- a reply that the tick made and that no reset took is to be said
 abbrev pub dueBy : Bool → Due
 dueBy replied = cond replied Reply Nothing
 
@@ -83,6 +83,6 @@ heardBy line m = record { machine = afterLine line m; line = line }
 unfoldable pub heardOf : List ℕ → ℕ → Machine → Heard
 heardOf received room m = heardBy (lineOf (m .board .form) received room) m
 
--- what framing writes, by the form in force when it is called
+-- what framing writes: the form is the one that the machine then has
 unfoldable pub dueOf : Machine → List ℕ
 dueOf m = dueText (m .due) (m .board .form) (shown (m .board .reply))

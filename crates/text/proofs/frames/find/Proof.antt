@@ -9,7 +9,7 @@ use Prim.Native.Nat.{ℕ, _+_, _≤_, _-_}
 use mathlib.Core.Path.{_≡_, refl, sym, ap, _∙_}
 use lib.ListN.{length, drop}
 use Rattle.text.specs.Frames.{startsWith, firstAt, placeOf}
-use Rattle.text.proofs.Scanning.{starts-end, starts-same, starts-other, first-none, first-here, first-next}
+use Rattle.text.proofs.Scanning.{starts-end, starts-same, starts-other, first-none, first-next, found-at}
 use Rattle.text.proofs.frames.find.Statement.{statement}
 use Rattle.text.proofs.frames.find.Tie as tie
 use Rattle.text.proofs.frames.find.Reads as reads
@@ -104,12 +104,9 @@ returns-2 : tie.Need-returns-2 Inv-loop μ-loop Inv-places μ-places
 returns-2 c =
     let a = c .before .before .before .before .args in
     let l = c .before .loop in
-    let p = c .before .before .before .places in (
-      rw (c .if2 .taken)
-          (ap (placeOf (length (a .tag .now)))
-          (sym (first-here (a .tag .now) (a .s .now) (p .i)
-          (sym (l .inv .same) ∙ starts-end (a .tag .now) (a .s .now) (l .k) (p .i + l .k) (omega arith)))
-          ∙ p .inv .same)),
+    let p = c .before .before .before .places in
+    let stands = sym (l .inv .same) ∙ starts-end (a .tag .now) (a .s .now) (l .k) (p .i + l .k) (omega arith) in (
+      found-at (a .tag .now) (a .s .now) (p .i) _ (omega arith) stands ∙ ap (placeOf (length (a .tag .now))) (p .inv .same),
       omega arith,
     )
 

@@ -1,0 +1,213 @@
+-- A tick that happens tells that it had no transfer, or the transfer's answer, and never 9; the reply that it leaves as its own is one that it made; and it leaves the form of
+-- the text line, but for a reset. Assumes nothing.
+use Prim.Native.Nat.{ℕ}
+use mathlib.Core.Path.{_≡_, refl, ap, sym, subst, _∙_}
+use mathlib.Core.Bool.{Bool, true, false, cond, not, false≢true}
+use mathlib.Core.Logic.{_⊎_, inl, inr, ⊎-elim}
+use mathlib.Core.List.{List}
+use mathlib.Core.Option.{Option, none, some}
+use native.Mathlib.Omega.{arith}
+use lib.IntN.{ℤ}
+use lib.ListN.{length}
+use Rattle.modes.specs.Commands.{toSafety, toNominal}
+use Rattle.modes.specs.declared.Limits.{Limits}
+use Rattle.modes.specs.declared.Commanded as change
+use Rattle.watchdog.specs.Watchdog as dog
+use Rattle.watchdog.specs.declared.Event.{Event}
+use Rattle.watchdog.specs.declared.Event.the-variants.{NoEvent, PeripheralReset, WatchdogReset}
+use Rattle.channels.specs.declared.Channels.{Channels}
+use Rattle.command.specs.Decode.{fewerThanFour, codeOf, decodeOf}
+use Rattle.command.specs.declared.Command.{Command}
+use Rattle.command.specs.declared.Refusal.{Refusal}
+use Rattle.command.specs.declared.Decoded.{Decoded}
+use Rattle.command.specs.declared.Decoded.the-variants.{Run, Refused}
+use Rattle.memory.specs.Limits.{timeoutOf, limitsOf}
+use Rattle.memory.specs.Memory.{savedOf}
+use Rattle.wire.specs.declared.reply.Reply.{Reply}
+use Rattle.wire.specs.declared.forms.Form.the-variants.{Raw}
+use Rattle.state.specs.Parts.{modeOf, withReply}
+use Rattle.state.specs.Start.{freshOf, commandResetOf, watchdogResetOf}
+use Rattle.state.specs.declared.parts.Board.{Board}
+use Rattle.answers.specs.Answers.{numberOf, toldNumber, headerOf, acceptedWith, acceptedOf, refusedOf, notThisBoardOf}
+use Rattle.answers.specs.declared.Answer.{Answer}
+use Rattle.answers.specs.declared.Answer.the-variants.{Accepted, FewerThanFourBytes, InStartup, NotThisBoard, CodeNotListed, TooShort, NotAvailable, Wrong}
+use Rattle.answers.specs.declared.Outcome.{Outcome}
+use Rattle.answers.specs.declared.Outcome.the-variants.{WrongWordCount, NoTransfer, Answered}
+use Rattle.answers.specs.declared.Commanded.{Commanded}
+use Rattle.commands.specs.Effects.{isNominal, switchedOf, groupOnOf, groupOffOf, groupStateOf, channelOnOf, channelOffOf, cancelledOf, switchedModeOf, faultsOf, housekeepingOf, parameterOf, rememberedOf, savedIn, restartedOf, runOf}
+use Rattle.commands.specs.Step.{isStartup, turnedDown, decodedOf, transferredOf, commandedOf}
+use Rattle.board.specs.declared.Ticked.{Ticked}
+use Rattle.board.specs.Tick.{risenOf, changedOf, trippedOf, watchedAs, watchedIn, tickWith, allowedCount, tickOf}
+
+-- ---- every transfer is answered. Where a reply is made it is the same whatever reply r waited before; the form of the text line stays, but for a reset by command
+record Answers (b : Board) (c other : Commanded) : Type 0 where
+  answer : Answer
+  told-so : c .outcome ≡ Answered answer
+  own-reply : c .replied ≡ true → c .board .reply ≡ other .board .reply
+  form-kept : (c .board .form ≡ b .form) ⊎ (c .board ≡ commandResetOf b)
+
+replies : {b : Board} {c other : Commanded} (answer : Answer) → c .outcome ≡ Answered answer → c .board .reply ≡ other .board .reply → c .board .form ≡ b .form → Answers b c other
+replies answer t r f = record { answer = answer; told-so = t; own-reply = λ e. r; form-kept = inl f }
+
+silent : {b : Board} {c other : Commanded} (answer : Answer) → c .outcome ≡ Answered answer → c .replied ≡ false → c .board .form ≡ b .form → Answers b c other
+silent answer t q f = record { answer = answer; told-so = t; own-reply = λ e. absurd (false≢true (sym q ∙ e)); form-kept = inl f }
+
+either : (t : Bool) {b : Board} {x y x′ y′ : Commanded} → Answers b x x′ → Answers b y y′ → Answers b (cond t x y) (cond t x′ y′)
+either true p q = p
+either false p q = q
+
+module _ (r : Reply) where
+  switched : (code : ℕ) (right : Bool) (channels : Channels) (b : Board) → Answers b (switchedOf code right channels b) (switchedOf code right channels (withReply r b))
+  unfolding switchedOf refusedOf acceptedOf acceptedWith
+  switched code right channels b = either (not (isNominal (modeOf b))) (replies NotAvailable refl refl refl) (either (not right) (replies Wrong refl refl refl) (replies Accepted refl refl refl))
+
+  switched-mode : (code : ℕ) (c : change.Commanded) (b : Board) → Answers b (switchedModeOf code c b) (switchedModeOf code c (withReply r b))
+  unfolding switchedModeOf refusedOf acceptedOf acceptedWith
+  switched-mode code (change.Commanded.Accepted phase) b = replies Accepted refl refl refl
+  switched-mode code change.Commanded.Unavailable b = replies NotAvailable refl refl refl
+
+  run : (rail : ℤ) (limits : Limits) (code : ℕ) (c : Command) (b : Board) → Answers b (runOf rail limits code c b) (runOf rail limits code c (withReply r b))
+  unfolding runOf groupOnOf groupOffOf groupStateOf channelOnOf channelOffOf cancelledOf faultsOf housekeepingOf parameterOf rememberedOf savedIn restartedOf refusedOf acceptedOf acceptedWith
+  run rail limits code (Command.GroupOn g) b = switched code _ _ b
+  run rail limits code (Command.GroupOff g) b = switched code _ _ b
+  run rail limits code (Command.GroupState g) b = switched code _ _ b
+  run rail limits code (Command.ChannelOn one) b = switched code _ _ b
+  run rail limits code (Command.ChannelOff one) b = switched code _ _ b
+  run rail limits code Command.CancelOperation b = replies Accepted refl refl refl
+  run rail limits code Command.NoOperation b = replies Accepted refl refl refl
+  run rail limits code Command.Watchdog b = replies Accepted refl refl refl
+  run rail limits code Command.SwitchToSafety b = switched-mode code (toSafety (b .phase)) b
+  run rail limits code Command.SwitchToNominal b = switched-mode code (toNominal (b .phase) rail limits) b
+  run rail limits code Command.GetOvercurrentFaultState b = replies Accepted refl refl refl
+  run rail limits code Command.GetHousekeeping b = replies Accepted refl refl refl
+  run rail limits code (Command.GetParameter id) b = replies Accepted refl refl refl
+  run rail limits code (Command.SetParameter id v) b = replies Accepted refl refl refl
+  run rail limits code (Command.ResetParameter id) b = replies Accepted refl refl refl
+  run rail limits code Command.ResetConfiguration b = replies Accepted refl refl refl
+  run rail limits code Command.LoadConfiguration b = replies Accepted refl refl refl
+  run rail limits code (Command.SaveConfiguration given) b = either (not (savedOf given (b .memory) .right)) (replies Wrong refl refl refl) (replies Accepted refl refl refl)
+  run rail limits code Command.SystemReset b = record { answer = Accepted; told-so = refl; own-reply = λ e. absurd (false≢true e); form-kept = inr refl }
+
+  turned-down : (code : ℕ) (refusal : Refusal) (b : Board) → Answers b (turnedDown code refusal b) (turnedDown code refusal (withReply r b))
+  unfolding turnedDown notThisBoardOf refusedOf
+  turned-down code Refusal.FewerThanFourBytes b = silent FewerThanFourBytes refl refl refl
+  turned-down code Refusal.NotThisBoard b = replies NotThisBoard refl refl refl
+  turned-down code Refusal.CodeNotListed b = replies CodeNotListed refl refl refl
+  turned-down code Refusal.TooShort b = replies TooShort refl refl refl
+  turned-down code Refusal.WrongKey b = replies Wrong refl refl refl
+  turned-down code Refusal.WrongParameter b = replies Wrong refl refl refl
+  turned-down code Refusal.NotANumber b = replies Wrong refl refl refl
+
+  transferred : (rail : ℤ) (limits : Limits) (s : List ℕ) (b : Board) → Answers b (transferredOf rail limits s b) (transferredOf rail limits s (withReply r b))
+  unfolding transferredOf decodedOf
+  transferred rail limits s b =
+      either (fewerThanFour s) (silent FewerThanFourBytes refl refl refl)
+      (either (isStartup (modeOf b)) (silent InStartup refl refl refl)
+      (decoded (decodeOf (headerOf (b .profile)) s)))
+    where
+      decoded : (d : Decoded) → Answers b (decodedOf rail limits (codeOf s) d b) (decodedOf rail limits (codeOf s) d (withReply r b))
+      decoded (Run c) = run rail limits (codeOf s) c b
+      decoded (Refused refusal) = turned-down (codeOf s) refusal b
+
+-- ---- what holds of no transfer and of each answer holds of what the tick tells
+module _ (P : Outcome → Type 0) (quiet : P NoTransfer) (answers : (answer : Answer) → P (Answered answer)) where
+  commanded : (rail : ℤ) (limits : Limits) (sent : Bool) (s : List ℕ) (b : Board) → P (commandedOf rail limits sent s b .outcome)
+  unfolding commandedOf
+  commanded rail limits false s b = quiet
+  commanded rail limits true s b =
+      let w = transferred (b .reply) rail limits s b in
+      subst P (sym (w .told-so)) (answers (w .answer))
+
+  watched : (c : Commanded) → P (c .outcome) → P (watchedIn c .outcome)
+  unfolding watchedIn
+  watched c p = go (dog.watchedOf (c .board .timer) (dog.secondsInTicks (timeoutOf (c .board .memory))))
+    where
+      go : (e : Event) → P (watchedAs e c .outcome)
+      go NoEvent = p
+      go PeripheralReset = p
+      go WatchdogReset = p
+
+  pub told : (rail : ℤ) (named : ℕ) (words : List ℕ) (sent : Bool) (s : List ℕ) (b : Board) → allowedCount (length words) ≡ true → P (tickOf rail named words sent s b .outcome)
+  unfolding tickOf tickWith
+  told rail named words sent s b allowed =
+      let limits = limitsOf (b .memory) in
+      let settled = trippedOf named (changedOf rail limits (risenOf words b)) in
+      rw allowed (watched (commandedOf rail limits sent s settled) (commanded rail limits sent s settled))
+
+-- 9 is told exactly where the count of words is not allowed
+pub only-9 : (rail : ℤ) (named : ℕ) (words : List ℕ) (sent : Bool) (s : List ℕ) (b : Board) → allowedCount (length words) ≡ true → toldNumber (tickOf rail named words sent s b .outcome) ≡ some 9 → ⊥
+only-9 rail named words sent s b allowed = told (λ o. toldNumber o ≡ some 9 → ⊥) quiet answers rail named words sent s b allowed
+  where
+    quiet : toldNumber NoTransfer ≡ some 9 → ⊥
+    quiet e = let z : _≡_ {A = ℕ} 0 1 = cc in absurd (omega arith)
+
+    below : (answer : Answer) → numberOf answer ≡ 9 → ⊥
+    below Accepted e = absurd (omega arith)
+    below FewerThanFourBytes e = absurd (omega arith)
+    below InStartup e = absurd (omega arith)
+    below NotThisBoard e = absurd (omega arith)
+    below CodeNotListed e = absurd (omega arith)
+    below TooShort e = absurd (omega arith)
+    below NotAvailable e = absurd (omega arith)
+    below Wrong e = absurd (omega arith)
+
+    answers : (answer : Answer) → toldNumber (Answered answer) ≡ some 9 → ⊥
+    answers answer e = let n : numberOf answer ≡ 9 = cc in below answer n
+
+-- ---- the reply and the form
+made-in : (r : Reply) (rail : ℤ) (limits : Limits) (s : List ℕ) (b : Board) (sent : Bool) → commandedOf rail limits sent s b .replied ≡ true
+    → commandedOf rail limits sent s b .board .reply ≡ commandedOf rail limits sent s (withReply r b) .board .reply
+unfolding commandedOf
+made-in r rail limits s b false e = absurd (false≢true e)
+made-in r rail limits s b true e = transferred r rail limits s b .own-reply e
+
+-- a reset by command is in raw form
+formed-in : (rail : ℤ) (limits : Limits) (s : List ℕ) (b : Board) (sent : Bool) → (commandedOf rail limits sent s b .board .form ≡ b .form) ⊎ (commandedOf rail limits sent s b .board .form ≡ Raw)
+unfolding commandedOf commandResetOf freshOf
+formed-in rail limits s b false = inl refl
+formed-in rail limits s b true =
+    ⊎-elim
+    (λ (e : transferredOf rail limits s b .board .form ≡ b .form). inl e)
+    (λ (e : transferredOf rail limits s b .board ≡ commandResetOf b). inr (ap (λ (x : Board). x .form) e))
+    (transferred (b .reply) rail limits s b .form-kept)
+
+module _ (rail : ℤ) (named : ℕ) (words : List ℕ) (sent : Bool) (s : List ℕ) (b : Board) (allowed : allowedCount (length words) ≡ true) where
+  -- the board as the command finds it
+  abbrev pub found : Board
+  found = trippedOf named (changedOf rail (limitsOf (b .memory)) (risenOf words b))
+
+  abbrev obeyed : Commanded
+  obeyed = commandedOf rail (limitsOf (b .memory)) sent s found
+
+  abbrev happening : Event
+  happening = dog.watchedOf (obeyed .board .timer) (dog.secondsInTicks (timeoutOf (obeyed .board .memory)))
+
+  -- the reply of a tick that says it has one is what the command made, whatever reply r waited before it
+  pub own-reply : (r : Reply) → tickOf rail named words sent s b .replied ≡ true
+      → tickOf rail named words sent s b .board .reply ≡ commandedOf rail (limitsOf (b .memory)) sent s (withReply r found) .board .reply
+  unfolding tickOf tickWith watchedIn
+  own-reply r e = rw allowed (watching happening obeyed (rw allowed at e) (made-in r rail (limitsOf (b .memory)) s found sent))
+    where
+      watching : (w : Event) (c : Commanded) {kept : Reply} → watchedAs w c .replied ≡ true → (c .replied ≡ true → c .board .reply ≡ kept) → watchedAs w c .board .reply ≡ kept
+      watching NoEvent c e m = m e
+      watching PeripheralReset c e m = m e
+      watching WatchdogReset c e m = absurd (false≢true e)
+
+  -- the form stays, or is raw; it is raw after a reset by the watchdog
+  pub form-after : (tickOf rail named words sent s b .board .form ≡ b .form) ⊎ (tickOf rail named words sent s b .board .form ≡ Raw)
+  unfolding tickOf tickWith watchedIn risenOf changedOf trippedOf watchdogResetOf freshOf
+  form-after = rw allowed (watching happening obeyed (formed-in rail (limitsOf (b .memory)) s found sent))
+    where
+      watching : (w : Event) (c : Commanded) → (c .board .form ≡ b .form) ⊎ (c .board .form ≡ Raw) → (watchedAs w c .board .form ≡ b .form) ⊎ (watchedAs w c .board .form ≡ Raw)
+      watching NoEvent c f = f
+      watching PeripheralReset c f = f
+      watching WatchdogReset c f = inr refl
+
+  pub reset-form : tickOf rail named words sent s b .event ≡ WatchdogReset → tickOf rail named words sent s b .board .form ≡ Raw
+  unfolding tickOf tickWith watchedIn watchdogResetOf freshOf
+  reset-form e = rw allowed (watching happening obeyed (rw allowed at e))
+    where
+      watching : (w : Event) (c : Commanded) → watchedAs w c .event ≡ WatchdogReset → watchedAs w c .board .form ≡ Raw
+      watching NoEvent c e = let z : _≡_ {A = ℕ} 0 1 = cc in absurd (omega arith)
+      watching PeripheralReset c e = let z : _≡_ {A = ℕ} 0 1 = cc in absurd (omega arith)
+      watching WatchdogReset c e = refl
