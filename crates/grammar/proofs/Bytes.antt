@@ -9,8 +9,8 @@ use native.Mathlib.Numerals.{add-one}
 use native.Mathlib.Omega.{arith}
 use lib.Dec.{eqb}
 use lib.ListN.{length, drop, take, getD, List·getD-eq-default}
-use lib.Seq.{drop-cons}
-use borrow.Author.Tests.{eq-eqb, ne-eqb}
+use lib.Seq.{drop-cons, getD-drop}
+use borrow.Author.Tests.{eq-eqb, ne-eqb, eqb-true}
 use Rattle.laws.proofs.Lists.{drop-step, drop-end, lt-or-le, getD-any}
 use Rattle.grammar.specs.Grammar.{Read, fails, reads, on, peekAt, byte, end, text, firstFrom, partTo, upTo}
 
@@ -85,3 +85,32 @@ module _ (b : ℕ) (s : List ℕ) (at : ℕ) where
   pub upTo-never : firstFrom b at (drop at s) ≡ none → fails ≡ upTo b s at
   unfolding upTo
   upTo-never e = sym (ap (partTo s at) e)
+
+-- ---- what a search found: the byte itself stands at the place
+module _ (b : ℕ) where
+  record Stands (l : List ℕ) (i place : ℕ) : Type 0 where
+    k : ℕ
+    at : place ≡ i + k
+    here : getD l k 256 ≡ b
+
+  stands : (l : List ℕ) (i place : ℕ) → firstFrom b i l ≡ some place → Stands l i place
+  unfolding firstFrom
+  stands [] i place e = let z : _≡_ {A = ℕ} 0 1 = cc in absurd (omega arith)
+  stands (x ∷ l) i place e = go (eqb x b) refl e (stands l (i + 1) place)
+    where
+      go : (t : Bool) → eqb x b ≡ t → cond t (some i) (firstFrom b (i + 1) l) ≡ some place → (firstFrom b (i + 1) l ≡ some place → Stands l (i + 1) place)
+          → Stands (x ∷ l) i place
+      go true q e r = let p : i ≡ place = cc in record { k = 0; at = omega arith; here = eqb-true x b q }
+      go false q e r = let f = r e in record { k = suc (f .k); at = omega (arith, f .at); here = f .here }
+
+  -- so a byte b is read next
+  pub upTo-byte : (s : List ℕ) (at : ℕ) (xs : List ℕ) (place : ℕ) → upTo b s at ≡ reads xs place → byte b s place ≡ reads tt (place + 1)
+  unfolding upTo peekAt
+  upTo-byte s at xs place e = go (firstFrom b at (drop at s)) refl e
+    where
+      go : (o : Option ℕ) → firstFrom b at (drop at s) ≡ o → partTo s at o ≡ reads xs place → byte b s place ≡ reads tt (place + 1)
+      go none q e = let z : _≡_ {A = ℕ} 0 1 = cc in absurd (omega arith)
+      go (some j) q e =
+          let p : j ≡ place = cc in
+          let f = stands (drop at s) at j q in
+          byte-is b s place (ap (peekAt s) (sym p ∙ f .at) ∙ sym (getD-drop at s (f .k) 256) ∙ f .here)

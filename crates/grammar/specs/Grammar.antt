@@ -9,7 +9,6 @@ use lib.ListN.{length, getD, take, drop}
 
 infixl 20 _>>=_ _>>_
 infixr 10 _<|>_
-
 pub data Read (A : Type 0) : Type 0 where
   fails : Read A
   reads : A → ℕ → Read A

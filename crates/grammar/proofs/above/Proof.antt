@@ -6,11 +6,9 @@ use Rattle.grammar.proofs.above.Tie as tie
 use Rattle.grammar.proofs.above.Reads as reads
 use Rattle.grammar.proofs.above.Lts as lts
 
--- src/lib.rt:129:5
 cast-result : tie.Need-cast-result
 cast-result c = search needs
 
--- src/lib.rt:125:1
 returns : tie.Need-returns
 returns c = above-is (c .args .m) (c .pre)
 

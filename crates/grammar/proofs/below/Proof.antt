@@ -8,19 +8,15 @@ use Rattle.grammar.proofs.below.Tie as tie
 use Rattle.grammar.proofs.below.Reads as reads
 use Rattle.grammar.proofs.below.Lts as lts
 
--- src/lib.rt:138:12
 sub-result : tie.Need-sub-result
 sub-result c = search needs
 
--- src/lib.rt:138:11
 cast-result : tie.Need-cast-result
 cast-result c = search needs
 
--- src/lib.rt:138:5
 sub-result-2 : tie.Need-sub-result-2
 sub-result-2 c = rw (below-is (c .args .m - 1) (omega arith)) (record { sfits = omega arith })
 
--- src/lib.rt:134:1
 returns : tie.Need-returns
 returns c = kept _ _ (below-is (c .args .m - 1) (omega arith)) (omega arith)
 

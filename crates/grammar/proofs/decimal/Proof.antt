@@ -9,23 +9,18 @@ use Rattle.grammar.proofs.decimal.Reads as reads
 use Rattle.grammar.proofs.decimal.Lts as lts
 use Rattle.grammar.proofs.peek.Reads as peek-reads
 
--- src/lib.rt:70:9
 peek-requires : tie.Need-peek-requires
 peek-requires c κs = search needs
 
--- src/lib.rt:72:9
 returns : tie.Need-returns
 returns c = (sym (digit-low (c .before .before .before .args .s .now) (c .before .before .before .args .at) (omega arith)), λ h. absurd (omega arith))
 
--- src/lib.rt:75:9
 returns-2 : tie.Need-returns-2
 returns-2 c = (sym (digit-high (c .before .before .before .before .args .s .now) (c .before .before .before .before .args .at) (omega arith)), λ h. absurd (omega arith))
 
--- src/lib.rt:77:5
 cast-result : tie.Need-cast-result
 cast-result c = search needs
 
--- src/lib.rt:66:1
 returns-3 : tie.Need-returns-3
 returns-3 c = (omega (arith, digit-is (c .before .before .before .before .args .s .now) (c .before .before .before .before .args .at) (omega arith) (omega arith)), λ h. c .before .before .peek .ensures .1 .1 (omega arith))
 

@@ -22,37 +22,30 @@ Inv-loop s at b n i₀ i = Places b s at i
 abbrev μ-loop : tie.MeasureT-loop
 μ-loop s at b n i₀ i = length s - i
 
--- src/lib.rt:56:5
 loop-holds : tie.Need-loop-holds Inv-loop μ-loop
 loop-holds c = search needs
 
--- src/lib.rt:57:12
 shared-slice-read-if1 : tie.Need-shared-slice-read-if1 Inv-loop μ-loop
 shared-slice-read-if1 c = search needs
 
--- src/lib.rt:58:13
 returns : tie.Need-returns Inv-loop μ-loop
 returns c =
     let a = c .before .before .before .before .args in
     let l = c .before .before .before .loop in
     (upTo-place _ (a .s .now) (a .at) (l .i) (sym (l .inv .same) ∙ first-here _ (a .s .now) (l .i) (omega arith) (c .if1 .taken)), omega arith)
 
--- src/lib.rt:60:9
 add-i : tie.Need-add-i Inv-loop μ-loop
 add-i c = search needs
 
--- src/lib.rt:56:5
 loop-less : tie.Need-loop-less Inv-loop μ-loop
 loop-less c = search needs
 
--- src/lib.rt:56:5
 loop-again : tie.Need-loop-again Inv-loop μ-loop
 loop-again c =
     let a = c .before .before .before .before .args in
     let l = c .before .before .before .loop in
     record { past = omega arith; same = sym (first-next _ (a .s .now) (l .i) (omega arith) (c .if1 .left)) ∙ l .inv .same }
 
--- src/lib.rt:50:1
 returns-2 : tie.Need-returns-2 Inv-loop μ-loop
 returns-2 c =
     let a = c .before .before .args in

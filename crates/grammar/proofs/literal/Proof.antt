@@ -23,42 +23,33 @@ Inv-loop s at lit n i₀ k₀ i k = Bytes s at lit i k
 abbrev μ-loop : tie.MeasureT-loop
 μ-loop s at lit n i₀ k₀ i k = length lit - k
 
--- src/lib.rt:32:5
 loop-holds : tie.Need-loop-holds Inv-loop μ-loop
 loop-holds c = search needs
 
--- src/lib.rt:33:17
 shared-slice-read-b : tie.Need-shared-slice-read-b Inv-loop μ-loop
 shared-slice-read-b c = search needs
 
--- src/lib.rt:33:17
 cast-b : tie.Need-cast-b Inv-loop μ-loop
 cast-b c = omega (arith, c .shared-slice-known3 .given (c .before .before .loop .k))
 
--- src/lib.rt:34:12
 peek-requires : tie.Need-peek-requires Inv-loop μ-loop
 peek-requires c κs = search needs
 
--- src/lib.rt:35:13
 returns : tie.Need-returns Inv-loop μ-loop
 returns c =
     let l = c .before .before .before .before .loop in
     let a = c .before .before .before .before .before .before .before .args in
     sym (text-other (a .lit .now) (a .s .now) (l .k) (l .i) (omega arith) (λ q. c .if1 .taken (c .before .peek .ensures .0 ∙ q))) ∙ l .inv .same
 
--- src/lib.rt:37:9
 add-i : tie.Need-add-i Inv-loop μ-loop
 add-i c = omega (arith, c .before .peek .ensures .1 .1 (omega (arith, c .before .before .shared-slice-known3 .given (c .before .before .before .before .loop .k))))
 
--- src/lib.rt:38:9
 add-k : tie.Need-add-k Inv-loop μ-loop
 add-k c = search needs
 
--- src/lib.rt:32:5
 loop-less : tie.Need-loop-less Inv-loop μ-loop
 loop-less c = search needs
 
--- src/lib.rt:32:5
 loop-again : tie.Need-loop-again Inv-loop μ-loop
 loop-again c =
     let l = c .before .before .before .before .loop in
@@ -68,7 +59,6 @@ loop-again c =
       same = sym (text-same (a .lit .now) (a .s .now) (l .k) (l .i) (omega arith) (sym (c .before .peek .ensures .0) ∙ c .if1 .left)) ∙ l .inv .same;
     }
 
--- src/lib.rt:26:1
 returns-2 : tie.Need-returns-2 Inv-loop μ-loop
 returns-2 c =
     let l = c .before .loop in

@@ -8,21 +8,17 @@ use Rattle.grammar.proofs.peek.Tie as tie
 use Rattle.grammar.proofs.peek.Reads as reads
 use Rattle.grammar.proofs.peek.Lts as lts
 
--- src/lib.rt:16:23
 shared-slice-read-result : tie.Need-shared-slice-read-result
 shared-slice-read-result c = search needs
 
--- src/lib.rt:16:23
 cast-result : tie.Need-cast-result
 cast-result c = omega (arith, c .shared-slice-known .given (c .before .before .args .at))
 
--- src/lib.rt:11:1
 returns : tie.Need-returns
 returns c =
     let a = c .before .before .args in
     (peek-inside (a .s .now) (a .at) (omega arith), (omega (arith, c .shared-slice-known .given (a .at)), λ h. omega arith))
 
--- src/lib.rt:11:1
 returns-2 : tie.Need-returns-2
 returns-2 c = (sym (peek-past (c .before .args .s .now) (c .before .args .at) (omega arith)), (search needs, λ h. absurd (omega arith)))
 

@@ -25,51 +25,39 @@ Inv-loop s at limit first most v₀ i₀ v i = Spelt s at limit v i
 abbrev μ-loop : tie.MeasureT-loop
 μ-loop s at limit first most v₀ i₀ v i = length s - i
 
--- src/lib.rt:90:9
 decimal-requires : tie.Need-decimal-requires Inv-loop μ-loop
 decimal-requires c κs = search needs
 
--- src/lib.rt:92:9
 returns : tie.Need-returns Inv-loop μ-loop
 returns c = let a = c .before .before .before .args in number-none (a .limit) (a .s .now) (a .at) (omega arith)
 
--- src/lib.rt:95:23
 add-decimal : tie.Need-add-decimal Inv-loop μ-loop
 add-decimal c = omega (arith, c .before .before .decimal .ensures .1 (omega arith))
 
--- src/lib.rt:95:12
 decimal-requires-2 : tie.Need-decimal-requires-2 Inv-loop μ-loop
 decimal-requires-2 c κs = search needs
 
--- src/lib.rt:96:13
 returns-2 : tie.Need-returns-2 Inv-loop μ-loop
 returns-2 c = let a = c .before .before .before .before .before .before .args in number-led (a .limit) (a .s .now) (a .at) (omega arith) (omega arith)
 
--- src/lib.rt:100:19
 add-t11 : tie.Need-add-t11 Inv-loop μ-loop
 add-t11 c = omega (arith, c .before .before .before .before .decimal .ensures .1 (omega arith))
 
--- src/lib.rt:98:9
 returns-3 : tie.Need-returns-3 Inv-loop μ-loop
 returns-3 c = let a = c .before .before .before .before .before .before .args in number-zero (a .limit) (a .s .now) (a .at) (omega arith) (omega arith)
 
--- src/lib.rt:106:5
 loop-holds : tie.Need-loop-holds Inv-loop μ-loop
 loop-holds c = search needs
 
--- src/lib.rt:107:13
 decimal-requires-3 : tie.Need-decimal-requires-3 Inv-loop μ-loop
 decimal-requires-3 c κs = search needs
 
--- src/lib.rt:111:13
 mul-v : tie.Need-mul-v Inv-loop μ-loop
 mul-v c = search needs
 
--- src/lib.rt:111:13
 add-v : tie.Need-add-v Inv-loop μ-loop
 add-v c = search needs
 
--- src/lib.rt:113:13
 returns-4 : tie.Need-returns-4 Inv-loop μ-loop
 returns-4 c =
     let a = c .before .before .before .before .before .before .before .before .args in
@@ -78,15 +66,12 @@ returns-4 c =
     number-over (a .limit) s (a .at)
     (omega (arith, l .inv .same, spells-turn s (l .i) (l .v) (omega arith), spells-grows (l .v * 10 + digitAt s (l .i)) (digits (drop (l .i + 1) s))))
 
--- src/lib.rt:115:9
 add-i : tie.Need-add-i Inv-loop μ-loop
 add-i c = omega (arith, c .before .before .decimal3 .ensures .1 (omega arith))
 
--- src/lib.rt:106:5
 loop-less : tie.Need-loop-less Inv-loop μ-loop
 loop-less c = omega (arith, c .before .before .decimal3 .ensures .1 (omega arith))
 
--- src/lib.rt:106:5
 loop-again : tie.Need-loop-again Inv-loop μ-loop
 loop-again c =
     let s = c .before .before .before .before .before .before .before .before .args .s .now in
@@ -97,11 +82,9 @@ loop-again c =
       ends = omega (arith, l .inv .ends, ap length (more s (l .i) (omega arith)));
     }
 
--- src/lib.rt:118:16
 cast-t15 : tie.Need-cast-t15 Inv-loop μ-loop
 cast-t15 c = search needs
 
--- src/lib.rt:87:1
 returns-5 : tie.Need-returns-5 Inv-loop μ-loop
 returns-5 c =
     let a = c .before .before .before .before .before .before .before .args in

@@ -17,61 +17,47 @@ use Rattle.grammar.proofs.below.Reads as below-reads
 use Rattle.grammar.proofs.peek.Reads as peek-reads
 use Rattle.grammar.proofs.read_number.Reads as read-number-reads
 
--- src/lib.rt:151:8
 peek-requires : tie.Need-peek-requires
 peek-requires c κs = search needs
 
--- src/lib.rt:152:57
 add-read-number : tie.Need-add-read-number
 add-read-number c = omega (arith, c .before .peek .ensures .1 .1 (omega arith))
 
--- src/lib.rt:152:42
 read-number-requires : tie.Need-read-number-requires
 read-number-requires c κs = search needs
 
--- src/lib.rt:152:26
 enum-known-value : tie.Need-enum-known-value
 enum-known-value c = search needs
 
--- src/lib.rt:153:13
 enum-told : tie.Need-enum-told
 enum-told c = search needs
 
--- src/lib.rt:153:13
 returns : tie.Need-returns
 returns c = minus-fails (c .before .before .before .before .before .before .args .s .now) (c .before .before .before .before .before .before .args .at) (omega arith) (sym (c .before .before .read-number .ensures) ∙ ap seenNumber (c .enum-told .given .1))
 
--- src/lib.rt:156:13
 returns-2 : tie.Need-returns-2
 returns-2 c = minus-zero (c .before .before .before .before .before .before .before .before .args .s .now) (c .before .before .before .before .before .before .before .before .args .at) (omega arith) _ _ (sym (c .before .before .before .before .read-number .ensures) ∙ ap seenNumber (c .before .before .value .given .1)) (omega arith)
 
--- src/lib.rt:159:20
 below-requires : tie.Need-below-requires
 below-requires c κs =
     let m = number-most 32768 (c .before .before .before .before .before .before .before .before .args .s .now) (c .before .before .before .before .before .before .before .before .args .at + 1) _ _ (sym (c .before .before .before .before .read-number .ensures) ∙ ap seenNumber (c .before .before .value .given .1)) in
     omega arith
 
--- src/lib.rt:163:42
 read-number-requires-2 : tie.Need-read-number-requires-2
 read-number-requires-2 c κs = search needs
 
--- src/lib.rt:163:26
 enum-known-value-2 : tie.Need-enum-known-value-2
 enum-known-value-2 c = search needs
 
--- src/lib.rt:164:13
 enum-told-2 : tie.Need-enum-told-2
 enum-told-2 c = search needs
 
--- src/lib.rt:164:13
 returns-3 : tie.Need-returns-3
 returns-3 c = plus-fails (c .before .before .before .before .before .before .args .s .now) (c .before .before .before .before .before .before .args .at) (omega arith) (sym (c .before .before .read-number2 .ensures) ∙ ap seenNumber (c .enum-told2 .given .1))
 
--- src/lib.rt:167:20
 above-requires : tie.Need-above-requires
 above-requires c κs = number-most 32767 (c .before .before .before .before .before .before .before .args .s .now) (c .before .before .before .before .before .before .before .args .at) _ _ (sym (c .before .before .before .read-number2 .ensures) ∙ ap seenNumber (c .before .value2 .given .1))
 
--- src/lib.rt:148:1
 returns-4 : tie.Need-returns-4
 returns-4 c =
     let a = c .before .before .before .before .before .before .before .before .before .args in
@@ -81,7 +67,6 @@ returns-4 c =
     ap {B = Read ℤ} (λ (z : ℤ). reads z (v .0 .1 .0)) (kept (c .below .result) (negsuc (v .0 .0 - 1)) (c .below .ensures) (omega arith))
     ∙ minus-is (a .s .now) (a .at) (omega arith) _ _ e (omega arith)
 
--- src/lib.rt:148:1
 returns-5 : tie.Need-returns-5
 returns-5 c =
     let a = c .before .before .before .before .before .before .before .before .args in

@@ -26,69 +26,54 @@ Inv-loop s at v₀ i₀ left₀ v i left = Digits s at v i left
 abbrev μ-loop : tie.MeasureT-loop
 μ-loop s at v₀ i₀ left₀ v i left = left
 
--- src/lib.rt:186:5
 loop-holds : tie.Need-loop-holds Inv-loop μ-loop
 loop-holds c = search needs
 
--- src/lib.rt:187:13
 peek-requires : tie.Need-peek-requires Inv-loop μ-loop
 peek-requires c κs = search needs
 
--- src/lib.rt:189:13
 returns : tie.Need-returns Inv-loop μ-loop
 returns c =
     let l = c .before .before .before .loop in
     let s = c .before .before .before .before .before .args .s .now in
     sym (word-bad (l .left) (l .v) s (l .i) (omega arith) (past-bad _ (omega arith))) ∙ l .inv .same
 
--- src/lib.rt:191:45
 cast-digit : tie.Need-cast-digit Inv-loop μ-loop
 cast-digit c = search needs
 
--- src/lib.rt:191:34
 digit-requires : tie.Need-digit-requires Inv-loop μ-loop
 digit-requires c κs = search needs
 
--- src/lib.rt:191:29
 enum-known-d : tie.Need-enum-known-d Inv-loop μ-loop
 enum-known-d c = search needs
 
--- src/lib.rt:192:13
 enum-told : tie.Need-enum-told Inv-loop μ-loop
 enum-told c = search needs
 
--- src/lib.rt:192:13
 returns-2 : tie.Need-returns-2 Inv-loop μ-loop
 returns-2 c =
     let l = c .before .before .before .before .before .before .loop in
     let s = c .before .before .before .before .before .before .before .before .args .s .now in
     sym (word-bad (l .left) (l .v) s (l .i) (omega arith) (sym (ap digitOf (c .before .before .before .before .peek .ensures .0)) ∙ sym (c .before .before .digit .ensures .0) ∙ c .enum-told .given .1)) ∙ l .inv .same
 
--- src/lib.rt:194:13
 mul-v : tie.Need-mul-v Inv-loop μ-loop
 mul-v c = omega (arith, small (c .before .before .before .before .before .before .before .loop .left))
 
--- src/lib.rt:194:23
 cast-v : tie.Need-cast-v Inv-loop μ-loop
 cast-v c = search needs
 
--- src/lib.rt:194:13
 add-v : tie.Need-add-v Inv-loop μ-loop
 add-v c = omega (arith, small (c .before .before .before .before .before .before .before .loop .left), ap worth (c .before .d .given .1))
 
--- src/lib.rt:195:9
 add-i : tie.Need-add-i Inv-loop μ-loop
 add-i c = omega (arith, c .before .before .before .before .before .peek .ensures .1 .1 (omega arith))
 
--- src/lib.rt:196:9
 sub-left : tie.Need-sub-left Inv-loop μ-loop
 sub-left c = search needs
 
--- src/lib.rt:186:5
 loop-less : tie.Need-loop-less Inv-loop μ-loop
 loop-less c = search needs
 
--- src/lib.rt:186:5
 loop-again : tie.Need-loop-again Inv-loop μ-loop
 loop-again c =
     let l = c .before .before .before .before .before .before .before .loop in
@@ -101,11 +86,9 @@ loop-again c =
           ∙ l .inv .same;
     }
 
--- src/lib.rt:199:16
 cast-t13 : tie.Need-cast-t13 Inv-loop μ-loop
 cast-t13 c = omega (arith, small (c .before .loop .left))
 
--- src/lib.rt:180:1
 returns-3 : tie.Need-returns-3 Inv-loop μ-loop
 returns-3 c =
     let l = c .before .loop in
