@@ -1,8 +1,7 @@
 -- One byte, a literal and a search, one equation for each way that the code can go. Assumes nothing.
-use Prim.Native.Nat.{ℕ, zero, suc, _+_, _-_, _≤_, _<_}
+use Prim.Native.Nat.{ℕ, suc, _+_, _-_, _≤_, _<_}
 use mathlib.Core.Path.{_≡_, refl, ap, sym, _∙_}
 use mathlib.Core.Bool.{Bool, true, false, cond}
-use mathlib.Core.Logic.{⊎-elim}
 use mathlib.Core.Option.{Option, none, some}
 use mathlib.Core.List.{List, [], _∷_}
 use native.Mathlib.Numerals.{add-one}
@@ -11,8 +10,8 @@ use lib.Dec.{eqb}
 use lib.ListN.{length, drop, take, getD, List·getD-eq-default}
 use lib.Seq.{drop-cons, getD-drop}
 use borrow.Author.Tests.{eq-eqb, ne-eqb, eqb-true}
-use Rattle.laws.proofs.Lists.{drop-step, drop-end, lt-or-le, getD-any}
-use Rattle.grammar.specs.Grammar.{Read, fails, reads, on, peekAt, byte, end, text, firstFrom, partTo, upTo}
+use Rattle.laws.proofs.Lists.{drop-step, drop-end, getD-any}
+use Rattle.grammar.specs.Grammar.{fails, reads, peekAt, byte, end, text, firstFrom, partTo, upTo}
 
 -- ---- what stands at a place
 module _ (s : List ℕ) (i : ℕ) where

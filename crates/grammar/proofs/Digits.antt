@@ -1,11 +1,11 @@
 -- A number's digits, one equation for each way that the code can go. Assumes nothing.
-use Prim.Native.Nat.{ℕ, zero, suc, _+_, _-_, _*_, _≤_, _<_}
-use mathlib.Core.Path.{_≡_, refl, ap, sym, _∙_}
-use mathlib.Core.Bool.{Bool, true, false, cond, not, _&&_}
-use mathlib.Core.Logic.{_⊎_, inl, inr, ⊎-elim}
+use Prim.Native.Nat.{ℕ, _+_, _-_, _*_, _≤_, _<_}
+use mathlib.Core.Path.{_≡_, refl, ap, sym}
+use mathlib.Core.Bool.{Bool, true, false, cond, not}
+use mathlib.Core.Logic.{⊎-elim}
 use mathlib.Core.List.{List, [], _∷_}
 use native.Mathlib.Omega.{arith}
-use lib.Dec.{eqb, leb, leb·zero}
+use lib.Dec.{leb, leb·zero}
 use lib.ListN.{length, drop}
 use borrow.Author.Tests.{ne-eqb, le-leb, lt-leb, leb-true}
 use Rattle.hex.specs.Hex.{between}
@@ -83,10 +83,6 @@ plain-other : (d : ℕ) (ds : List ℕ) → (d ≡ 0 → ⊥) → plain (d ∷ d
 plain-other d [] n = refl
 plain-other d (e ∷ ds) n = ap not (ne-eqb d 0 n)
 
-and-false : (b : Bool) → b && false ≡ false
-and-false true = refl
-and-false false = refl
-
 -- ---- the answers
 module _ (limit : ℕ) (s : List ℕ) (i : ℕ) where
   pub number-none : 9 < digitAt s i → fails ≡ number limit s i
@@ -101,29 +97,27 @@ module _ (limit : ℕ) (s : List ℕ) (i : ℕ) where
   unfolding number
   number-led z h = rw (more s i (omega arith), z, more s (i + 1) h)
 
-  pub number-over : limit < spells 0 (digits (drop i s)) → fails ≡ number limit s i
-  unfolding number
-  number-over h = rw (lt-leb (spells 0 (digits (drop i s))) limit h, and-false (plain (digits (drop i s))))
+  -- a digit other than 0 in front
+  module _ (h : digitAt s i < 10) (n : digitAt s i ≡ 0 → ⊥) where
+    is-plain : plain (digits (drop i s)) ≡ true
+    is-plain = rw (more s i h) (plain-other (digitAt s i) (digits (drop (i + 1) s)) n)
 
-  pub number-is : (v j : ℕ) → digitAt s i < 10 → (digitAt s i ≡ 0 → ⊥) → v ≡ spells 0 (digits (drop i s)) → v ≤ limit → j ≡ i + length (digits (drop i s))
-      → reads v j ≡ number limit s i
-  unfolding number
-  number-is v j h n p m q =
-      let t : plain (digits (drop i s)) ≡ true = rw (more s i h) (plain-other (digitAt s i) (digits (drop (i + 1) s)) n) in
-      rw (p, q, t, le-leb (spells 0 (digits (drop i s))) limit (omega arith))
+    pub number-over : limit < spells 0 (digits (drop i s)) → fails ≡ number limit s i
+    unfolding number
+    number-over o = rw (is-plain, lt-leb (spells 0 (digits (drop i s))) limit o)
+
+    pub number-is : (v j : ℕ) → v ≡ spells 0 (digits (drop i s)) → v ≤ limit → j ≡ i + length (digits (drop i s)) → reads v j ≡ number limit s i
+    unfolding number
+    number-is v j p m q = rw (p, q, is-plain, le-leb (spells 0 (digits (drop i s))) limit (omega arith))
 
 -- ---- a number is at most its limit
-right : (a b : Bool) → a && b ≡ true → b ≡ true
-right true b e = e
-right false b e = let z : _≡_ {A = ℕ} 0 1 = cc in absurd (omega arith)
-
-within-most : (limit v j x k : ℕ) (t : Bool) → (t ≡ true → x ≤ limit) → cond {A = Read ℕ} t (reads x k) fails ≡ reads v j → v ≤ limit
-within-most limit v j x k true h e = let p : x ≡ v = cc in omega (arith, h refl)
-within-most limit v j x k false h e = let z : _≡_ {A = ℕ} 0 1 = cc in absurd (omega arith)
+most : (limit v j x k : ℕ) (plainly under : Bool) → (under ≡ true → x ≤ limit) → cond plainly (cond {A = Read ℕ} under (reads x k) fails) fails ≡ reads v j → v ≤ limit
+most limit v j x k true true h e = let p : x ≡ v = cc in omega (arith, h refl)
+most limit v j x k true false h e = let z : _≡_ {A = ℕ} 0 1 = cc in absurd (omega arith)
+most limit v j x k false under h e = let z : _≡_ {A = ℕ} 0 1 = cc in absurd (omega arith)
 
 pub number-most : (limit : ℕ) (s : List ℕ) (i v j : ℕ) → number limit s i ≡ reads v j → v ≤ limit
 unfolding number
 number-most limit s i v j e =
     let ds = digits (drop i s) in
-    within-most limit v j (spells 0 ds) (i + length ds) (plain ds && leb (spells 0 ds) limit)
-    (λ t. leb-true (spells 0 ds) limit (right (plain ds) (leb (spells 0 ds) limit) t)) e
+    most limit v j (spells 0 ds) (i + length ds) (plain ds) (leb (spells 0 ds) limit) (leb-true (spells 0 ds) limit) e

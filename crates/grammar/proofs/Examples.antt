@@ -1,7 +1,6 @@
 -- Numbers of the session sheet, computed. Characters are their ASCII codes. Assumes nothing.
-use Prim.Native.Nat.{ℕ}
 use mathlib.Core.Path.{_≡_, refl}
-use mathlib.Core.List.{List, [], _∷_}
+use mathlib.Core.List.{[], _∷_}
 use lib.IntN.{pos, negsuc}
 use Rattle.hex.specs.Hex.{between}
 use Rattle.grammar.specs.Grammar.{fails, reads, peekAt, byte, text, firstFrom, upTo}

@@ -3,24 +3,28 @@ use Prim.Native.Nat.{ℕ, zero, suc, _+_, _-_, _≤_, _<_}
 use mathlib.Core.Path.{_≡_, refl, ap, sym, _∙_}
 use mathlib.Core.List.{List}
 use native.Mathlib.Omega.{arith}
-use native.Mathlib.Nat.{zero-add}
-use lib.IntN.{ℤ, pos, negsuc, _-ℤ_}
+use lib.IntN.{ℤ, pos, negsuc}
 use mir.Syntax.{w16}
 use mir.Val.{toZ, ofZ}
 use mir.ValLaws.{toZ-ofZ}
 use lib.Signed.{mag}
-use borrow.Author.Tests.{lt-ltb}
-use Rattle.grammar.specs.Grammar.{Read, fails, reads, peekAt}
-use Rattle.grammar.specs.Numbers.{digitAt, number, signed}
+use Rattle.wire.specs.Numbers.{pattern, signed as twos}
+use Rattle.wire.proofs.TwosComplement.{signed-pattern}
+use Rattle.grammar.specs.Grammar.{fails, reads, peekAt}
+use Rattle.grammar.specs.Numbers.{number, signed}
 use Rattle.grammar.proofs.Bytes.{byte-is, byte-not}
 use Rattle.grammar.proofs.Digits.{digit-low, number-none}
 
-pub above-is : (m : ℕ) → m ≤ 32767 → toZ w16 m ≡ pos m
-above-is m h = simp (lt-ltb m 32768 (omega arith))
+-- ---- a magnitude as a pattern of 16 bits stands for the number
+pub pattern-above : (m : ℕ) → m < 32768 → twos 2 m ≡ pos m
+unfolding pattern
+pattern-above m h = signed-pattern w16 (pos m) (record { sfits = omega arith })
 
-pub below-is : (k : ℕ) → k ≤ 32767 → negsuc 0 -ℤ toZ w16 k ≡ negsuc k
-below-is zero h = refl
-below-is (suc n) h = rw (above-is (suc n) h) (ap (λ (z : ℕ). negsuc (suc z)) (zero-add n))
+pub pattern-below : (m : ℕ) → 0 < m → m ≤ 32768 → twos 2 (65536 - m) ≡ negsuc (m - 1)
+unfolding pattern
+pattern-below m p h =
+    let e : m - 1 + 1 ≡ m = omega arith in
+    rw e at (signed-pattern w16 (negsuc (m - 1)) (record { sfits = omega arith }))
 
 -- a signed value that lay in memory is what it was
 pub kept : (r z : ℤ) → r ≡ z → mag z < 32768 → toZ w16 (ofZ w16 r) ≡ z

@@ -1,6 +1,6 @@
 -- Parsers put together: what a caller's loop and its straight parts are made of. Assumes nothing.
 use Prim.Native.Nat.{ℕ, zero, suc, _-_, _<_}
-use mathlib.Core.Path.{_≡_, refl, ap, _∙_}
+use mathlib.Core.Path.{_≡_, refl}
 use mathlib.Core.List.{List, [], _∷_}
 use native.Mathlib.Omega.{arith}
 use Rattle.grammar.specs.Grammar.{Read, fails, reads, Parser, on, times}

@@ -1,6 +1,6 @@
 -- Hex digits, one after the other. Assumes nothing.
 use Prim.Native.Nat.{ℕ, zero, suc, _+_, _-_, _*_, _^_, _≤_, _<_}
-use mathlib.Core.Path.{_≡_, refl, ap, sym, _∙_}
+use mathlib.Core.Path.{_≡_, ap}
 use mathlib.Core.List.{List}
 use native.Mathlib.Omega.{arith}
 use lib.Pow.{pow-mono, pow-add}
@@ -8,7 +8,7 @@ use Rattle.hex.specs.Hex.{digitOf}
 use Rattle.hex.specs.declared.Hex.{Hex}
 use Rattle.hex.specs.declared.Hex.the-variants.{Value, Bad}
 use Rattle.hex.proofs.Tests.{between-high}
-use Rattle.grammar.specs.Grammar.{Read, fails, reads, on, peekAt}
+use Rattle.grammar.specs.Grammar.{fails, reads, on, peekAt}
 use Rattle.grammar.specs.Numbers.{valueAt, hexDigit, word}
 
 -- past the end stands no digit

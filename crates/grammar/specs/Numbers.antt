@@ -1,6 +1,6 @@
 -- The numbers of a text: decimal ones, with and without a sign, and hex ones. Assumes nothing: these are definitions.
 use Prim.Native.Nat.{ℕ, zero, suc, _+_, _-_, _*_}
-use mathlib.Core.Bool.{Bool, true, false, cond, not, _&&_}
+use mathlib.Core.Bool.{Bool, true, false, cond, not}
 use mathlib.Core.List.{List, [], _∷_}
 use lib.Dec.{eqb, leb}
 use lib.IntN.{ℤ, pos, negsuc}
@@ -8,7 +8,7 @@ use lib.ListN.{length, drop}
 use Rattle.hex.specs.Hex.{between, digitOf}
 use Rattle.hex.specs.declared.Hex.{Hex}
 use Rattle.hex.specs.declared.Hex.the-variants.{Value, Bad}
-use Rattle.grammar.specs.Grammar.{Read, fails, reads, Parser, on, _>>=_, _>>_, pure, either, _<|>_, peekAt, byte}
+use Rattle.grammar.specs.Grammar.{Read, fails, reads, Parser, _>>=_, _>>_, pure, _<|>_, peekAt, byte}
 
 -- ---- decimal
 
@@ -30,7 +30,7 @@ plain (d ∷ e ∷ ds) = not (eqb d 0)
 
 -- the number of digits that stand at i
 abbrev pub within : ℕ → ℕ → List ℕ → Read ℕ
-within limit i ds = cond (plain ds && leb (spells 0 ds) limit) (reads (spells 0 ds) (i + length ds)) fails
+within limit i ds = cond (plain ds) (cond (leb (spells 0 ds) limit) (reads (spells 0 ds) (i + length ds)) fails) fails
 
 -- all digits that stand here: a number of at most limit, without leading zeros
 unfoldable pub number : ℕ → Parser ℕ

@@ -1,7 +1,6 @@
 // The parts of which a sheet is put together, each read at a place of a text. A place may be any: past the end nothing is read.
 ghost use mathlib.Core.Path.{_≡_};
-ghost use Prim.Native.Nat.{_-_, _<_, _≤_};
-ghost use lib.IntN.{pos, negsuc};
+ghost use Prim.Native.Nat.{_<_, _≤_};
 ghost use lib.ListN.{length};
 ghost use Rattle.grammar.specs.Grammar.{peekAt, text, upTo};
 ghost use Rattle.grammar.specs.Numbers.{digitAt, number, signed, word};
@@ -120,31 +119,13 @@ pub fn read_number(s: &[u8], at: usize, limit: u32) -> Number
     }
 }
 
-// A magnitude as a number from 0 on.
-// argued: called by `read_signed` alone, with a number that it read up to this limit
-fn above(m: u32) -> i16
-    requires { ⌜ m ≤ 32767 ⌝ }
-    ensures { λ r. ⌜ r ≡ pos m ⌝ }
-{
-    m as i16
-}
-
-// A magnitude as a number below 0. The sum starts from -1, since 32768 itself has no place in the type.
-// argued: called by `read_signed` alone, with a number other than 0 that it read up to this limit
-fn below(m: u32) -> i16
-    requires { ⌜ (0 < m) × (m ≤ 32768) ⌝ }
-    ensures { λ r. ⌜ r ≡ negsuc (m - 1) ⌝ }
-{
-    -1 - ((m - 1) as i16)
-}
-
 // A number with a sign and the place behind it.
 pub enum Signed {
     Is { value: i16, next: usize },
     Not,
 }
 
-// A number from -32768 to 32767, with a - in front if it is below 0.
+// A number from -32768 to 32767, with a - in front if it is below 0: a magnitude of 32768 has no place in the type, so that it is taken as a pattern.
 pub fn read_signed(s: &[u8], at: usize) -> Signed
     ensures { λ r. ⌜ seenSigned r ≡ signed (now (s .entry)) at ⌝ }
 {
@@ -156,7 +137,7 @@ pub fn read_signed(s: &[u8], at: usize) -> Signed
             return Signed::Not;
         }
         Signed::Is {
-            value: below(value),
+            value: wire::twos16((65536 - value) as u16),
             next,
         }
     } else {
@@ -164,7 +145,7 @@ pub fn read_signed(s: &[u8], at: usize) -> Signed
             return Signed::Not;
         };
         Signed::Is {
-            value: above(value),
+            value: wire::twos16(value as u16),
             next,
         }
     }

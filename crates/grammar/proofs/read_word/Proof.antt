@@ -1,8 +1,8 @@
 -- `read_word` meets its contract. The invariant: the digits that are left, behind those that spelt v, spell what all eight do. Assumes nothing.
 use borrow.Author.Needs.{needs}
 use native.Mathlib.Omega.{arith}
-use Prim.Native.Nat.{ℕ, _+_, _*_, _^_, _≤_, _<_, _-_}
-use mathlib.Core.Path.{_≡_, refl, sym, ap, _∙_}
+use Prim.Native.Nat.{ℕ, _*_, _^_, _≤_, _<_, _-_}
+use mathlib.Core.Path.{_≡_, sym, ap, _∙_}
 use mathlib.Core.List.{List}
 use Rattle.hex.specs.Hex.{digitOf}
 use Rattle.hex.specs.Passes.{worth}
