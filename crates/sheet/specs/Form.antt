@@ -90,10 +90,10 @@ pub data Transfer : Type 0 where
   silence : Transfer
   bytes : List ℕ → Transfer
 
--- what a command's text spells, of at most so many bytes
-abbrev pub spells : ℕ → Option (List ℕ) → Parser Transfer
-spells most none s i = fails
-spells most (some bs) s i = cond (leb (length bs) most) (reads (bytes bs) i) fails
+-- the bytes that a command spells, of at most so many, where it ends before a place
+abbrev pub spells : ℕ → Option (List ℕ) → ℕ → Read Transfer
+spells most none i = fails
+spells most (some bs) i = cond (leb (length bs) most) (reads (bytes bs) i) fails
 
 -- `-`, or pairs of hex digits as on the text line; then the line's end
 unfoldable pub command : ℕ → Parser Transfer
@@ -102,7 +102,7 @@ command most =
     <|> (do
       t ← upTo 10
       byte 10
-      spells most (payloadOf t))
+      λ s. spells most (payloadOf t))
 
 pub record Tick : Type 0 where
   pub rail : ℤ

@@ -38,8 +38,8 @@ enum Command {
 
 // The bytes of a transfer, from the text of a command, into the front of a buffer.
 fn spelt(text: &[u8], next: usize, transfer: &mut [u8]) -> Command
-    ensures answer { λ r. ⌜ r ≡ commandOf (spells (length (now (transfer .entry))) (payloadOf (now (text .entry))) (now (text .entry)) next) ⌝ }
-    ensures held { λ _. ⌜ now (transfer .exit) ≡ commandHeld (spells (length (now (transfer .entry))) (payloadOf (now (text .entry))) (now (text .entry)) next) (now (transfer .entry)) ⌝ }
+    ensures answer { λ r. ⌜ r ≡ commandOf (spells (length (now (transfer .entry))) (payloadOf (now (text .entry))) next) ⌝ }
+    ensures held { λ _. ⌜ now (transfer .exit) ≡ commandHeld (spells (length (now (transfer .entry))) (payloadOf (now (text .entry))) next) (now (transfer .entry)) ⌝ }
 {
     match hex::read(text, transfer) {
         Payload::Bytes(count) => Command::Is {
