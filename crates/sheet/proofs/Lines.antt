@@ -1,0 +1,56 @@
+-- A tick line, one equation for each way that the code can go. Assumes nothing.
+use Prim.Native.Nat.{ℕ}
+use mathlib.Core.Path.{_≡_, refl, sym, ap, _∙_}
+use mathlib.Core.Bool.{Bool, true, false, cond}
+use mathlib.Core.Option.{Option, none, some}
+use mathlib.Core.List.{List, [], _++_}
+use lib.Dec.{leb}
+use lib.IntN.{ℤ}
+use lib.ListN.{length, drop}
+use Rattle.hex.specs.Hex.{readOf, laid, heldAfter}
+use Rattle.hex.specs.declared.Payload.{Payload}
+use Rattle.hex.specs.declared.Payload.the-variants.{Bytes, NotOfForm, TooShort}
+use Rattle.grammar.specs.Grammar.{Read, fails, reads, on}
+use Rattle.sheet.specs.Form.{Transfer, silence, bytes, spells, Tick}
+use Rattle.sheet.specs.Answers.{commandOf, commandHeld, tickOf, tickHeld}
+use Rattle.sheet.specs.declared.ticks.TickLine.{TickLine}
+use Rattle.sheet.specs.declared.ticks.Command.{Command}
+
+-- ---- what a command spells, by what the read of its text answered
+abbrev pub commandBy : ℕ → Payload → Command
+commandBy next (Bytes count) = Command.Is true count next
+commandBy next NotOfForm = Command.Not
+commandBy next TooShort = Command.Not
+
+pub spells-told : (o : Option (List ℕ)) (room next : ℕ) → commandBy next (readOf o room) ≡ commandOf (spells room o next)
+spells-told none room next = refl
+spells-told (some bs) room next = go (leb (length bs) room)
+  where
+    go : (t : Bool) → commandBy next (cond t (Bytes (length bs)) TooShort) ≡ commandOf (cond t (reads (bytes bs) next) fails)
+    go true = refl
+    go false = refl
+
+pub spells-held : (o : Option (List ℕ)) (next : ℕ) (held : List ℕ) → heldAfter o held ≡ commandHeld (spells (length held) o next) held
+spells-held none next held = refl
+spells-held (some bs) next held = go (leb (length bs) (length held)) refl
+  where
+    go : (t : Bool) → leb (length bs) (length held) ≡ t → cond t (bs ++ drop (length bs) held) held ≡ commandHeld (cond t (reads (bytes bs) next) fails) held
+    go true e = rw e
+    go false e = refl
+
+-- ---- a tick line, by what the read of its command answered
+abbrev pub tickBy : ℤ → ℕ → Command → TickLine
+tickBy rail overcurrent (Command.Is sent count next) = TickLine.Is rail overcurrent sent count next
+tickBy rail overcurrent Command.Not = TickLine.Not
+
+module _ (rail : ℤ) (overcurrent : ℕ) where
+  abbrev pub tickWith : Read Transfer → Read Tick
+  tickWith r = on r (λ t j. reads (record { rail = rail; overcurrent = overcurrent; transfer = t }) j)
+
+  pub tick-told : (r : Read Transfer) → tickBy rail overcurrent (commandOf r) ≡ tickOf (tickWith r)
+  tick-told fails = refl
+  tick-told (reads t j) = refl
+
+  pub tick-held : (r : Read Transfer) (held : List ℕ) → commandHeld r held ≡ tickHeld (tickWith r) held
+  tick-held fails held = refl
+  tick-held (reads t j) held = refl

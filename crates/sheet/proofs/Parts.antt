@@ -1,0 +1,69 @@
+-- What stands before the ticks, one equation for each way that the code can go. Assumes nothing.
+use Prim.Native.Nat.{ℕ, zero, suc, _+_, _-_, _≤_, _<_}
+use mathlib.Core.Path.{_≡_, refl, sym, ap, _∙_}
+use mathlib.Core.List.{List, [], _∷_}
+use native.Mathlib.Omega.{arith}
+use lib.Dec.{leb}
+use borrow.Author.Tests.{le-leb, lt-leb}
+use Rattle.channels.specs.Sets.{withChannel}
+use Rattle.grammar.specs.Grammar.{Read, fails, reads, on, byte, text}
+use Rattle.grammar.specs.Numbers.{number}
+use Rattle.sheet.specs.Form.{gap, channelsFrom, channelList}
+
+-- ---- a literal of one byte
+alone : (r : Read (Unit {0})) → on r (λ u j. reads tt j) ≡ r
+alone fails = refl
+alone (reads tt j) = refl
+
+pub text-one : (b : ℕ) (s : List ℕ) (i : ℕ) → text (b ∷ []) s i ≡ byte b s i
+unfolding text
+text-one b s i = alone (byte b s i)
+
+-- ---- behind a channel
+module _ (left : ℕ) (s : List ℕ) (i : ℕ) where
+  pub gap-last : left ≡ 0 → text (10 ∷ []) s i ≡ gap left s i
+  unfolding gap
+  gap-last e = rw e (text-one 10 s i)
+
+pub gap-more : (left : ℕ) (s : List ℕ) (i : ℕ) → (left ≡ 0 → ⊥) → text (32 ∷ []) s i ≡ gap left s i
+unfolding gap
+gap-more zero s i n = absurd (n refl)
+gap-more (suc left) s i n = text-one 32 s i
+
+-- ---- channels that rise, a turn each
+module _ (set : ℕ) (s : List ℕ) where
+  pub channels-end : (n least i : ℕ) → n ≡ 0 → channelsFrom n least set s i ≡ reads set i
+  unfolding channelsFrom
+  channels-end n least i e = rw e
+
+  pub channels-none : (n least i : ℕ) → 0 < n → number 31 s i ≡ fails → channelsFrom n least set s i ≡ fails
+  unfolding channelsFrom
+  channels-none zero least i h e = absurd (omega arith)
+  channels-none (suc n) least i h e = rw e
+
+  pub channels-low : (n least i c j : ℕ) → 0 < n → number 31 s i ≡ reads c j → c < least → channelsFrom n least set s i ≡ fails
+  unfolding channelsFrom
+  channels-low zero least i c j h e l = absurd (omega arith)
+  channels-low (suc n) least i c j h e l = rw (e, lt-leb least c l)
+
+  pub channels-apart : (n least i c j : ℕ) → 0 < n → number 31 s i ≡ reads c j → least ≤ c → gap (n - 1) s j ≡ fails → channelsFrom n least set s i ≡ fails
+  unfolding channelsFrom
+  channels-apart zero least i c j h e l g = absurd (omega arith)
+  channels-apart (suc n) least i c j h e l g =
+      let m : suc n - 1 ≡ n = omega arith in
+      rw (e, le-leb least c l, rw m at g)
+
+  -- the next one is to be higher than this one
+  pub channels-more : (n least i c j k : ℕ) → 0 < n → number 31 s i ≡ reads c j → least ≤ c → gap (n - 1) s j ≡ reads tt k → (next : ℕ) → next ≡ c + 1
+      → channelsFrom n least set s i ≡ channelsFrom (n - 1) next (withChannel set c) s k
+  unfolding channelsFrom
+  channels-more zero least i c j k h e l g next q = absurd (omega arith)
+  channels-more (suc n) least i c j k h e l g next q =
+      let m : suc n - 1 ≡ n = omega arith in
+      rw (m, q, e, le-leb least c l, rw m at g)
+
+-- ---- a list that is not empty
+pub list-some : (n : ℕ) (s : List ℕ) (i : ℕ) → (n ≡ 0 → ⊥) → channelList n s i ≡ channelsFrom n 0 0 s i
+unfolding channelList
+list-some zero s i n = absurd (n refl)
+list-some (suc n) s i _ = refl

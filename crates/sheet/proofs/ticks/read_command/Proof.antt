@@ -1,0 +1,92 @@
+use borrow.Author.Needs.{needs}
+use Rattle.sheet.proofs.ticks.read_command.Statement.{statement}
+use Rattle.sheet.proofs.ticks.read_command.Tie as tie
+use Rattle.sheet.proofs.ticks.read_command.Reads as reads
+use Rattle.sheet.proofs.ticks.read_command.Lts as lts
+use Rattle.grammar.proofs.find_byte.Reads as find-byte-reads
+use Rattle.grammar.proofs.literal.Reads as literal-reads
+use Rattle.sheet.proofs.ticks.spelt.Reads as spelt-reads
+
+-- src/ticks.rt:60:44
+slice-aggregate-literal : tie.Need-slice-aggregate-literal
+slice-aggregate-literal c = search needs
+
+-- src/ticks.rt:60:29
+literal-requires : tie.Need-literal-requires
+literal-requires c κs = search needs
+
+-- src/ticks.rt:60:21
+enum-known-next : tie.Need-enum-known-next
+enum-known-next c = search needs
+
+-- src/ticks.rt:61:9
+returns : tie.Need-returns
+returns c = ?
+
+enum-told : tie.Need-enum-told
+enum-told c = search needs
+
+-- src/ticks.rt:67:26
+find-byte-requires : tie.Need-find-byte-requires
+find-byte-requires c κs = search needs
+
+-- src/ticks.rt:67:19
+enum-known-end : tie.Need-enum-known-end
+enum-known-end c = search needs
+
+-- src/ticks.rt:68:9
+enum-told-2 : tie.Need-enum-told-2
+enum-told-2 c = search needs
+
+-- src/ticks.rt:68:9
+returns-2 : tie.Need-returns-2
+returns-2 c = ?
+
+-- src/ticks.rt:70:11
+sub-spelt : tie.Need-sub-spelt
+sub-spelt c = ?
+
+-- src/ticks.rt:70:11
+part-spelt-start : tie.Need-part-spelt-start
+part-spelt-start c = ?
+
+-- src/ticks.rt:70:11
+part-spelt-end : tie.Need-part-spelt-end
+part-spelt-end c = ?
+
+-- src/ticks.rt:70:24
+add-spelt : tie.Need-add-spelt
+add-spelt c = ?
+
+-- src/ticks.rt:70:5
+spelt-requires : tie.Need-spelt-requires
+spelt-requires c κs = search needs
+
+-- src/ticks.rt:56:1
+same-length : tie.Need-same-length
+same-length c = search needs
+
+-- src/ticks.rt:56:1
+returns-3 : tie.Need-returns-3
+returns-3 c = ?
+
+pub read-command-spec : {M : Type 1} → statement M
+read-command-spec =
+    tie.close
+    (tie.spec
+    slice-aggregate-literal
+    literal-requires
+    enum-known-next
+    returns
+    enum-told
+    find-byte-requires
+    enum-known-end
+    enum-told-2
+    returns-2
+    sub-spelt
+    part-spelt-start
+    part-spelt-end
+    add-spelt
+    spelt-requires
+    same-length
+    returns-3)

@@ -1,0 +1,61 @@
+use borrow.Author.Needs.{needs}
+use Rattle.sheet.proofs.ticks.spelt.Statement.{statement}
+use Rattle.sheet.proofs.ticks.spelt.Tie as tie
+use Rattle.sheet.proofs.ticks.spelt.Reads as reads
+use Rattle.sheet.proofs.ticks.spelt.Lts as lts
+use Rattle.hex.proofs.read.Reads as read-reads
+
+-- src/ticks.rt:44:11
+read-requires : tie.Need-read-requires
+read-requires c κs = search needs
+
+-- src/ticks.rt:45:24
+enum-known-count : tie.Need-enum-known-count
+enum-known-count c = search needs
+
+-- src/ticks.rt:50:31
+enum-told : tie.Need-enum-told
+enum-told c = search needs
+
+-- src/ticks.rt:51:30
+enum-told-2 : tie.Need-enum-told-2
+enum-told-2 c = search needs
+
+-- src/ticks.rt:40:1
+same-length : tie.Need-same-length
+same-length c = search needs
+
+-- src/ticks.rt:40:1
+returns : tie.Need-returns
+returns c = ?
+
+-- src/ticks.rt:40:1
+same-length-2 : tie.Need-same-length-2
+same-length-2 c = search needs
+
+-- src/ticks.rt:40:1
+returns-2 : tie.Need-returns-2
+returns-2 c = ?
+
+-- src/ticks.rt:40:1
+same-length-3 : tie.Need-same-length-3
+same-length-3 c = search needs
+
+-- src/ticks.rt:40:1
+returns-3 : tie.Need-returns-3
+returns-3 c = ?
+
+pub spelt-spec : {M : Type 1} → statement M
+spelt-spec =
+    tie.close
+    (tie.spec
+    read-requires
+    enum-known-count
+    enum-told
+    enum-told-2
+    same-length
+    returns
+    same-length-2
+    returns-2
+    same-length-3
+    returns-3)
