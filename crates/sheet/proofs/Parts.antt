@@ -8,7 +8,9 @@ use borrow.Author.Tests.{le-leb, lt-leb}
 use Rattle.channels.specs.Sets.{withChannel}
 use Rattle.grammar.specs.Grammar.{Read, fails, reads, on, byte, text}
 use Rattle.grammar.specs.Numbers.{number}
-use Rattle.sheet.specs.Form.{gap, channelsFrom, channelList}
+use Rattle.grammar.proofs.Digits.{number-most}
+use Rattle.sheet.specs.Form.{count, gap, channelsFrom, channelList}
+use Rattle.sheet.proofs.Behind.{went}
 
 -- ---- a literal of one byte
 alone : (r : Read (Unit {0})) → on r (λ u j. reads tt j) ≡ r
@@ -18,6 +20,17 @@ alone (reads tt j) = refl
 pub text-one : (b : ℕ) (s : List ℕ) (i : ℕ) → text (b ∷ []) s i ≡ byte b s i
 unfolding text
 text-one b s i = alone (byte b s i)
+
+-- ---- a count is at most its limit
+pub count-most : (name : List ℕ) (limit : ℕ) (s : List ℕ) (i v j : ℕ) → count name limit s i ≡ reads v j → v ≤ limit
+unfolding count
+count-most name limit s i v j e =
+    let w = went (text name s i) _ v j e in
+    let n = went (number limit s (w .place)) _ v j (w .onward) in
+    let u = went (byte 10 s (n .place)) (λ b k. reads (n .what) k) v j (n .onward) in
+    let m = number-most limit s (w .place) (n .what) (n .place) (n .first) in
+    let same : n .what ≡ v = cc in
+    omega (arith, m)
 
 -- ---- behind a channel
 module _ (left : ℕ) (s : List ℕ) (i : ℕ) where

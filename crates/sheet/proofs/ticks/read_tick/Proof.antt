@@ -138,9 +138,10 @@ returns-5 c =
       sym (text-one 32 _ _) ∙ sym (c .before .before .before .before .before .before .before .before .before .before .before .before .before .before .before .before .before .before .literal .ensures) ∙ ap seenNext (c .before .before .before .before .before .before .before .before .before .before .before .before .before .before .before .before .set-at .given .1),
       sym (c .before .before .before .before .before .before .before .before .before .before .before .before .before .before .read-word .ensures) ∙ ap seenWord (set .1),
       sym (text-one 32 _ _) ∙ sym (c .before .before .before .before .before .before .before .before .before .literal2 .ensures) ∙ ap seenNext (c .before .before .before .before .before .before .before .command-at .given .1),
+    ) (
+      ap (tickBy (rail .0 .0) (set .0 .0)) (sym (c .enum-told5 .given .1) ∙ c .before .before .before .before .read-command .ensures .0) ∙ tick-told (rail .0 .0) (set .0 .0) order,
+      c .before .before .before .before .read-command .ensures .1 ∙ tick-held (rail .0 .0) (set .0 .0) order (a .transfer .now),
     )
-    (ap (tickBy (rail .0 .0) (set .0 .0)) (sym (c .enum-told5 .given .1) ∙ c .before .before .before .before .read-command .ensures .0) ∙ tick-told (rail .0 .0) (set .0 .0) order,
-    c .before .before .before .before .read-command .ensures .1 ∙ tick-held (rail .0 .0) (set .0 .0) order (a .transfer .now))
 
 -- src/ticks.rt:74:1
 same-length-2 : tie.Need-same-length-2
@@ -161,9 +162,10 @@ returns-6 c =
       sym (c .before .before .before .before .before .before .before .before .before .before .before .before .before .before .before .read-word .ensures) ∙ ap seenWord (set .1),
       sym (text-one 32 _ _) ∙ sym (c .before .before .before .before .before .before .before .before .before .before .literal2 .ensures) ∙ ap seenNext (c .before .before .before .before .before .before .before .before .command-at .given .1),
       kept (rail .0 .0) (rail .0 .0) refl (omega (arith, c .before .before .before .before .before .before .before .before .before .before .before .before .before .before .before .before .before .before .before .before .before .known-told .given .0 .1)),
+    ) (
+      ap (tickBy (rail .0 .0) (set .0 .0)) (sym (told .1) ∙ c .before .before .before .before .before .read-command .ensures .0) ∙ tick-told (rail .0 .0) (set .0 .0) order,
+      c .before .before .before .before .before .read-command .ensures .1 ∙ tick-held (rail .0 .0) (set .0 .0) order (a .transfer .now),
     )
-    (ap (tickBy (rail .0 .0) (set .0 .0)) (sym (told .1) ∙ c .before .before .before .before .before .read-command .ensures .0) ∙ tick-told (rail .0 .0) (set .0 .0) order,
-    c .before .before .before .before .before .read-command .ensures .1 ∙ tick-held (rail .0 .0) (set .0 .0) order (a .transfer .now))
 
 pub read-tick-spec : {M : Type 1} → statement M
 read-tick-spec =
