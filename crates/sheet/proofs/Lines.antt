@@ -45,18 +45,18 @@ laid-none held = rw (leb·zero (length held))
 
 -- ---- a command: `-` and the line's end, or what its text spells
 module _ (most : ℕ) (s : List ℕ) (i : ℕ) where
-  pub command-silent : (j : ℕ) → text (45 ∷ 10 ∷ []) s i ≡ reads tt j → command most s i ≡ reads silence j
-  unfolding command
-  command-silent j e = rw e
-
-  module _ (e : text (45 ∷ 10 ∷ []) s i ≡ fails) where
-    pub command-endless : upTo 10 s i ≡ fails → command most s i ≡ fails
+  module _ (lit : List ℕ) where
+    pub command-silent : (j : ℕ) → text lit s i ≡ reads tt j → lit ≡ 45 ∷ 10 ∷ [] → command most s i ≡ reads silence j
     unfolding command
-    command-endless q = rw (e, q)
+    command-silent j e l = rw (rw l at e)
 
-    pub command-spelt : (line : List ℕ) (j : ℕ) → upTo 10 s i ≡ reads line j → command most s i ≡ spells most (payloadOf line) (j + 1)
+    pub command-endless : text lit s i ≡ fails → lit ≡ 45 ∷ 10 ∷ [] → upTo 10 s i ≡ fails → command most s i ≡ fails
     unfolding command
-    command-spelt line j q = rw (e, q, upTo-byte 10 s i line j q)
+    command-endless e l q = rw (rw l at e, q)
+
+    pub command-spelt : (line : List ℕ) (j : ℕ) → text lit s i ≡ fails → lit ≡ 45 ∷ 10 ∷ [] → upTo 10 s i ≡ reads line j → command most s i ≡ spells most (payloadOf line) (j + 1)
+    unfolding command
+    command-spelt line j e l q = rw (rw l at e, q, upTo-byte 10 s i line j q)
 
 -- ---- a tick line, by what the read of its command answered
 abbrev pub tickBy : ℤ → ℕ → Command → TickLine

@@ -46,14 +46,14 @@ returns : tie.Need-returns Inv-loop μ-loop
 returns c =
     let a = c .before .before .before .before .before .before .args in
     let l = c .before .before .before .before .loop in
-    sym (channels-none (l .set) (a .s .now) (l .left) (l .least) (l .i) (omega arith) (sym (c .before .before .read-number .ensures) ∙ ap seenNumber (c .enum-told .given .1))) ∙ l .inv .same
+    sym (channels-none (l .set) (a .s .now) (l .left) (l .least) (l .i) _ (omega arith) (sym (c .before .before .read-number .ensures) ∙ ap seenNumber (c .enum-told .given .1)) (omega arith)) ∙ l .inv .same
 
 -- src/head.rt:64:13
 returns-2 : tie.Need-returns-2 Inv-loop μ-loop
 returns-2 c =
     let a = c .before .before .before .before .before .before .before .before .args in
     let l = c .before .before .before .before .before .before .loop in
-    sym (channels-low (l .set) (a .s .now) (l .left) (l .least) (l .i) _ _ (omega arith) (sym (c .before .before .before .before .read-number .ensures) ∙ ap seenNumber (c .before .before .c .given .1)) (omega arith)) ∙ l .inv .same
+    sym (channels-low (l .set) (a .s .now) _ _ (l .left) (l .least) (l .i) _ (omega arith) (sym (c .before .before .before .before .read-number .ensures) ∙ ap seenNumber (c .before .before .c .given .1)) (omega arith) (omega arith)) ∙ l .inv .same
 
 -- src/head.rt:66:9
 sub-left : tie.Need-sub-left Inv-loop μ-loop
@@ -76,13 +76,13 @@ returns-3 : tie.Need-returns-3 Inv-loop μ-loop
 returns-3 c =
     let a = c .before .before .before .before .before .before .before .before .before .before .before .args in
     let l = c .before .before .before .before .before .before .before .before .before .loop in
-    sym (channels-apart (l .set) (a .s .now) (l .left) (l .least) (l .i) _ _ (omega arith) (sym (c .before .before .before .before .before .before .before .read-number .ensures) ∙ ap seenNumber (c .before .before .before .before .before .c .given .1)) (omega arith) (sym (c .before .before .read-gap .ensures) ∙ ap seenNext (c .enum-told2 .given .1))) ∙ l .inv .same
+    sym (channels-apart (l .set) (a .s .now) _ _ (l .left) (l .least) (l .i) _ (omega arith) (sym (c .before .before .before .before .before .before .before .read-number .ensures) ∙ ap seenNumber (c .before .before .before .before .before .c .given .1)) (omega arith) (omega arith) (sym (c .before .before .read-gap .ensures) ∙ ap seenNext (c .enum-told2 .given .1))) ∙ l .inv .same
 
 -- src/head.rt:70:43
 cast-with-channel : tie.Need-cast-with-channel Inv-loop μ-loop
 cast-with-channel c =
     let a = c .before .before .before .before .before .before .before .before .before .before .before .before .args in
-    omega (arith, number-most 31 (a .s .now) _ _ _ (sym (c .before .before .before .before .before .before .before .before .read-number .ensures) ∙ ap seenNumber (c .before .before .before .before .before .before .c .given .1)))
+    omega (arith, number-most _ (a .s .now) _ _ _ (sym (c .before .before .before .before .before .before .before .before .read-number .ensures) ∙ ap seenNumber (c .before .before .before .before .before .before .c .given .1)))
 
 -- src/head.rt:70:9
 with-channel-requires : tie.Need-with-channel-requires Inv-loop μ-loop
@@ -92,7 +92,7 @@ with-channel-requires c κs = search needs
 add-least : tie.Need-add-least Inv-loop μ-loop
 add-least c =
     let a = c .before .before .before .before .before .before .before .before .before .before .before .before .before .args in
-    omega (arith, number-most 31 (a .s .now) _ _ _ (sym (c .before .before .before .before .before .before .before .before .before .read-number .ensures) ∙ ap seenNumber (c .before .before .before .before .before .before .before .c .given .1)))
+    omega (arith, number-most _ (a .s .now) _ _ _ (sym (c .before .before .before .before .before .before .before .before .before .read-number .ensures) ∙ ap seenNumber (c .before .before .before .before .before .before .before .c .given .1)))
 
 -- src/head.rt:59:5
 loop-less : tie.Need-loop-less Inv-loop μ-loop
@@ -104,7 +104,11 @@ loop-again c =
     let a = c .before .before .before .before .before .before .before .before .before .before .before .before .before .args in
     let l = c .before .before .before .before .before .before .before .before .before .before .before .loop in
     let g = c .before .before .before .before .before .before .before .c .given in
-    record { same = rw (c .with-channel .ensures) (sym (channels-more (l .set) (a .s .now) (l .left) (l .least) (l .i) (g .0 .0) _ _ (omega arith) (sym (c .before .before .before .before .before .before .before .before .before .read-number .ensures) ∙ ap seenNumber (g .1)) (omega arith) (sym (c .before .before .before .before .read-gap .ensures) ∙ ap seenNext (c .before .before .behind .given .1)) _ (omega arith)) ∙ l .inv .same) }
+    let channel = sym (c .before .before .before .before .before .before .before .before .before .read-number .ensures) ∙ ap seenNumber (g .1) in
+    let apart = sym (c .before .before .before .before .read-gap .ensures) ∙ ap seenNext (c .before .before .behind .given .1) in
+    record {
+      same = rw (c .with-channel .ensures) (sym (channels-more (l .set) (a .s .now) (g .0 .0) (g .0 .1 .0) (l .left) (l .least) (l .i) _ _ (omega arith) channel (omega arith) (omega arith) apart _ (omega arith)) ∙ l .inv .same);
+    }
 
 -- src/head.rt:52:1
 returns-4 : tie.Need-returns-4 Inv-loop μ-loop

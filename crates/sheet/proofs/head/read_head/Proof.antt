@@ -3,8 +3,8 @@ use native.Mathlib.Omega.{arith}
 use Prim.Native.Nat.{_%_}
 use mathlib.Core.Path.{_≡_, refl, sym, ap, _∙_}
 use Rattle.grammar.specs.Views.{seenNumber, seenWord}
-use Rattle.sheet.specs.Form.{boardWord, head}
-use Rattle.sheet.proofs.Parts.{count-most}
+use Rattle.sheet.specs.Form.{boardWord, ticksWord, head}
+use Rattle.sheet.proofs.Parts.{count-most, count-by}
 use borrow.Author.Needs.{needs}
 use Rattle.sheet.proofs.head.read_head.Statement.{statement}
 use Rattle.sheet.proofs.head.read_head.Tie as tie
@@ -109,7 +109,7 @@ returns-4 c =
       sym (c .before .before .before .before .before .before .before .before .before .before .before .before .before .before .before .before .before .read-count .ensures) ∙ ap seenNumber (c .before .before .before .before .before .before .before .before .before .before .before .before .before .before .before .bid .given .1),
       sym (c .before .before .before .before .before .before .before .before .before .before .before .before .read-set .ensures) ∙ ap seenWord (c .before .before .before .before .before .before .before .before .before .before .fitted .given .1),
       sym (c .before .before .before .before .before .before .before .read-set2 .ensures) ∙ ap seenWord (c .before .before .before .before .before .forced .given .1),
-      sym (c .before .before .read-count2 .ensures) ∙ ap seenNumber (c .enum-told4 .given .1),
+      count-by ticksWord _ 4096 (c .before .before .before .before .before .before .before .before .before .before .before .before .before .before .before .before .before .before .before .before .args .s .now) _ _ (sym (c .before .before .read-count2 .ensures) ∙ ap seenNumber (c .enum-told4 .given .1)) (omega arith),
     )
 
 -- src/head.rt:136:14
@@ -127,7 +127,7 @@ returns-5 c =
       read,
       sym (c .before .before .before .before .before .before .before .before .before .before .before .before .before .read-set .ensures) ∙ ap seenWord (c .before .before .before .before .before .before .before .before .before .before .before .fitted .given .1),
       sym (c .before .before .before .before .before .before .before .before .read-set2 .ensures) ∙ ap seenWord (c .before .before .before .before .before .before .forced .given .1),
-      sym (c .before .before .before .read-count2 .ensures) ∙ ap seenNumber (c .before .ticks .given .1),
+      count-by ticksWord _ 4096 (c .before .before .before .before .before .before .before .before .before .before .before .before .before .before .before .before .before .before .before .before .before .args .s .now) _ _ (sym (c .before .before .before .read-count2 .ensures) ∙ ap seenNumber (c .before .ticks .given .1)) (omega arith),
       small,
     )
 

@@ -28,7 +28,7 @@ enum-known-next c = search needs
 
 -- src/ticks.rt:61:9
 returns : tie.Need-returns
-returns c = rw (command-silent _ (c .before .before .before .before .before .before .before .args .s .now) (c .before .before .before .before .before .before .before .args .at) _ (sym (c .before .before .before .literal .ensures) ∙ ap seenNext (c .before .next .given .1))) (refl, laid-none (c .before .before .before .before .before .before .before .args .transfer .now))
+returns c = rw (command-silent _ (c .before .before .before .before .before .before .before .args .s .now) (c .before .before .before .before .before .before .before .args .at) _ _ (sym (c .before .before .before .literal .ensures) ∙ ap seenNext (c .before .next .given .1)) refl) (refl, laid-none (c .before .before .before .before .before .before .before .args .transfer .now))
 
 enum-told : tie.Need-enum-told
 enum-told c = search needs
@@ -47,7 +47,9 @@ enum-told-2 c = search needs
 
 -- src/ticks.rt:68:9
 returns-2 : tie.Need-returns-2
-returns-2 c = rw (command-endless _ (c .before .before .before .before .before .before .before .before .before .args .s .now) (c .before .before .before .before .before .before .before .before .before .args .at) (sym (c .before .before .before .before .before .literal .ensures) ∙ ap seenNext (c .before .before .before .enum-told .given .1)) (sym (c .before .before .find-byte .ensures .0) ∙ ap (seenLine (c .before .before .before .before .before .before .before .before .before .args .s .now) (c .before .before .before .before .before .before .before .before .before .args .at)) (c .enum-told2 .given .1))) (refl, refl)
+returns-2 c =
+    let a = c .before .before .before .before .before .before .before .before .before .args in
+    rw (command-endless _ (a .s .now) (a .at) _ (sym (c .before .before .before .before .before .literal .ensures) ∙ ap seenNext (c .before .before .before .enum-told .given .1)) refl (sym (c .before .before .find-byte .ensures .0) ∙ ap (seenLine (a .s .now) (a .at)) (c .enum-told2 .given .1))) (refl, refl)
 
 -- src/ticks.rt:70:11
 sub-spelt : tie.Need-sub-spelt
@@ -75,7 +77,9 @@ same-length c = search needs
 
 -- src/ticks.rt:56:1
 returns-3 : tie.Need-returns-3
-returns-3 c = rw (command-spelt _ (c .before .before .before .before .before .before .before .before .before .before .before .before .before .before .before .args .s .now) (c .before .before .before .before .before .before .before .before .before .before .before .before .before .before .before .args .at) (sym (c .before .before .before .before .before .before .before .before .before .before .before .literal .ensures) ∙ ap seenNext (c .before .before .before .before .before .before .before .before .before .enum-told .given .1)) _ _ (sym (c .before .before .before .before .before .before .before .before .find-byte .ensures .0) ∙ ap (seenLine (c .before .before .before .before .before .before .before .before .before .before .before .before .before .before .before .args .s .now) (c .before .before .before .before .before .before .before .before .before .before .before .before .before .before .before .args .at)) (c .before .before .before .before .before .before .end .given .1))) (c .before .before .spelt .ensures)
+returns-3 c =
+    let a = c .before .before .before .before .before .before .before .before .before .before .before .before .before .before .before .args in
+    rw (command-spelt _ (a .s .now) (a .at) _ _ _ (sym (c .before .before .before .before .before .before .before .before .before .before .before .literal .ensures) ∙ ap seenNext (c .before .before .before .before .before .before .before .before .before .enum-told .given .1)) refl (sym (c .before .before .before .before .before .before .before .before .find-byte .ensures .0) ∙ ap (seenLine (a .s .now) (a .at)) (c .before .before .before .before .before .before .end .given .1))) (c .before .before .spelt .ensures)
 
 pub read-command-spec : {M : Type 1} → statement M
 read-command-spec =
