@@ -1,2 +1,5 @@
+pub mod Behind
 pub mod Parts
 pub mod Lines
+pub mod Runs
+pub mod Sheets

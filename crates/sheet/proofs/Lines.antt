@@ -1,17 +1,18 @@
 -- A tick line, one equation for each way that the code can go. Assumes nothing.
-use Prim.Native.Nat.{ℕ}
+use Prim.Native.Nat.{ℕ, _+_}
 use mathlib.Core.Path.{_≡_, refl, sym, ap, _∙_}
 use mathlib.Core.Bool.{Bool, true, false, cond}
 use mathlib.Core.Option.{Option, none, some}
-use mathlib.Core.List.{List, [], _++_}
-use lib.Dec.{leb}
+use mathlib.Core.List.{List, [], _∷_, _++_}
+use lib.Dec.{leb, leb·zero}
 use lib.IntN.{ℤ}
 use lib.ListN.{length, drop}
-use Rattle.hex.specs.Hex.{readOf, laid, heldAfter}
+use Rattle.hex.specs.Hex.{payloadOf, readOf, laid, heldAfter}
 use Rattle.hex.specs.declared.Payload.{Payload}
 use Rattle.hex.specs.declared.Payload.the-variants.{Bytes, NotOfForm, TooShort}
-use Rattle.grammar.specs.Grammar.{Read, fails, reads, on}
-use Rattle.sheet.specs.Form.{Transfer, silence, bytes, spells, Tick}
+use Rattle.grammar.specs.Grammar.{Read, fails, reads, on, text, upTo}
+use Rattle.grammar.proofs.Bytes.{upTo-byte}
+use Rattle.sheet.specs.Form.{Transfer, silence, bytes, spells, command, Tick}
 use Rattle.sheet.specs.Answers.{commandOf, commandHeld, tickOf, tickHeld}
 use Rattle.sheet.specs.declared.ticks.TickLine.{TickLine}
 use Rattle.sheet.specs.declared.ticks.Command.{Command}
@@ -37,6 +38,25 @@ spells-held (some bs) next held = go (leb (length bs) (length held)) refl
     go : (t : Bool) → leb (length bs) (length held) ≡ t → cond t (bs ++ drop (length bs) held) held ≡ commandHeld (cond t (reads (bytes bs) next) fails) held
     go true e = rw e
     go false e = refl
+
+-- no bytes change nothing
+pub laid-none : (held : List ℕ) → held ≡ laid [] held
+laid-none held = rw (leb·zero (length held))
+
+-- ---- a command: `-` and the line's end, or what its text spells
+module _ (most : ℕ) (s : List ℕ) (i : ℕ) where
+  module _ (lit : List ℕ) where
+    pub command-silent : (j : ℕ) → text lit s i ≡ reads tt j → lit ≡ 45 ∷ 10 ∷ [] → command most s i ≡ reads silence j
+    unfolding command
+    command-silent j e l = rw (rw l at e)
+
+    pub command-endless : text lit s i ≡ fails → lit ≡ 45 ∷ 10 ∷ [] → upTo 10 s i ≡ fails → command most s i ≡ fails
+    unfolding command
+    command-endless e l q = rw (rw l at e, q)
+
+    pub command-spelt : (line : List ℕ) (j : ℕ) → text lit s i ≡ fails → lit ≡ 45 ∷ 10 ∷ [] → upTo 10 s i ≡ reads line j → command most s i ≡ spells most (payloadOf line) (j + 1)
+    unfolding command
+    command-spelt line j e l q = rw (rw l at e, q, upTo-byte 10 s i line j q)
 
 -- ---- a tick line, by what the read of its command answered
 abbrev pub tickBy : ℤ → ℕ → Command → TickLine

@@ -1,3 +1,13 @@
+-- `read_tick` meets its contract: each answer on the way rewrites the form. Assumes nothing.
+use native.Mathlib.Omega.{arith}
+use mathlib.Core.Path.{_≡_, refl, sym, ap, _∙_}
+use lib.IntN.{ℤ}
+use lib.ListN.{length}
+use Rattle.grammar.specs.Views.{seenNext, seenSigned, seenWord}
+use Rattle.grammar.proofs.Signs.{kept}
+use Rattle.sheet.specs.Form.{command, tickLine}
+use Rattle.sheet.proofs.Parts.{text-one}
+use Rattle.sheet.proofs.Lines.{tickBy, tick-told, tick-held}
 use borrow.Author.Needs.{needs}
 use Rattle.sheet.proofs.ticks.read_tick.Statement.{statement}
 use Rattle.sheet.proofs.ticks.read_tick.Tie as tie
@@ -22,7 +32,8 @@ enum-told c = search needs
 
 -- src/ticks.rt:83:9
 returns : tie.Need-returns
-returns c = ?
+unfolding tickLine
+returns c = rw (sym (c .before .before .read-signed .ensures) ∙ ap seenSigned (c .enum-told .given .1)) (refl, refl)
 
 -- src/ticks.rt:85:51
 slice-aggregate-literal : tie.Need-slice-aggregate-literal
@@ -42,7 +53,12 @@ enum-told-2 c = search needs
 
 -- src/ticks.rt:86:9
 returns-2 : tie.Need-returns-2
-returns-2 c = ?
+unfolding tickLine
+returns-2 c =
+    rw (
+      sym (c .before .before .before .before .before .before .before .read-signed .ensures) ∙ ap seenSigned (c .before .before .before .before .before .rail .given .1),
+      sym (text-one 32 _ _) ∙ sym (c .before .before .literal .ensures) ∙ ap seenNext (c .enum-told2 .given .1),
+    ) (refl, refl)
 
 -- src/ticks.rt:91:9
 read-word-requires : tie.Need-read-word-requires
@@ -58,7 +74,13 @@ enum-told-3 c = search needs
 
 -- src/ticks.rt:93:9
 returns-3 : tie.Need-returns-3
-returns-3 c = ?
+unfolding tickLine
+returns-3 c =
+    rw (
+      sym (c .before .before .before .before .before .before .before .before .before .before .before .read-signed .ensures) ∙ ap seenSigned (c .before .before .before .before .before .before .before .before .before .rail .given .1),
+      sym (text-one 32 _ _) ∙ sym (c .before .before .before .before .before .before .literal .ensures) ∙ ap seenNext (c .before .before .before .before .set-at .given .1),
+      sym (c .before .before .read-word .ensures) ∙ ap seenWord (c .enum-told3 .given .1),
+    ) (refl, refl)
 
 -- src/ticks.rt:95:54
 slice-aggregate-literal-2 : tie.Need-slice-aggregate-literal-2
@@ -78,7 +100,14 @@ enum-told-4 c = search needs
 
 -- src/ticks.rt:96:9
 returns-4 : tie.Need-returns-4
-returns-4 c = ?
+unfolding tickLine
+returns-4 c =
+    rw (
+      sym (c .before .before .before .before .before .before .before .before .before .before .before .before .before .before .before .before .read-signed .ensures) ∙ ap seenSigned (c .before .before .before .before .before .before .before .before .before .before .before .before .before .before .rail .given .1),
+      sym (text-one 32 _ _) ∙ sym (c .before .before .before .before .before .before .before .before .before .before .before .literal .ensures) ∙ ap seenNext (c .before .before .before .before .before .before .before .before .before .set-at .given .1),
+      sym (c .before .before .before .before .before .before .before .read-word .ensures) ∙ ap seenWord (c .before .before .before .before .before .overcurrent .given .1),
+      sym (text-one 32 _ _) ∙ sym (c .before .before .literal2 .ensures) ∙ ap seenNext (c .enum-told4 .given .1),
+    ) (refl, refl)
 
 -- src/ticks.rt:98:45
 read-command-requires : tie.Need-read-command-requires
@@ -98,7 +127,21 @@ same-length c = search needs
 
 -- src/ticks.rt:99:9
 returns-5 : tie.Need-returns-5
-returns-5 c = ?
+unfolding tickLine
+returns-5 c =
+    let a = c .before .before .before .before .before .before .before .before .before .before .before .before .before .before .before .before .before .before .before .before .before .before .before .before .before .before .args in
+    let rail = c .before .before .before .before .before .before .before .before .before .before .before .before .before .before .before .before .before .before .before .before .before .rail .given in
+    let set = c .before .before .before .before .before .before .before .before .before .before .before .before .overcurrent .given in
+    let order = command (length (a .transfer .now)) (a .s .now) (c .before .before .before .before .before .before .before .command-at .given .0 .0) in
+    rw (
+      sym (c .before .before .before .before .before .before .before .before .before .before .before .before .before .before .before .before .before .before .before .before .before .before .before .read-signed .ensures) ∙ ap seenSigned (rail .1),
+      sym (text-one 32 _ _) ∙ sym (c .before .before .before .before .before .before .before .before .before .before .before .before .before .before .before .before .before .before .literal .ensures) ∙ ap seenNext (c .before .before .before .before .before .before .before .before .before .before .before .before .before .before .before .before .set-at .given .1),
+      sym (c .before .before .before .before .before .before .before .before .before .before .before .before .before .before .read-word .ensures) ∙ ap seenWord (set .1),
+      sym (text-one 32 _ _) ∙ sym (c .before .before .before .before .before .before .before .before .before .literal2 .ensures) ∙ ap seenNext (c .before .before .before .before .before .before .before .command-at .given .1),
+    ) (
+      ap (tickBy (rail .0 .0) (set .0 .0)) (sym (c .enum-told5 .given .1) ∙ c .before .before .before .before .read-command .ensures .0) ∙ tick-told (rail .0 .0) (set .0 .0) order,
+      c .before .before .before .before .read-command .ensures .1 ∙ tick-held (rail .0 .0) (set .0 .0) order (a .transfer .now),
+    )
 
 -- src/ticks.rt:74:1
 same-length-2 : tie.Need-same-length-2
@@ -106,7 +149,23 @@ same-length-2 c = search needs
 
 -- src/ticks.rt:74:1
 returns-6 : tie.Need-returns-6
-returns-6 c = ?
+unfolding tickLine
+returns-6 c =
+    let a = c .before .before .before .before .before .before .before .before .before .before .before .before .before .before .before .before .before .before .before .before .before .before .before .before .before .before .before .args in
+    let rail = c .before .before .before .before .before .before .before .before .before .before .before .before .before .before .before .before .before .before .before .before .before .before .rail .given in
+    let set = c .before .before .before .before .before .before .before .before .before .before .before .before .before .overcurrent .given in
+    let told = c .before .sent .given in
+    let order = command (length (a .transfer .now)) (a .s .now) (c .before .before .before .before .before .before .before .before .command-at .given .0 .0) in
+    rw (
+      sym (c .before .before .before .before .before .before .before .before .before .before .before .before .before .before .before .before .before .before .before .before .before .before .before .before .read-signed .ensures) ∙ ap seenSigned (rail .1),
+      sym (text-one 32 _ _) ∙ sym (c .before .before .before .before .before .before .before .before .before .before .before .before .before .before .before .before .before .before .before .literal .ensures) ∙ ap seenNext (c .before .before .before .before .before .before .before .before .before .before .before .before .before .before .before .before .before .set-at .given .1),
+      sym (c .before .before .before .before .before .before .before .before .before .before .before .before .before .before .before .read-word .ensures) ∙ ap seenWord (set .1),
+      sym (text-one 32 _ _) ∙ sym (c .before .before .before .before .before .before .before .before .before .before .literal2 .ensures) ∙ ap seenNext (c .before .before .before .before .before .before .before .before .command-at .given .1),
+      kept (rail .0 .0) (rail .0 .0) refl (omega (arith, c .before .before .before .before .before .before .before .before .before .before .before .before .before .before .before .before .before .before .before .before .before .known-told .given .0 .1)),
+    ) (
+      ap (tickBy (rail .0 .0) (set .0 .0)) (sym (told .1) ∙ c .before .before .before .before .before .read-command .ensures .0) ∙ tick-told (rail .0 .0) (set .0 .0) order,
+      c .before .before .before .before .before .read-command .ensures .1 ∙ tick-held (rail .0 .0) (set .0 .0) order (a .transfer .now),
+    )
 
 pub read-tick-spec : {M : Type 1} → statement M
 read-tick-spec =

@@ -1,3 +1,8 @@
+-- `spelt` meets its contract: the answer of the read of hex, case by case. Assumes nothing.
+use mathlib.Core.Path.{sym, ap, _∙_}
+use lib.ListN.{length}
+use Rattle.hex.specs.Hex.{payloadOf}
+use Rattle.sheet.proofs.Lines.{commandBy, spells-told, spells-held}
 use borrow.Author.Needs.{needs}
 use Rattle.sheet.proofs.ticks.spelt.Statement.{statement}
 use Rattle.sheet.proofs.ticks.spelt.Tie as tie
@@ -27,7 +32,10 @@ same-length c = search needs
 
 -- src/ticks.rt:40:1
 returns : tie.Need-returns
-returns c = ?
+returns c =
+    let a = c .before .before .before .before .before .before .before .before .before .args in
+    let o = payloadOf (a .text .now) in
+    (ap (commandBy (a .next)) (sym (c .before .count .given .1) ∙ c .before .before .before .before .before .read .ensures .0) ∙ spells-told o (length (a .transfer .now)) (a .next), c .before .before .before .before .before .read .ensures .1 ∙ spells-held o (a .next) (a .transfer .now))
 
 -- src/ticks.rt:40:1
 same-length-2 : tie.Need-same-length-2
@@ -35,7 +43,10 @@ same-length-2 c = search needs
 
 -- src/ticks.rt:40:1
 returns-2 : tie.Need-returns-2
-returns-2 c = ?
+returns-2 c =
+    let a = c .before .before .before .before .before .before .before .before .args in
+    let o = payloadOf (a .text .now) in
+    (ap (commandBy (a .next)) (sym (c .enum-told .given .1) ∙ c .before .before .before .before .read .ensures .0) ∙ spells-told o (length (a .transfer .now)) (a .next), c .before .before .before .before .read .ensures .1 ∙ spells-held o (a .next) (a .transfer .now))
 
 -- src/ticks.rt:40:1
 same-length-3 : tie.Need-same-length-3
@@ -43,7 +54,10 @@ same-length-3 c = search needs
 
 -- src/ticks.rt:40:1
 returns-3 : tie.Need-returns-3
-returns-3 c = ?
+returns-3 c =
+    let a = c .before .before .before .before .before .before .before .before .args in
+    let o = payloadOf (a .text .now) in
+    (ap (commandBy (a .next)) (sym (c .enum-told2 .given .1) ∙ c .before .before .before .before .read .ensures .0) ∙ spells-told o (length (a .transfer .now)) (a .next), c .before .before .before .before .read .ensures .1 ∙ spells-held o (a .next) (a .transfer .now))
 
 pub spelt-spec : {M : Type 1} → statement M
 spelt-spec =
