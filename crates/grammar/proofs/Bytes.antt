@@ -48,18 +48,18 @@ module _ (s : List ℕ) (i : ℕ) where
   end-not n = rw (ne-eqb i (length s) n)
 
 -- ---- a literal: a turn over its bytes
-module _ (lit s : List ℕ) (k i : ℕ) where
-  pub text-end : length lit ≤ k → text (drop k lit) s i ≡ reads tt i
+module _ (wanted s : List ℕ) (k i : ℕ) where
+  pub text-end : length wanted ≤ k → text (drop k wanted) s i ≡ reads tt i
   unfolding text
-  text-end h = rw (drop-end lit k h)
+  text-end h = rw (drop-end wanted k h)
 
-  pub text-same : k < length lit → peekAt s i ≡ getD lit k 0 → text (drop k lit) s i ≡ text (drop (k + 1) lit) s (i + 1)
+  pub text-same : k < length wanted → peekAt s i ≡ getD wanted k 0 → text (drop k wanted) s i ≡ text (drop (k + 1) wanted) s (i + 1)
   unfolding text
-  text-same h e = rw (drop-step lit k h, byte-is (getD lit k 0) s i e)
+  text-same h e = rw (drop-step wanted k h, byte-is (getD wanted k 0) s i e)
 
-  pub text-other : k < length lit → (peekAt s i ≡ getD lit k 0 → ⊥) → text (drop k lit) s i ≡ fails
+  pub text-other : k < length wanted → (peekAt s i ≡ getD wanted k 0 → ⊥) → text (drop k wanted) s i ≡ fails
   unfolding text
-  text-other h n = rw (drop-step lit k h, byte-not (getD lit k 0) s i n)
+  text-other h n = rw (drop-step wanted k h, byte-not (getD wanted k 0) s i n)
 
 -- ---- a search: a turn over the places
 module _ (b : ℕ) (s : List ℕ) (i : ℕ) where

@@ -83,6 +83,10 @@ plain-other : (d : ℕ) (ds : List ℕ) → (d ≡ 0 → ⊥) → plain (d ∷ d
 plain-other d [] n = refl
 plain-other d (e ∷ ds) n = ap not (ne-eqb d 0 n)
 
+no-way : (t : Bool) → cond {A = Read ℕ} t fails fails ≡ fails
+no-way true = refl
+no-way false = refl
+
 -- ---- the answers
 module _ (limit : ℕ) (s : List ℕ) (i : ℕ) where
   pub number-none : 9 < digitAt s i → fails ≡ number limit s i
@@ -97,18 +101,16 @@ module _ (limit : ℕ) (s : List ℕ) (i : ℕ) where
   unfolding number
   number-led z h = rw (more s i (omega arith), z, more s (i + 1) h)
 
-  -- a digit other than 0 in front
-  module _ (h : digitAt s i < 10) (n : digitAt s i ≡ 0 → ⊥) where
-    is-plain : plain (digits (drop i s)) ≡ true
-    is-plain = rw (more s i h) (plain-other (digitAt s i) (digits (drop (i + 1) s)) n)
+  pub number-over : limit < spells 0 (digits (drop i s)) → fails ≡ number limit s i
+  unfolding number
+  number-over h = rw (lt-leb (spells 0 (digits (drop i s))) limit h, no-way (plain (digits (drop i s))))
 
-    pub number-over : limit < spells 0 (digits (drop i s)) → fails ≡ number limit s i
-    unfolding number
-    number-over o = rw (is-plain, lt-leb (spells 0 (digits (drop i s))) limit o)
-
-    pub number-is : (v j : ℕ) → v ≡ spells 0 (digits (drop i s)) → v ≤ limit → j ≡ i + length (digits (drop i s)) → reads v j ≡ number limit s i
-    unfolding number
-    number-is v j p m q = rw (p, q, is-plain, le-leb (spells 0 (digits (drop i s))) limit (omega arith))
+  pub number-is : (v j : ℕ) → digitAt s i < 10 → (digitAt s i ≡ 0 → ⊥) → v ≡ spells 0 (digits (drop i s)) → v ≤ limit → j ≡ i + length (digits (drop i s))
+      → reads v j ≡ number limit s i
+  unfolding number
+  number-is v j h n p m q =
+      let t : plain (digits (drop i s)) ≡ true = rw (more s i h) (plain-other (digitAt s i) (digits (drop (i + 1) s)) n) in
+      rw (p, q, t, le-leb (spells 0 (digits (drop i s))) limit (omega arith))
 
 -- ---- a number is at most its limit
 most : (limit v j x k : ℕ) (plainly under : Bool) → (under ≡ true → x ≤ limit) → cond plainly (cond {A = Read ℕ} under (reads x k) fails) fails ≡ reads v j → v ≤ limit

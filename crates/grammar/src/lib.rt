@@ -22,14 +22,14 @@ pub enum Next {
 }
 
 // These bytes at a place, one after the other.
-pub fn literal(s: &[u8], at: usize, lit: &[u8]) -> Next
-    ensures { λ r. ⌜ seenNext r ≡ text (now (lit .entry)) (now (s .entry)) at ⌝ }
+pub fn literal(s: &[u8], at: usize, wanted: &[u8]) -> Next
+    ensures { λ r. ⌜ seenNext r ≡ text (now (wanted .entry)) (now (s .entry)) at ⌝ }
 {
-    let n = lit.len();
+    let n = wanted.len();
     let mut i = at;
     let mut k = 0;
     while k < n {
-        let b = lit[k] as u16;
+        let b = wanted[k] as u16;
         if peek(s, i) != b {
             return Next::Not;
         }
@@ -82,7 +82,7 @@ pub enum Number {
     Not,
 }
 
-// A decimal number of at most limit. It ends where the next digit would take it past the limit, so that any count of digits can come.
+// A decimal number of at most limit. Reading stops once the limit is passed, so that any count of digits may come and nothing overflows.
 pub fn read_number(s: &[u8], at: usize, limit: u32) -> Number
     ensures { λ r. ⌜ seenNumber r ≡ number limit (now (s .entry)) at ⌝ }
 {
@@ -125,7 +125,8 @@ pub enum Signed {
     Not,
 }
 
-// A number from -32768 to 32767, with a - in front if it is below 0: a magnitude of 32768 has no place in the type, so that it is taken as a pattern.
+// A number from -32768 to 32767, with a - in front if it is below 0. Its value comes from its pattern, since a magnitude of 32768 has no
+// place in the type.
 pub fn read_signed(s: &[u8], at: usize) -> Signed
     ensures { λ r. ⌜ seenSigned r ≡ signed (now (s .entry)) at ⌝ }
 {

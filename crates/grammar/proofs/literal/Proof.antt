@@ -13,15 +13,15 @@ use Rattle.grammar.proofs.literal.Reads as reads
 use Rattle.grammar.proofs.literal.Lts as lts
 use Rattle.grammar.proofs.peek.Reads as peek-reads
 
-record Bytes (s : List ℕ) (at : ℕ) (lit : List ℕ) (i k : ℕ) : Type 0 where
-  upto : k ≤ length lit
-  same : text (drop k lit) s i ≡ text lit s at
+record Bytes (s : List ℕ) (at : ℕ) (wanted : List ℕ) (i k : ℕ) : Type 0 where
+  upto : k ≤ length wanted
+  same : text (drop k wanted) s i ≡ text wanted s at
 
 abbrev Inv-loop : tie.InvT-loop
-Inv-loop s at lit n i₀ k₀ i k = Bytes s at lit i k
+Inv-loop s at wanted n i₀ k₀ i k = Bytes s at wanted i k
 
 abbrev μ-loop : tie.MeasureT-loop
-μ-loop s at lit n i₀ k₀ i k = length lit - k
+μ-loop s at wanted n i₀ k₀ i k = length wanted - k
 
 loop-holds : tie.Need-loop-holds Inv-loop μ-loop
 loop-holds c = search needs
@@ -39,7 +39,7 @@ returns : tie.Need-returns Inv-loop μ-loop
 returns c =
     let l = c .before .before .before .before .loop in
     let a = c .before .before .before .before .before .before .before .args in
-    sym (text-other (a .lit .now) (a .s .now) (l .k) (l .i) (omega arith) (λ q. c .if1 .taken (c .before .peek .ensures .0 ∙ q))) ∙ l .inv .same
+    sym (text-other (a .wanted .now) (a .s .now) (l .k) (l .i) (omega arith) (λ q. c .if1 .taken (c .before .peek .ensures .0 ∙ q))) ∙ l .inv .same
 
 add-i : tie.Need-add-i Inv-loop μ-loop
 add-i c = omega (arith, c .before .peek .ensures .1 .1 (omega (arith, c .before .before .shared-slice-known3 .given (c .before .before .before .before .loop .k))))
@@ -56,14 +56,14 @@ loop-again c =
     let a = c .before .before .before .before .before .before .before .args in
     record {
       upto = omega arith;
-      same = sym (text-same (a .lit .now) (a .s .now) (l .k) (l .i) (omega arith) (sym (c .before .peek .ensures .0) ∙ c .if1 .left)) ∙ l .inv .same;
+      same = sym (text-same (a .wanted .now) (a .s .now) (l .k) (l .i) (omega arith) (sym (c .before .peek .ensures .0) ∙ c .if1 .left)) ∙ l .inv .same;
     }
 
 returns-2 : tie.Need-returns-2 Inv-loop μ-loop
 returns-2 c =
     let l = c .before .loop in
     let a = c .before .before .before .before .args in
-    sym (text-end (a .lit .now) (a .s .now) (l .k) (l .i) (omega arith)) ∙ l .inv .same
+    sym (text-end (a .wanted .now) (a .s .now) (l .k) (l .i) (omega arith)) ∙ l .inv .same
 
 pub literal-spec : {M : Type 1} → statement M
 literal-spec =

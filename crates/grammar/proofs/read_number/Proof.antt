@@ -63,7 +63,7 @@ returns-4 c =
     let a = c .before .before .before .before .before .before .before .before .args in
     let s = a .s .now in
     let l = c .before .before .before .loop in
-    number-over (a .limit) s (a .at) (omega arith) (omega arith)
+    number-over (a .limit) s (a .at)
     (omega (arith, l .inv .same, spells-turn s (l .i) (l .v) (omega arith), spells-grows (l .v * 10 + digitAt s (l .i)) (digits (drop (l .i + 1) s))))
 
 add-i : tie.Need-add-i Inv-loop μ-loop
@@ -91,7 +91,7 @@ returns-5 c =
     let s = a .s .now in
     let l = c .before .before .loop in
     let e : digits (drop (l .i) s) ≡ [] = stop s (l .i) (omega arith) in
-    number-is (a .limit) s (a .at) (omega arith) (omega arith) (l .v) (l .i)
+    number-is (a .limit) s (a .at) (l .v) (l .i) (omega arith) (omega arith)
     (sym (spells-end (l .v) (digits (drop (l .i) s)) e) ∙ l .inv .same) (omega arith) (omega (arith, l .inv .ends, ap length e))
 
 pub read-number-spec : {M : Type 1} → statement M

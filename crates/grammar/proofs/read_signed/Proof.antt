@@ -47,7 +47,7 @@ sub-twos16 c =
     omega (arith, number-most 32768 (a .s .now) (a .at + 1) _ _ (sym (c .before .before .before .before .read-number .ensures) ∙ ap seenNumber (c .before .before .value .given .1)))
 
 cast-twos16 : tie.Need-cast-twos16
-cast-twos16 c = search needs
+cast-twos16 c = omega arith
 
 twos16-requires : tie.Need-twos16-requires
 twos16-requires c κs = search needs
