@@ -95,9 +95,9 @@ made s top ticks j k m u w i f l n e =
     let q : k ≡ i = sym (a .1) ∙ p in
     rw t (record { lines = rw (f, ← q) l; all = sym q ∙ a .0 })
 
-whole : (s : List ℕ) (w : Sheet) (i : ℕ) → sheetIn s ≡ reads w i → Whole s w i
+all-read : (s : List ℕ) (w : Sheet) (i : ℕ) → sheetIn s ≡ reads w i → Whole s w i
 unfolding sheetIn sheet
-whole s w i e =
+all-read s w i e =
     ⊎-elim
     (λ (h : 65536 < length s). let q = sheet-long s h in let z : _≡_ {A = ℕ} 0 1 = cc in absurd (omega arith))
     (λ (h : length s ≤ 65536).
@@ -132,7 +132,7 @@ accepted s bid fitted forced ticks first e = go (sheetIn s) refl e
     go : (r : Read Sheet) → sheetIn s ≡ r → Head.Is bid fitted forced ticks first ≡ sheetHead r → Accepted s bid fitted forced ticks first
     go fails q e = let z : _≡_ {A = ℕ} 0 1 = cc in absurd (omega arith)
     go (reads w i) q e =
-        let all = whole s w i q in
+        let all = all-read s w i q in
         let b : w .top .bid ≡ bid = cc in
         let f : w .top .fitted ≡ fitted = cc in
         let g : w .top .forced ≡ forced = cc in
