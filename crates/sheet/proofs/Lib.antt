@@ -3,3 +3,4 @@ pub mod Parts
 pub mod Lines
 pub mod Runs
 pub mod Sheets
+pub mod Examples

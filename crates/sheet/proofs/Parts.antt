@@ -1,9 +1,8 @@
 -- What stands before the ticks, one equation for each way that the code can go. Assumes nothing.
 use Prim.Native.Nat.{ℕ, zero, suc, _+_, _-_, _≤_, _<_}
-use mathlib.Core.Path.{_≡_, refl, sym, ap, _∙_}
+use mathlib.Core.Path.{_≡_, refl}
 use mathlib.Core.List.{List, [], _∷_}
 use native.Mathlib.Omega.{arith}
-use lib.Dec.{leb}
 use borrow.Author.Tests.{le-leb, lt-leb}
 use Rattle.channels.specs.Sets.{withChannel}
 use Rattle.grammar.specs.Grammar.{Read, fails, reads, on, byte, text}

@@ -14,27 +14,31 @@ use Rattle.sheet.specs.Form.{boardWord, fittedWord, forcedWord, ticksWor
 use Rattle.sheet.specs.Answers.{headBy, headOf, isRead, areTicks, sheetHead, headNumber}
 use Rattle.sheet.specs.declared.head.Head.{Head}
 use Rattle.sheet.proofs.Behind.{went}
+use Rattle.sheet.proofs.Parts.{count-most}
 
--- ---- the place of the first tick line is the place behind the head
-abbrev firstOf : Read Top → ℕ
-firstOf fails = 0
-firstOf (reads top j) = top .first
+-- ---- the place of the first tick line is the place behind the head, and there are at most 4,096 of them
+record Led (top : Top) (j : ℕ) : Type 0 where
+  first-is : top .first ≡ j
+  few : top .count ≤ 4096
 
-abbrev placeOf : Read Top → ℕ
-placeOf fails = 0
-placeOf (reads top j) = j
+abbrev topOr : Top → Read Top → Top
+topOr top fails = top
+topOr top (reads other j) = other
 
-same-place : (made top : Top) (k j : ℕ) → made .first ≡ k → reads made k ≡ reads top j → top .first ≡ j
-same-place made top k j e q = sym (ap firstOf q) ∙ e ∙ ap placeOf q
+led : (made top : Top) (k j : ℕ) → made .first ≡ k → made .count ≤ 4096 → reads made k ≡ reads top j → Led top j
+led made top k j e few q =
+    let t : top ≡ made = sym (ap (topOr top) q) in
+    let p : k ≡ j = cc in
+    rw t (record { first-is = e ∙ p; few = few })
 
-pub head-first : (s : List ℕ) (i : ℕ) (top : Top) (j : ℕ) → head s i ≡ reads top j → top .first ≡ j
+head-led : (s : List ℕ) (i : ℕ) (top : Top) (j : ℕ) → head s i ≡ reads top j → Led top j
 unfolding head
-head-first s i top j e =
+head-led s i top j e =
     let b = went (count boardWord 255 s i) _ top j e in
     let f = went (channelSet fittedWord s (b .place)) _ top j (b .onward) in
     let g = went (channelSet forcedWord s (f .place)) _ top j (f .onward) in
     let n = went (count ticksWord 4096 s (g .place)) (λ ticks k. topAt (b .what) (f .what) (g .what) ticks s k) top j (g .onward) in
-    same-place _ top (n .place) j refl (n .onward)
+    led _ top (n .place) j refl (count-most ticksWord 4096 s (g .place) (n .what) (n .place) (n .first)) (n .onward)
 
 -- ---- the answer, by what was read before the ticks
 abbrev pub headIf : List ℕ → Head → Head
@@ -66,7 +70,7 @@ module _ (s : List ℕ) where
           → headIf s (headOf r)
           ≡ sheetHead (on r (λ top j. on (times (top .count) (tickLine 256) s j) (λ ticks k. on (end s k) (λ u m. reads (record { top = top; ticks = ticks }) m))))
       go fails q = refl
-      go (reads top j) q = rw (← head-first s 0 top j q) (lines top (times (top .count) (tickLine 256) s (top .first)))
+      go (reads top j) q = rw (← head-led s 0 top j q .first-is) (lines top (times (top .count) (tickLine 256) s (top .first)))
 
 -- ---- what a sheet is that is read: all of it, with its tick lines from the first on
 atEnd : (s : List ℕ) (k m : ℕ) (u : Unit {0}) → end s k ≡ reads u m → (k ≡ length s) × (m ≡ k)
@@ -80,24 +84,25 @@ atEnd s k m u e = go (eqb k (length s)) refl e
 record Whole (s : List ℕ) (w : Sheet) (i : ℕ) : Type 0 where
   lines : times (w .top .count) (tickLine 256) s (w .top .first) ≡ reads (w .ticks) i
   all : i ≡ length s
+  few : w .top .count ≤ 4096
 
 abbrev sheetOr : Sheet → Read Sheet → Sheet
 sheetOr w fails = w
 sheetOr w (reads v i) = v
 
 made : (s : List ℕ) (top : Top) (ticks : List Tick) (j k m : ℕ) (u : Unit {0}) (w : Sheet) (i : ℕ)
-    → top .first ≡ j → times (top .count) (tickLine 256) s j ≡ reads ticks k → end s k ≡ reads u m
+    → Led top j → times (top .count) (tickLine 256) s j ≡ reads ticks k → end s k ≡ reads u m
     → reads (record { top = top; ticks = ticks }) m ≡ reads w i → Whole s w i
 made s top ticks j k m u w i f l n e =
     let t : w ≡ record { top = top; ticks = ticks } = sym (ap (sheetOr w) e) in
     let p : m ≡ i = cc in
     let a = atEnd s k m u n in
     let q : k ≡ i = sym (a .1) ∙ p in
-    rw t (record { lines = rw (f, ← q) l; all = sym q ∙ a .0 })
+    rw t (record { lines = rw (f .first-is, ← q) l; all = sym q ∙ a .0; few = f .few })
 
-whole : (s : List ℕ) (w : Sheet) (i : ℕ) → sheetIn s ≡ reads w i → Whole s w i
+all-read : (s : List ℕ) (w : Sheet) (i : ℕ) → sheetIn s ≡ reads w i → Whole s w i
 unfolding sheetIn sheet
-whole s w i e =
+all-read s w i e =
     ⊎-elim
     (λ (h : 65536 < length s). let q = sheet-long s h in let z : _≡_ {A = ℕ} 0 1 = cc in absurd (omega arith))
     (λ (h : length s ≤ 65536).
@@ -105,7 +110,7 @@ whole s w i e =
     let b = went (head s 0) _ w i x in
     let l = went (times (b .what .count) (tickLine 256) s (b .place)) _ w i (b .onward) in
     let n = went (end s (l .place)) _ w i (l .onward) in
-    made s (b .what) (l .what) (b .place) (l .place) (n .place) (n .what) w i (head-first s 0 (b .what) (b .place) (b .first)) (l .first) (n .first) (n .onward))
+    made s (b .what) (l .what) (b .place) (l .place) (n .place) (n .what) w i (head-led s 0 (b .what) (b .place) (b .first)) (l .first) (n .first) (n .onward))
     (lt-or-le 65536 (length s))
 
 -- ---- the answer is a head exactly where the sheet is of the form, and then it is that sheet's
@@ -116,6 +121,7 @@ answered s = go (sheetIn s)
     go fails = refl
     go (reads w i) = refl
 
+-- the sheet behind a head that was answered; its ticks are read one after another from the first on, up to the end
 pub record Accepted (s : List ℕ) (bid fitted forced ticks first : ℕ) : Type 0 where
   pub sheet : Sheet
   pub read : sheetIn s ≡ reads sheet (length s)
@@ -124,6 +130,7 @@ pub record Accepted (s : List ℕ) (bid fitted forced ticks first : ℕ) : Type 
   pub its-forced : sheet .top .forced ≡ forced
   pub its-count : sheet .top .count ≡ ticks
   pub its-first : sheet .top .first ≡ first
+  pub few : ticks ≤ 4096
   pub lines : times ticks (tickLine 256) s first ≡ reads (sheet .ticks) (length s)
 
 pub accepted : (s : List ℕ) (bid fitted forced ticks first : ℕ) → Head.Is bid fitted forced ticks first ≡ sheetHead (sheetIn s) → Accepted s bid fitted forced ticks first
@@ -132,7 +139,7 @@ accepted s bid fitted forced ticks first e = go (sheetIn s) refl e
     go : (r : Read Sheet) → sheetIn s ≡ r → Head.Is bid fitted forced ticks first ≡ sheetHead r → Accepted s bid fitted forced ticks first
     go fails q e = let z : _≡_ {A = ℕ} 0 1 = cc in absurd (omega arith)
     go (reads w i) q e =
-        let all = whole s w i q in
+        let all = all-read s w i q in
         let b : w .top .bid ≡ bid = cc in
         let f : w .top .fitted ≡ fitted = cc in
         let g : w .top .forced ≡ forced = cc in
@@ -146,9 +153,11 @@ accepted s bid fitted forced ticks first e = go (sheetIn s) refl e
           its-forced = g;
           its-count = n;
           its-first = p;
+          few = rw (← n) (all .few);
           lines = rw (← n, ← p, ← all .all) (all .lines);
         }
 
+-- and without a head there is none
 pub refused : (s : List ℕ) → Head.Not ≡ sheetHead (sheetIn s) → sheetIn s ≡ fails
 refused s e = go (sheetIn s) e
   where

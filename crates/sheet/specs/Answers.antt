@@ -4,7 +4,7 @@ use mathlib.Core.Bool.{Bool, true, false}
 use mathlib.Core.List.{List, []}
 use lib.ListN.{length}
 use Rattle.hex.specs.Hex.{laid}
-use Rattle.grammar.specs.Grammar.{Read, fails, reads, Parser, on, times, end}
+use Rattle.grammar.specs.Grammar.{Read, fails, reads, on, times, end}
 use Rattle.sheet.specs.Form.{Top, Transfer, silence, bytes, Tick, tickLine, Sheet}
 use Rattle.sheet.specs.declared.head.Head.{Head}
 use Rattle.sheet.specs.declared.ticks.TickLine.{TickLine}

@@ -1,15 +1,15 @@
 -- The session sheet's form, as document 01 gives it: each part reads a text from a place on, and goes on behind what it read. Characters are their ASCII codes: 10 ends a line,
 -- 32 is a space, 45 is `-`. Assumes nothing: these are definitions.
-use Prim.Native.Nat.{ℕ, zero, suc, _+_, _%_}
-use mathlib.Core.Bool.{Bool, true, false, cond}
+use Prim.Native.Nat.{ℕ, zero, suc, _+_}
+use mathlib.Core.Bool.{Bool, cond}
 use mathlib.Core.List.{List, [], _∷_}
 use mathlib.Core.Option.{Option, none, some}
 use lib.Dec.{leb}
 use lib.IntN.{ℤ}
 use lib.ListN.{length}
-use Rattle.hex.specs.Hex.{payloadOf, laid}
+use Rattle.hex.specs.Hex.{payloadOf}
 use Rattle.channels.specs.Sets.{withChannel}
-use Rattle.grammar.specs.Grammar.{Read, fails, reads, Parser, on, _>>=_, _>>_, _<|>_, pure, byte, end, times, text, upTo}
+use Rattle.grammar.specs.Grammar.{Read, fails, reads, Parser, _>>=_, _>>_, _<|>_, pure, byte, end, times, text, upTo}
 use Rattle.grammar.specs.Numbers.{number, signed, word}
 
 -- goes on where a test holds

@@ -7,7 +7,6 @@ use grammar::Next;
 use grammar::Number;
 use grammar::Word;
 use grammar::literal;
-use grammar::peek;
 use grammar::read_number;
 
 // The profile's parts, how many ticks there are, and the place of the first.

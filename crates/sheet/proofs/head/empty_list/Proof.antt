@@ -10,28 +10,22 @@ use Rattle.sheet.proofs.head.empty_list.Reads as reads
 use Rattle.sheet.proofs.head.empty_list.Lts as lts
 use Rattle.grammar.proofs.literal.Reads as literal-reads
 
--- src/head.rt:97:41
 slice-aggregate-literal : tie.Need-slice-aggregate-literal
 slice-aggregate-literal c = search needs
 
--- src/head.rt:97:26
 literal-requires : tie.Need-literal-requires
 literal-requires c κs = search needs
 
--- src/head.rt:97:18
 enum-known-next : tie.Need-enum-known-next
 enum-known-next c = search needs
 
--- src/head.rt:98:9
 enum-told : tie.Need-enum-told
 enum-told c = search needs
 
--- src/head.rt:98:9
 returns : tie.Need-returns
 unfolding channelList
 returns c = rw (sym (text-one 10 _ _) ∙ sym (c .before .before .literal .ensures) ∙ ap seenNext (c .enum-told .given .1))
 
--- src/head.rt:94:1
 returns-2 : tie.Need-returns-2
 unfolding channelList
 returns-2 c = rw (sym (text-one 10 _ _) ∙ sym (c .before .before .before .literal .ensures) ∙ ap seenNext (c .before .next .given .1))

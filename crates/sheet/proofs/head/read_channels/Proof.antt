@@ -1,8 +1,8 @@
 -- `read_channels` meets its contract. The invariant: the channels that are left, behind those of the set, are read as all of them from the start. Assumes nothing.
 use borrow.Author.Needs.{needs}
 use native.Mathlib.Omega.{arith}
-use Prim.Native.Nat.{ℕ, _+_, _-_, _≤_}
-use mathlib.Core.Path.{_≡_, refl, sym, ap, _∙_}
+use Prim.Native.Nat.{ℕ, _-_}
+use mathlib.Core.Path.{_≡_, sym, ap, _∙_}
 use mathlib.Core.List.{List}
 use Rattle.grammar.specs.Views.{seenNext, seenNumber}
 use Rattle.grammar.proofs.Digits.{number-most}
@@ -25,80 +25,64 @@ Inv-loop s at count set₀ least₀ left₀ i₀ set least left i = Rising s at 
 abbrev μ-loop : tie.MeasureT-loop
 μ-loop s at count set₀ least₀ left₀ i₀ set least left i = left
 
--- src/head.rt:59:5
 loop-holds : tie.Need-loop-holds Inv-loop μ-loop
 loop-holds c = search needs
 
--- src/head.rt:60:45
 read-number-requires : tie.Need-read-number-requires Inv-loop μ-loop
 read-number-requires c κs = search needs
 
--- src/head.rt:60:33
 enum-known-c : tie.Need-enum-known-c Inv-loop μ-loop
 enum-known-c c = search needs
 
--- src/head.rt:61:13
 enum-told : tie.Need-enum-told Inv-loop μ-loop
 enum-told c = search needs
 
--- src/head.rt:61:13
 returns : tie.Need-returns Inv-loop μ-loop
 returns c =
     let a = c .before .before .before .before .before .before .args in
     let l = c .before .before .before .before .loop in
     sym (channels-none (l .set) (a .s .now) (l .left) (l .least) (l .i) _ (omega arith) (sym (c .before .before .read-number .ensures) ∙ ap seenNumber (c .enum-told .given .1)) (omega arith)) ∙ l .inv .same
 
--- src/head.rt:64:13
 returns-2 : tie.Need-returns-2 Inv-loop μ-loop
 returns-2 c =
     let a = c .before .before .before .before .before .before .before .before .args in
     let l = c .before .before .before .before .before .before .loop in
     sym (channels-low (l .set) (a .s .now) _ _ (l .left) (l .least) (l .i) _ (omega arith) (sym (c .before .before .before .before .read-number .ensures) ∙ ap seenNumber (c .before .before .c .given .1)) (omega arith) (omega arith)) ∙ l .inv .same
 
--- src/head.rt:66:9
 sub-left : tie.Need-sub-left Inv-loop μ-loop
 sub-left c = search needs
 
--- src/head.rt:67:32
 read-gap-requires : tie.Need-read-gap-requires Inv-loop μ-loop
 read-gap-requires c κs = search needs
 
--- src/head.rt:67:22
 enum-known-behind : tie.Need-enum-known-behind Inv-loop μ-loop
 enum-known-behind c = search needs
 
--- src/head.rt:68:13
 enum-told-2 : tie.Need-enum-told-2 Inv-loop μ-loop
 enum-told-2 c = search needs
 
--- src/head.rt:68:13
 returns-3 : tie.Need-returns-3 Inv-loop μ-loop
 returns-3 c =
     let a = c .before .before .before .before .before .before .before .before .before .before .before .args in
     let l = c .before .before .before .before .before .before .before .before .before .loop in
     sym (channels-apart (l .set) (a .s .now) _ _ (l .left) (l .least) (l .i) _ (omega arith) (sym (c .before .before .before .before .before .before .before .read-number .ensures) ∙ ap seenNumber (c .before .before .before .before .before .c .given .1)) (omega arith) (omega arith) (sym (c .before .before .read-gap .ensures) ∙ ap seenNext (c .enum-told2 .given .1))) ∙ l .inv .same
 
--- src/head.rt:70:43
 cast-with-channel : tie.Need-cast-with-channel Inv-loop μ-loop
 cast-with-channel c =
     let a = c .before .before .before .before .before .before .before .before .before .before .before .before .args in
     omega (arith, number-most _ (a .s .now) _ _ _ (sym (c .before .before .before .before .before .before .before .before .read-number .ensures) ∙ ap seenNumber (c .before .before .before .before .before .before .c .given .1)))
 
--- src/head.rt:70:9
 with-channel-requires : tie.Need-with-channel-requires Inv-loop μ-loop
 with-channel-requires c κs = search needs
 
--- src/head.rt:71:17
 add-least : tie.Need-add-least Inv-loop μ-loop
 add-least c =
     let a = c .before .before .before .before .before .before .before .before .before .before .before .before .before .args in
     omega (arith, number-most _ (a .s .now) _ _ _ (sym (c .before .before .before .before .before .before .before .before .before .read-number .ensures) ∙ ap seenNumber (c .before .before .before .before .before .before .before .c .given .1)))
 
--- src/head.rt:59:5
 loop-less : tie.Need-loop-less Inv-loop μ-loop
 loop-less c = search needs
 
--- src/head.rt:59:5
 loop-again : tie.Need-loop-again Inv-loop μ-loop
 loop-again c =
     let a = c .before .before .before .before .before .before .before .before .before .before .before .before .before .args in
@@ -110,7 +94,6 @@ loop-again c =
       same = rw (c .with-channel .ensures) (sym (channels-more (l .set) (a .s .now) (g .0 .0) (g .0 .1 .0) (l .left) (l .least) (l .i) _ _ (omega arith) channel (omega arith) (omega arith) apart _ (omega arith)) ∙ l .inv .same);
     }
 
--- src/head.rt:52:1
 returns-4 : tie.Need-returns-4 Inv-loop μ-loop
 returns-4 c =
     let a = c .before .before .before .args in

@@ -11,62 +11,48 @@ use Rattle.sheet.proofs.head.read_count.Lts as lts
 use Rattle.grammar.proofs.literal.Reads as literal-reads
 use Rattle.grammar.proofs.read_number.Reads as read-number-reads
 
--- src/head.rt:29:28
 literal-requires : tie.Need-literal-requires
 literal-requires c κs = search needs
 
--- src/head.rt:29:18
 enum-known-behind : tie.Need-enum-known-behind
 enum-known-behind c = search needs
 
--- src/head.rt:30:9
 enum-told : tie.Need-enum-told
 enum-told c = search needs
 
--- src/head.rt:30:9
 returns : tie.Need-returns
 unfolding count
 returns c = rw (sym (c .before .before .literal .ensures) ∙ ap seenNext (c .enum-told .given .1))
 
--- src/head.rt:32:38
 read-number-requires : tie.Need-read-number-requires
 read-number-requires c κs = search needs
 
--- src/head.rt:32:22
 enum-known-value : tie.Need-enum-known-value
 enum-known-value c = search needs
 
--- src/head.rt:33:9
 enum-told-2 : tie.Need-enum-told-2
 enum-told-2 c = search needs
 
--- src/head.rt:33:9
 returns-2 : tie.Need-returns-2
 unfolding count
 returns-2 c = rw (sym (c .before .before .before .before .before .before .literal .ensures) ∙ ap seenNext (c .before .before .before .before .behind .given .1), sym (c .before .before .read-number .ensures) ∙ ap seenNumber (c .enum-told2 .given .1))
 
--- src/head.rt:35:42
 slice-aggregate-literal : tie.Need-slice-aggregate-literal
 slice-aggregate-literal c = search needs
 
--- src/head.rt:35:25
 literal-requires-2 : tie.Need-literal-requires-2
 literal-requires-2 c κs = search needs
 
--- src/head.rt:35:18
 enum-known-end : tie.Need-enum-known-end
 enum-known-end c = search needs
 
--- src/head.rt:36:9
 enum-told-3 : tie.Need-enum-told-3
 enum-told-3 c = search needs
 
--- src/head.rt:36:9
 returns-3 : tie.Need-returns-3
 unfolding count
 returns-3 c = rw (sym (c .before .before .before .before .before .before .before .before .before .before .before .literal .ensures) ∙ ap seenNext (c .before .before .before .before .before .before .before .before .before .behind .given .1), sym (c .before .before .before .before .before .before .before .read-number .ensures) ∙ ap seenNumber (c .before .before .before .before .before .value .given .1), sym (text-one 10 _ _) ∙ sym (c .before .before .literal2 .ensures) ∙ ap seenNext (c .enum-told3 .given .1))
 
--- src/head.rt:26:1
 returns-4 : tie.Need-returns-4
 unfolding count
 returns-4 c = rw (sym (c .before .before .before .before .before .before .before .before .before .before .before .before .literal .ensures) ∙ ap seenNext (c .before .before .before .before .before .before .before .before .before .before .behind .given .1), sym (c .before .before .before .before .before .before .before .before .read-number .ensures) ∙ ap seenNumber (c .before .before .before .before .before .before .value .given .1), sym (text-one 10 _ _) ∙ sym (c .before .before .before .literal2 .ensures) ∙ ap seenNext (c .before .end .given .1))

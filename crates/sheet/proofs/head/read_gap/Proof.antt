@@ -9,27 +9,21 @@ use Rattle.sheet.proofs.head.read_gap.Reads as reads
 use Rattle.sheet.proofs.head.read_gap.Lts as lts
 use Rattle.grammar.proofs.literal.Reads as literal-reads
 
--- src/head.rt:46:31
 slice-aggregate-literal : tie.Need-slice-aggregate-literal
 slice-aggregate-literal c = search needs
 
--- src/head.rt:46:9
 literal-requires : tie.Need-literal-requires
 literal-requires c κs = search needs
 
--- src/head.rt:46:9
 returns : tie.Need-returns
 returns c = c .literal .ensures ∙ gap-last _ (c .before .before .before .before .args .s .now) (c .before .before .before .before .args .at) (omega arith)
 
--- src/head.rt:48:20
 slice-aggregate-literal-2 : tie.Need-slice-aggregate-literal-2
 slice-aggregate-literal-2 c = search needs
 
--- src/head.rt:48:5
 literal-requires-2 : tie.Need-literal-requires-2
 literal-requires-2 c κs = search needs
 
--- src/head.rt:42:1
 returns-2 : tie.Need-returns-2
 returns-2 c = c .literal2 .ensures ∙ gap-more _ (c .before .before .before .before .args .s .now) (c .before .before .before .before .args .at) (omega arith)
 

@@ -1,7 +1,7 @@
 -- `read_head` meets its contract: each answer on the way rewrites the form. Assumes nothing.
 use native.Mathlib.Omega.{arith}
 use Prim.Native.Nat.{_%_}
-use mathlib.Core.Path.{_≡_, refl, sym, ap, _∙_}
+use mathlib.Core.Path.{_≡_, sym, ap, _∙_}
 use Rattle.grammar.specs.Views.{seenNumber, seenWord}
 use Rattle.sheet.specs.Form.{boardWord, ticksWord, head}
 use Rattle.sheet.proofs.Parts.{count-most, count-by}
@@ -13,44 +13,34 @@ use Rattle.sheet.proofs.head.read_head.Lts as lts
 use Rattle.sheet.proofs.head.read_count.Reads as read-count-reads
 use Rattle.sheet.proofs.head.read_set.Reads as read-set-reads
 
--- src/head.rt:110:26
 slice-aggregate-read-count : tie.Need-slice-aggregate-read-count
 slice-aggregate-read-count c = search needs
 
--- src/head.rt:110:9
 read-count-requires : tie.Need-read-count-requires
 read-count-requires c κs = search needs
 
--- src/head.rt:108:16
 enum-known-bid : tie.Need-enum-known-bid
 enum-known-bid c = search needs
 
--- src/head.rt:112:9
 enum-told : tie.Need-enum-told
 enum-told c = search needs
 
--- src/head.rt:112:9
 returns : tie.Need-returns
 unfolding head
 returns c = rw (sym (c .before .before .read-count .ensures) ∙ ap seenNumber (c .enum-told .given .1))
 
--- src/head.rt:117:34
 slice-aggregate-read-set : tie.Need-slice-aggregate-read-set
 slice-aggregate-read-set c = search needs
 
--- src/head.rt:117:9
 read-set-requires : tie.Need-read-set-requires
 read-set-requires c κs = search needs
 
--- src/head.rt:115:16
 enum-known-fitted : tie.Need-enum-known-fitted
 enum-known-fitted c = search needs
 
--- src/head.rt:119:9
 enum-told-2 : tie.Need-enum-told-2
 enum-told-2 c = search needs
 
--- src/head.rt:119:9
 returns-2 : tie.Need-returns-2
 unfolding head
 returns-2 c =
@@ -59,23 +49,18 @@ returns-2 c =
       sym (c .before .before .read-set .ensures) ∙ ap seenWord (c .enum-told2 .given .1),
     )
 
--- src/head.rt:124:35
 slice-aggregate-read-set-2 : tie.Need-slice-aggregate-read-set-2
 slice-aggregate-read-set-2 c = search needs
 
--- src/head.rt:124:9
 read-set-requires-2 : tie.Need-read-set-requires-2
 read-set-requires-2 c κs = search needs
 
--- src/head.rt:122:16
 enum-known-forced : tie.Need-enum-known-forced
 enum-known-forced c = search needs
 
--- src/head.rt:126:9
 enum-told-3 : tie.Need-enum-told-3
 enum-told-3 c = search needs
 
--- src/head.rt:126:9
 returns-3 : tie.Need-returns-3
 unfolding head
 returns-3 c =
@@ -85,23 +70,18 @@ returns-3 c =
       sym (c .before .before .read-set2 .ensures) ∙ ap seenWord (c .enum-told3 .given .1),
     )
 
--- src/head.rt:131:37
 slice-aggregate-read-count-2 : tie.Need-slice-aggregate-read-count-2
 slice-aggregate-read-count-2 c = search needs
 
--- src/head.rt:131:9
 read-count-requires-2 : tie.Need-read-count-requires-2
 read-count-requires-2 c κs = search needs
 
--- src/head.rt:129:16
 enum-known-ticks : tie.Need-enum-known-ticks
 enum-known-ticks c = search needs
 
--- src/head.rt:133:9
 enum-told-4 : tie.Need-enum-told-4
 enum-told-4 c = search needs
 
--- src/head.rt:133:9
 returns-4 : tie.Need-returns-4
 unfolding head
 returns-4 c =
@@ -112,11 +92,9 @@ returns-4 c =
       count-by ticksWord _ 4096 (c .before .before .before .before .before .before .before .before .before .before .before .before .before .before .before .before .before .before .before .before .args .s .now) _ _ (sym (c .before .before .read-count2 .ensures) ∙ ap seenNumber (c .enum-told4 .given .1)) (omega arith),
     )
 
--- src/head.rt:136:14
 cast-t27 : tie.Need-cast-t27
 cast-t27 c = search needs
 
--- src/head.rt:104:1
 returns-5 : tie.Need-returns-5
 unfolding head
 returns-5 c =

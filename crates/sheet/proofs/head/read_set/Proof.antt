@@ -13,39 +13,31 @@ use Rattle.sheet.proofs.head.empty_list.Reads as empty-list-reads
 use Rattle.sheet.proofs.head.read_channels.Reads as read-channels-reads
 use Rattle.sheet.proofs.head.read_count.Reads as read-count-reads
 
--- src/head.rt:84:45
 read-count-requires : tie.Need-read-count-requires
 read-count-requires c κs = search needs
 
--- src/head.rt:84:29
 enum-known-count : tie.Need-enum-known-count
 enum-known-count c = search needs
 
--- src/head.rt:85:9
 enum-told : tie.Need-enum-told
 enum-told c = search needs
 
--- src/head.rt:85:9
 returns : tie.Need-returns
 unfolding channelSet
 returns c = rw (sym (c .before .before .read-count .ensures) ∙ ap seenNumber (c .enum-told .given .1))
 
--- src/head.rt:88:9
 empty-list-requires : tie.Need-empty-list-requires
 empty-list-requires c κs = search needs
 
--- src/head.rt:88:9
 returns-2 : tie.Need-returns-2
 unfolding channelSet
 returns-2 c =
     let none : c .before .before .before .count .given .0 .0 ≡ 0 = omega arith in
     rw (sym (c .before .before .before .before .before .read-count .ensures) ∙ ap seenNumber (c .before .before .before .count .given .1), none) (c .empty-list .ensures)
 
--- src/head.rt:90:5
 read-channels-requires : tie.Need-read-channels-requires
 read-channels-requires c κs = search needs
 
--- src/head.rt:81:1
 returns-3 : tie.Need-returns-3
 unfolding channelSet
 returns-3 c = rw (sym (c .before .before .before .before .before .read-count .ensures) ∙ ap seenNumber (c .before .before .before .count .given .1), list-some (c .before .before .before .count .given .0 .0) _ _ (omega arith)) (c .read-channels .ensures)

@@ -1,9 +1,7 @@
 -- `read_command` meets its contract. Assumes nothing.
 use native.Mathlib.Omega.{arith}
-use Prim.Native.Nat.{_<_, _≤_}
 use mathlib.Core.Path.{refl, sym, ap, _∙_}
-use lib.ListN.{length}
-use Rattle.grammar.specs.Views.{seenNext, seenLine, Lies}
+use Rattle.grammar.specs.Views.{seenNext, seenLine}
 use Rattle.sheet.proofs.Lines.{laid-none, command-silent, command-endless, command-spelt}
 use borrow.Author.Needs.{needs}
 use Rattle.sheet.proofs.ticks.read_command.Statement.{statement}
@@ -14,68 +12,53 @@ use Rattle.grammar.proofs.find_byte.Reads as find-byte-reads
 use Rattle.grammar.proofs.literal.Reads as literal-reads
 use Rattle.sheet.proofs.ticks.spelt.Reads as spelt-reads
 
--- src/ticks.rt:60:44
 slice-aggregate-literal : tie.Need-slice-aggregate-literal
 slice-aggregate-literal c = search needs
 
--- src/ticks.rt:60:29
 literal-requires : tie.Need-literal-requires
 literal-requires c κs = search needs
 
--- src/ticks.rt:60:21
 enum-known-next : tie.Need-enum-known-next
 enum-known-next c = search needs
 
--- src/ticks.rt:61:9
 returns : tie.Need-returns
 returns c = rw (command-silent _ (c .before .before .before .before .before .before .before .args .s .now) (c .before .before .before .before .before .before .before .args .at) _ _ (sym (c .before .before .before .literal .ensures) ∙ ap seenNext (c .before .next .given .1)) refl) (refl, laid-none (c .before .before .before .before .before .before .before .args .transfer .now))
 
 enum-told : tie.Need-enum-told
 enum-told c = search needs
 
--- src/ticks.rt:67:26
 find-byte-requires : tie.Need-find-byte-requires
 find-byte-requires c κs = search needs
 
--- src/ticks.rt:67:19
 enum-known-end : tie.Need-enum-known-end
 enum-known-end c = search needs
 
--- src/ticks.rt:68:9
 enum-told-2 : tie.Need-enum-told-2
 enum-told-2 c = search needs
 
--- src/ticks.rt:68:9
 returns-2 : tie.Need-returns-2
 returns-2 c =
     let a = c .before .before .before .before .before .before .before .before .before .args in
     rw (command-endless _ (a .s .now) (a .at) _ (sym (c .before .before .before .before .before .literal .ensures) ∙ ap seenNext (c .before .before .before .enum-told .given .1)) refl (sym (c .before .before .find-byte .ensures .0) ∙ ap (seenLine (a .s .now) (a .at)) (c .enum-told2 .given .1))) (refl, refl)
 
--- src/ticks.rt:70:11
 sub-spelt : tie.Need-sub-spelt
 sub-spelt c = omega (arith, (rw (c .before .end .given .1) at (c .before .before .before .find-byte .ensures .1)) .0)
 
--- src/ticks.rt:70:11
 part-spelt-start : tie.Need-part-spelt-start
 part-spelt-start c = let lies = (rw (c .before .end .given .1) at (c .before .before .before .find-byte .ensures .1)) in omega (arith, lies .0, lies .1)
 
--- src/ticks.rt:70:11
 part-spelt-end : tie.Need-part-spelt-end
 part-spelt-end c = omega (arith, (rw (c .before .end .given .1) at (c .before .before .before .find-byte .ensures .1)) .1)
 
--- src/ticks.rt:70:24
 add-spelt : tie.Need-add-spelt
 add-spelt c = omega (arith, (rw (c .before .before .end .given .1) at (c .before .before .before .before .find-byte .ensures .1)) .1)
 
--- src/ticks.rt:70:5
 spelt-requires : tie.Need-spelt-requires
 spelt-requires c κs = search needs
 
--- src/ticks.rt:56:1
 same-length : tie.Need-same-length
 same-length c = search needs
 
--- src/ticks.rt:56:1
 returns-3 : tie.Need-returns-3
 returns-3 c =
     let a = c .before .before .before .before .before .before .before .before .before .before .before .before .before .before .before .args in

@@ -1,7 +1,6 @@
 -- `read_tick` meets its contract: each answer on the way rewrites the form. Assumes nothing.
 use native.Mathlib.Omega.{arith}
-use mathlib.Core.Path.{_≡_, refl, sym, ap, _∙_}
-use lib.IntN.{ℤ}
+use mathlib.Core.Path.{refl, sym, ap, _∙_}
 use lib.ListN.{length}
 use Rattle.grammar.specs.Views.{seenNext, seenSigned, seenWord}
 use Rattle.grammar.proofs.Signs.{kept}
@@ -18,40 +17,31 @@ use Rattle.grammar.proofs.read_signed.Reads as read-signed-reads
 use Rattle.grammar.proofs.read_word.Reads as read-word-reads
 use Rattle.sheet.proofs.ticks.read_command.Reads as read-command-reads
 
--- src/ticks.rt:81:9
 read-signed-requires : tie.Need-read-signed-requires
 read-signed-requires c κs = search needs
 
--- src/ticks.rt:79:16
 enum-known-rail : tie.Need-enum-known-rail
 enum-known-rail c = search needs
 
--- src/ticks.rt:83:9
 enum-told : tie.Need-enum-told
 enum-told c = search needs
 
--- src/ticks.rt:83:9
 returns : tie.Need-returns
 unfolding tickLine
 returns c = rw (sym (c .before .before .read-signed .ensures) ∙ ap seenSigned (c .enum-told .given .1)) (refl, refl)
 
--- src/ticks.rt:85:51
 slice-aggregate-literal : tie.Need-slice-aggregate-literal
 slice-aggregate-literal c = search needs
 
--- src/ticks.rt:85:28
 literal-requires : tie.Need-literal-requires
 literal-requires c κs = search needs
 
--- src/ticks.rt:85:18
 enum-known-set-at : tie.Need-enum-known-set-at
 enum-known-set-at c = search needs
 
--- src/ticks.rt:86:9
 enum-told-2 : tie.Need-enum-told-2
 enum-told-2 c = search needs
 
--- src/ticks.rt:86:9
 returns-2 : tie.Need-returns-2
 unfolding tickLine
 returns-2 c =
@@ -60,19 +50,15 @@ returns-2 c =
       sym (text-one 32 _ _) ∙ sym (c .before .before .literal .ensures) ∙ ap seenNext (c .enum-told2 .given .1),
     ) (refl, refl)
 
--- src/ticks.rt:91:9
 read-word-requires : tie.Need-read-word-requires
 read-word-requires c κs = search needs
 
--- src/ticks.rt:89:16
 enum-known-overcurrent : tie.Need-enum-known-overcurrent
 enum-known-overcurrent c = search needs
 
--- src/ticks.rt:93:9
 enum-told-3 : tie.Need-enum-told-3
 enum-told-3 c = search needs
 
--- src/ticks.rt:93:9
 returns-3 : tie.Need-returns-3
 unfolding tickLine
 returns-3 c =
@@ -82,23 +68,18 @@ returns-3 c =
       sym (c .before .before .read-word .ensures) ∙ ap seenWord (c .enum-told3 .given .1),
     ) (refl, refl)
 
--- src/ticks.rt:95:54
 slice-aggregate-literal-2 : tie.Need-slice-aggregate-literal-2
 slice-aggregate-literal-2 c = search needs
 
--- src/ticks.rt:95:32
 literal-requires-2 : tie.Need-literal-requires-2
 literal-requires-2 c κs = search needs
 
--- src/ticks.rt:95:18
 enum-known-command-at : tie.Need-enum-known-command-at
 enum-known-command-at c = search needs
 
--- src/ticks.rt:96:9
 enum-told-4 : tie.Need-enum-told-4
 enum-told-4 c = search needs
 
--- src/ticks.rt:96:9
 returns-4 : tie.Need-returns-4
 unfolding tickLine
 returns-4 c =
@@ -109,23 +90,18 @@ returns-4 c =
       sym (text-one 32 _ _) ∙ sym (c .before .before .literal2 .ensures) ∙ ap seenNext (c .enum-told4 .given .1),
     ) (refl, refl)
 
--- src/ticks.rt:98:45
 read-command-requires : tie.Need-read-command-requires
 read-command-requires c κs = search needs
 
--- src/ticks.rt:98:23
 enum-known-sent : tie.Need-enum-known-sent
 enum-known-sent c = search needs
 
--- src/ticks.rt:99:9
 enum-told-5 : tie.Need-enum-told-5
 enum-told-5 c = search needs
 
--- src/ticks.rt:99:9
 same-length : tie.Need-same-length
 same-length c = search needs
 
--- src/ticks.rt:99:9
 returns-5 : tie.Need-returns-5
 unfolding tickLine
 returns-5 c =
@@ -143,11 +119,9 @@ returns-5 c =
       c .before .before .before .before .read-command .ensures .1 ∙ tick-held (rail .0 .0) (set .0 .0) order (a .transfer .now),
     )
 
--- src/ticks.rt:74:1
 same-length-2 : tie.Need-same-length-2
 same-length-2 c = search needs
 
--- src/ticks.rt:74:1
 returns-6 : tie.Need-returns-6
 unfolding tickLine
 returns-6 c =

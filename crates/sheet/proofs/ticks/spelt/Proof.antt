@@ -10,49 +10,39 @@ use Rattle.sheet.proofs.ticks.spelt.Reads as reads
 use Rattle.sheet.proofs.ticks.spelt.Lts as lts
 use Rattle.hex.proofs.read.Reads as read-reads
 
--- src/ticks.rt:44:11
 read-requires : tie.Need-read-requires
 read-requires c κs = search needs
 
--- src/ticks.rt:45:24
 enum-known-count : tie.Need-enum-known-count
 enum-known-count c = search needs
 
--- src/ticks.rt:50:31
 enum-told : tie.Need-enum-told
 enum-told c = search needs
 
--- src/ticks.rt:51:30
 enum-told-2 : tie.Need-enum-told-2
 enum-told-2 c = search needs
 
--- src/ticks.rt:40:1
 same-length : tie.Need-same-length
 same-length c = search needs
 
--- src/ticks.rt:40:1
 returns : tie.Need-returns
 returns c =
     let a = c .before .before .before .before .before .before .before .before .before .args in
     let o = payloadOf (a .text .now) in
     (ap (commandBy (a .next)) (sym (c .before .count .given .1) ∙ c .before .before .before .before .before .read .ensures .0) ∙ spells-told o (length (a .transfer .now)) (a .next), c .before .before .before .before .before .read .ensures .1 ∙ spells-held o (a .next) (a .transfer .now))
 
--- src/ticks.rt:40:1
 same-length-2 : tie.Need-same-length-2
 same-length-2 c = search needs
 
--- src/ticks.rt:40:1
 returns-2 : tie.Need-returns-2
 returns-2 c =
     let a = c .before .before .before .before .before .before .before .before .args in
     let o = payloadOf (a .text .now) in
     (ap (commandBy (a .next)) (sym (c .enum-told .given .1) ∙ c .before .before .before .before .read .ensures .0) ∙ spells-told o (length (a .transfer .now)) (a .next), c .before .before .before .before .read .ensures .1 ∙ spells-held o (a .next) (a .transfer .now))
 
--- src/ticks.rt:40:1
 same-length-3 : tie.Need-same-length-3
 same-length-3 c = search needs
 
--- src/ticks.rt:40:1
 returns-3 : tie.Need-returns-3
 returns-3 c =
     let a = c .before .before .before .before .before .before .before .before .args in

@@ -1,8 +1,8 @@
 -- `are_ticks` meets its contract. The invariant: the lines that are left stand from here on just where all of them stand from the first on. Assumes nothing.
 use borrow.Author.Needs.{needs}
 use native.Mathlib.Omega.{arith}
-use Prim.Native.Nat.{ℕ, _-_, _≤_}
-use mathlib.Core.Path.{_≡_, refl, sym, ap, _∙_}
+use Prim.Native.Nat.{ℕ, _-_}
+use mathlib.Core.Path.{_≡_, sym, ap, _∙_}
 use mathlib.Core.List.{List}
 use lib.ListN.{length}
 use Rattle.sheet.specs.Answers.{areTicks}
@@ -23,42 +23,33 @@ Inv-loop s first count transfer₀ at₀ left₀ transfer at left = Ticks s firs
 abbrev μ-loop : tie.MeasureT-loop
 μ-loop s first count transfer₀ at₀ left₀ transfer at left = left
 
--- src/whole.rt:20:5
 loop-holds : tie.Need-loop-holds Inv-loop μ-loop
 loop-holds c = search needs
 
--- src/whole.rt:27:30
 slice-aggregate-read-tick : tie.Need-slice-aggregate-read-tick Inv-loop μ-loop
 slice-aggregate-read-tick c = search needs
 
--- src/whole.rt:27:13
 read-tick-requires : tie.Need-read-tick-requires Inv-loop μ-loop
 read-tick-requires c κs = search needs
 
--- src/whole.rt:26:13
 enum-known-next : tie.Need-enum-known-next Inv-loop μ-loop
 enum-known-next c = search needs
 
--- src/whole.rt:29:13
 enum-told : tie.Need-enum-told Inv-loop μ-loop
 enum-told c = search needs
 
--- src/whole.rt:29:13
 returns : tie.Need-returns Inv-loop μ-loop
 returns c =
     let a = c .before .before .before .before .before .before .before .before .args in
     let l = c .before .before .before .before .before .before .loop in
     ap (areTicksBehind (l .left - 1) (a .s .now)) (sym (c .enum-told .given .1) ∙ c .before .before .before .read-tick .ensures .0) ∙ ticks-turn (l .left) (a .s .now) (l .at) _ (omega arith) (omega (arith, l .inv .room)) ∙ l .inv .same
 
--- src/whole.rt:32:9
 sub-left : tie.Need-sub-left Inv-loop μ-loop
 sub-left c = search needs
 
--- src/whole.rt:20:5
 loop-less : tie.Need-loop-less Inv-loop μ-loop
 loop-less c = search needs
 
--- src/whole.rt:20:5
 loop-again : tie.Need-loop-again Inv-loop μ-loop
 loop-again c =
     let a = c .before .before .before .before .before .before .before .before .before .args in
@@ -68,7 +59,6 @@ loop-again c =
       same = ap (areTicksBehind (l .left - 1) (a .s .now)) (sym (c .before .next .given .1) ∙ c .before .before .before .before .read-tick .ensures .0) ∙ ticks-turn (l .left) (a .s .now) (l .at) _ (omega arith) (omega (arith, l .inv .room)) ∙ l .inv .same;
     }
 
--- src/whole.rt:14:1
 returns-2 : tie.Need-returns-2 Inv-loop μ-loop
 returns-2 c =
     let l = c .before .loop in

@@ -12,33 +12,26 @@ use Rattle.sheet.proofs.whole.read.Lts as lts
 use Rattle.sheet.proofs.head.read_head.Reads as read-head-reads
 use Rattle.sheet.proofs.whole.are_ticks.Reads as are-ticks-reads
 
--- src/whole.rt:42:9
 returns : tie.Need-returns
 returns c = sym (ap sheetHead (sheet-long (c .before .before .args .s .now) (omega arith)))
 
--- src/whole.rt:50:9
 read-head-requires : tie.Need-read-head-requires
 read-head-requires c κs = search needs
 
--- src/whole.rt:45:9
 enum-known-bid : tie.Need-enum-known-bid
 enum-known-bid c = search needs
 
--- src/whole.rt:52:9
 enum-told : tie.Need-enum-told
 enum-told c = search needs
 
--- src/whole.rt:52:9
 returns-2 : tie.Need-returns-2
 returns-2 c =
     let s = c .before .before .before .before .before .args .s .now in
     ap (headIf s) (sym (c .enum-told .given .1) ∙ c .before .before .read-head .ensures) ∙ sheet-told s (omega arith)
 
--- src/whole.rt:54:8
 are-ticks-requires : tie.Need-are-ticks-requires
 are-ticks-requires c κs = search needs
 
--- src/whole.rt:55:9
 returns-3 : tie.Need-returns-3
 returns-3 c =
     let s = c .before .before .before .before .before .before .before .before .args .s .now in
@@ -46,7 +39,6 @@ returns-3 c =
     let behind = ap (headIf s) (sym (c .before .before .before .bid .given .1) ∙ c .before .before .before .before .before .read-head .ensures) ∙ sheet-told s (omega arith) in
     rw (sym (c .before .are-ticks .ensures) ∙ stand) at behind
 
--- src/whole.rt:38:1
 returns-4 : tie.Need-returns-4
 returns-4 c =
     let s = c .before .before .before .before .before .before .before .before .args .s .now in
