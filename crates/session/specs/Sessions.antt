@@ -74,6 +74,9 @@ stepped r held = steps (r .session) (page held (r .printed))
 abbrev pub noSession : Session
 noSession = record { machine = noMachine; count = 0; left = 0; at = 0 }
 
+abbrev pub endedStep : Stepped
+endedStep = record { session = noSession; printed = 0 }
+
 -- ---- opening
 abbrev pub sessionAt : Machine → ℕ → ℕ → Session
 sessionAt m count first = record { machine = m; count = count; left = count; at = first }

@@ -1,6 +1,7 @@
 // The steps of a session.
 ghost use mathlib.Core.Path.{_≡_};
-ghost use Rattle.session.specs.Sessions.{noSession, opened, stepped, startedOf, openedOf, steppedOf, tickedOf};
+ghost use Prim.Native.Nat.{_<_, _≤_};
+ghost use Rattle.session.specs.Sessions.{noSession, endedStep, opened, stepped, startedOf, openedOf, steppedOf, tickedOf};
 use crate::transcript::tick_line;
 use crate::transcript::ticks_line;
 use memory::Store;
@@ -104,6 +105,7 @@ pub fn open(s: &[u8], out: &mut [u8]) -> Opened
 }
 
 // Runs one tick of a session, and prints its line.
+// argued: called where a tick is left, and no more than there are
 fn ticked(
     session: Session,
     rail: i16,
@@ -113,6 +115,7 @@ fn ticked(
     next: usize,
     out: &mut [u8],
 ) -> Stepped
+    requires { ⌜ (0 < session .left) × (session .left ≤ session .count) ⌝ }
     ensures { λ r. ⌜ stepped r (now (out .exit)) ≡ tickedOf (now (out .entry)) session rail overcurrent sent (now (transfer .entry)) next ⌝ }
 {
     let words: [u16; 0] = [];
@@ -164,8 +167,10 @@ pub fn step(session: Session, s: &[u8], out: &mut [u8]) -> Stepped
     )
 }
 
-// A session that ended.
-fn ended() -> Stepped {
+// A session that ended: nothing is printed.
+fn ended() -> Stepped
+    ensures { λ r. ⌜ r ≡ endedStep ⌝ }
+{
     Stepped {
         session: none(),
         printed: 0,
