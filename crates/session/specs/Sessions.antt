@@ -120,3 +120,52 @@ steppedBy (reads t next) held session = cond (isOver session) (over held) (ticke
 
 unfoldable pub steppedOf : List ℕ → List ℕ → Session → Step
 steppedOf held s session = steppedBy (tickLine 256 s (session .at)) held session
+
+-- ---- the steps one after another: what each prints, and the session that it leaves
+
+-- opening
+abbrev pub sessionBy : start.StartAnswer → Machine → ℕ → ℕ → Session
+sessionBy start.StartAnswer.Accepted m count first = sessionAt m count first
+sessionBy start.StartAnswer.ProfileBreaksARule m count first = noSession
+
+abbrev pub firstBy : start.StartAnswer → ℕ → List ℕ
+firstBy start.StartAnswer.Accepted count = ticksText count
+firstBy start.StartAnswer.ProfileBreaksARule count = refused8
+
+abbrev pub answerBy : start.StartAnswer → Answer
+answerBy start.StartAnswer.Accepted = Running
+answerBy start.StartAnswer.ProfileBreaksARule = ProfileBreaksARule
+
+abbrev pub sessionFrom : Read Sheet → Session
+sessionFrom fails = noSession
+sessionFrom (reads sheet i) =
+    let begun = beginning (profileIn (sheet .top)) in
+    sessionBy (begun .answer) (begun .machine) (sheet .top .count) (sheet .top .first)
+
+abbrev pub firstFrom : Read Sheet → List ℕ
+firstFrom fails = refused14
+firstFrom (reads sheet i) = firstBy (beginning (profileIn (sheet .top)) .answer) (sheet .top .count)
+
+abbrev pub answerFrom : Read Sheet → Answer
+answerFrom fails = NotOfForm
+answerFrom (reads sheet i) = answerBy (beginning (profileIn (sheet .top)) .answer)
+
+-- a tick
+abbrev pub nextBy : Read Tick → Session → Session
+nextBy fails session = noSession
+nextBy (reads t next) session = cond (isOver session) noSession (after session next (tickOn (session .machine) t))
+
+abbrev pub printedBy : Read Tick → Session → List ℕ
+printedBy fails session = []
+printedBy (reads t next) session = cond (isOver session) [] (lineOf (numberOf session) (tickOn (session .machine) t))
+
+-- so many steps
+unfoldable pub stepsFrom : ℕ → List ℕ → Session → List ℕ
+stepsFrom zero s session = []
+stepsFrom (suc n) s session = printedBy (tickLine 256 s (session .at)) session ++ stepsFrom n s (nextBy (tickLine 256 s (session .at)) session)
+
+-- document 01's number of an answer; 0 stands for none
+abbrev pub answerNumber : Answer → ℕ
+answerNumber Running = 0
+answerNumber ProfileBreaksARule = 8
+answerNumber NotOfForm = 14
