@@ -28,6 +28,7 @@ open-is held s = go (sheetIn s)
     begun : (a : start.StartAnswer) (m : Machine) (count first : ℕ) → startedBy a m count first held ≡ opens (sessionBy a m count first) (answerBy a) (typed (page held 0) (firstBy a count))
     begun start.StartAnswer.Accepted m count first = refl
     begun start.StartAnswer.ProfileBreaksARule m count first = refl
+
     go : (r : Read Sheet) → openedBy r held ≡ opens (sessionFrom r) (answerFrom r) (typed (page held 0) (firstFrom r))
     go fails = refl
     go (reads sheet i) = begun (beginning (profileIn (sheet .top)) .answer) (beginning (profileIn (sheet .top)) .machine) (sheet .top .count) (sheet .top .first)
@@ -76,6 +77,7 @@ transcript s = go (sheetIn s) refl
         let one : count - count + 1 ≡ 1 = omega arith in
         ap (λ (rest : List ℕ). ticksText count ++ rest) (steps-lines count count first m s ticks (length s) e (omega arith) ∙ ap (λ (k : ℕ). linesFrom k m ticks) one)
     begun start.StartAnswer.ProfileBreaksARule m count first ticks e = refl
+
     go : (r : Read Sheet) → sheetIn s ≡ r → firstFrom r ++ stepsFrom (sessionFrom r .left) s (sessionFrom r) ≡ sheetText r
     go fails q = refl
     go (reads sheet i) q =

@@ -34,6 +34,7 @@ command-short most s i t j e = go (on (text (45 ∷ 10 ∷ []) s i) (λ u k. rea
     dash : (r : Read (Unit {0})) → (k : ℕ) → (x : Transfer) → on r (λ u k. reads silence k) ≡ reads x k → x ≡ silence
     dash fails k x q = let z : _≡_ {A = ℕ} 0 1 = cc in absurd (omega arith)
     dash (reads u m) k x q = let l : silence ≡ x = cc in sym l
+
     go : (r : Read Transfer) → ((k : ℕ) (x : Transfer) → r ≡ reads x k → x ≡ silence)
         → either r (on (upTo 10 s i) (λ l k. on (byte 10 s k) (λ u m. spells most (payloadOf l) m))) ≡ reads t j → length (bytesOf t) ≤ most
     go fails d e =

@@ -35,7 +35,7 @@ same-length c = search needs
 
 returns : tie.Need-returns
 unfolding openedOf
-returns c = 
+returns c =
     let not-read = refused (c .before .before .before .before .before .before .before .before .before .before .before .args .s .now) (sym (c .before .before .before .before .before .before .enum-told .given .1) ∙ c .before .before .before .before .before .before .before .before .read .ensures) in
     rw (not-read, c .before .before .before .before .before .none .ensures, c .before .before .text .ensures)
 
@@ -47,7 +47,7 @@ same-length-2 c = search needs
 
 returns-2 : tie.Need-returns-2
 unfolding openedOf
-returns-2 c = 
+returns-2 c =
     let a = accepted (c .before .before .before .before .before .before .before .before .before .before .args .s .now) _ _ _ _ _ (sym (c .before .before .before .before .before .bid .given .1) ∙ c .before .before .before .before .before .before .before .read .ensures) in
     rw (a .read, a .its-bid, a .its-fitted, a .its-forced, a .its-count, a .its-first) (c .before .before .started .ensures)
 

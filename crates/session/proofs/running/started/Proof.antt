@@ -46,7 +46,7 @@ same-length c = search needs
 
 returns : tie.Need-returns
 unfolding startedOf
-returns c = 
+returns c =
     let begun = rw (c .before .before .before .before .before .before .before .before .before .unstarted .ensures, c .before .before .before .before .before .before .before .before .empty .ensures) at (c .before .before .before .before .before .before .before .start .ensures) in
     rw (← begun, c .before .before .before .before .enum-told .given .1, c .before .before .ticks-line .ensures)
 
@@ -55,7 +55,7 @@ same-length-2 c = search needs
 
 returns-2 : tie.Need-returns-2
 unfolding startedOf
-returns-2 c = 
+returns-2 c =
     let begun = rw (c .before .before .before .before .before .before .before .before .before .before .before .unstarted .ensures, c .before .before .before .before .before .before .before .before .before .before .empty .ensures) at (c .before .before .before .before .before .before .before .before .before .start .ensures) in
     rw (← begun, c .before .before .before .before .before .before .enum-told2 .given .1, c .before .before .before .before .before .none .ensures, c .before .before .text .ensures)
 

@@ -35,7 +35,7 @@ ended-requires c κs = search needs
 
 returns : tie.Need-returns
 unfolding steppedOf
-returns c = 
+returns c =
     let a = c .before .before .before .before .before .before .before .before .args in
     rw (no-tick (tickLine 256 (a .s .now) (a .session .at)) (sym (c .before .enum-told .given .1) ∙ c .before .before .before .before .read-tick .ensures .0), c .ended .ensures)
 
@@ -44,7 +44,7 @@ ended-requires-2 c κs = search needs
 
 returns-2 : tie.Need-returns-2
 unfolding steppedOf
-returns-2 c = 
+returns-2 c =
     let a = c .before .before .before .before .before .before .before .before .before .before .before .args in
     let t = read-tick (tickLine 256 (a .s .now) (a .session .at)) _ _ _ _ _ (sym (c .before .before .before .before .line .given .1) ∙ c .before .before .before .before .before .before .before .read-tick .ensures .0) in
     rw (t .is, eq-eqb (a .session .left) 0 (omega arith), c .ended2 .ensures)
@@ -54,7 +54,7 @@ ended-requires-3 c κs = search needs
 
 returns-3 : tie.Need-returns-3
 unfolding steppedOf
-returns-3 c = 
+returns-3 c =
     let a = c .before .before .before .before .before .before .before .before .before .before .before .before .before .args in
     let t = read-tick (tickLine 256 (a .s .now) (a .session .at)) _ _ _ _ _ (sym (c .before .before .before .before .before .before .line .given .1) ∙ c .before .before .before .before .before .before .before .before .before .read-tick .ensures .0) in
     rw (t .is, ne-eqb (a .session .left) 0 (λ e. absurd (omega arith)), lt-ltb (a .session .count) (a .session .left) (omega arith), c .ended3 .ensures)
@@ -73,7 +73,7 @@ same-length c = search needs
 
 returns-4 : tie.Need-returns-4
 unfolding steppedOf
-returns-4 c = 
+returns-4 c =
     let a = c .before .before .before .before .before .before .before .before .before .before .before .before .before .before .before .before .before .before .args in
     let t = read-tick (tickLine 256 (a .s .now) (a .session .at)) _ _ _ _ _ (sym (c .before .before .before .before .before .before .before .before .before .before .before .line .given .1) ∙ c .before .before .before .before .before .before .before .before .before .before .before .before .before .before .read-tick .ensures .0) in
     let held = transfer-held (a .s .now) (a .session .at) (replicate 256 0) (t .tick) _ _ (t .is) (t .its-count) in

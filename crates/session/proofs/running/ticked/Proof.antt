@@ -32,7 +32,7 @@ same-length c = search needs
 
 returns : tie.Need-returns
 unfolding tickedOf
-returns c = 
+returns c =
     let told = rw (toZ-ofZ w16 (c .before .before .before .before .before .before .before .before .before .before .before .args .rail) (c .before .before .before .before .before .before .before .before .before .before .before .fits .rail)) at (c .before .before .before .before .before .before .before .tick .ensures) in
     rw (c .before .before .tick-line .ensures, told)
 

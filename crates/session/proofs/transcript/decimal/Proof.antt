@@ -40,7 +40,7 @@ loop-less : tie.Need-loop-less Inv-loop μ-loop
 loop-less c = search needs
 
 loop-again : tie.Need-loop-again Inv-loop μ-loop
-loop-again c = 
+loop-again c =
     let l = c .before .before .before .before .before .loop in
     let n = c .before .before .before .before .before .before .before .args .n in
     record {
@@ -62,7 +62,7 @@ same-length : tie.Need-same-length Inv-loop μ-loop
 same-length c = search needs
 
 returns : tie.Need-returns Inv-loop μ-loop
-returns c = 
+returns c =
     let l = c .before .before .before .before .before .loop in
     let n = c .before .before .before .before .before .before .before .args .n in
     c .before .before .put .ensures ∙ sym (ap (typed (page (l .out) (l .place))) (digits-last (l .left) n (omega arith))) ∙ l .inv .same

@@ -23,7 +23,7 @@ same-length c = search needs
 
 returns : tie.Need-returns
 unfolding typed madeText
-returns c = 
+returns c =
     let made : c .before .before .before .before .before .before .before .before .before .before .args .replied ≡ true = search needs in
     rw (made, c .before .before .reply .ensures, c .before .before .before .before .before .before .before .put .ensures)
 
@@ -35,7 +35,7 @@ same-length-2 c = search needs
 
 returns-2 : tie.Need-returns-2
 unfolding typed madeText
-returns-2 c = 
+returns-2 c =
     let none : c .before .before .before .before .before .before .before .before .before .before .args .replied ≡ false = search (not-true, needs) in
     rw (none, c .before .before .put2 .ensures, c .before .before .before .before .before .before .before .put .ensures)
 
