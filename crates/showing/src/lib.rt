@@ -7,6 +7,7 @@ use channels::Channels;
 use memory::Memory;
 use memory::Store;
 use modes::ModeAge;
+pub use naming::mode_letter;
 use script::printing::field;
 use script::printing::put;
 use script::printing::string;

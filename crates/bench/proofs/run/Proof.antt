@@ -1,0 +1,67 @@
+-- Safe and ending: the measure is the number of ticks that are left. Assumes nothing.
+use borrow.Author.Needs.{needs}
+use Rattle.bench.proofs.run.Statement.{statement}
+use Rattle.bench.proofs.run.Tie as tie
+use Rattle.bench.proofs.run.Reads as reads
+use Rattle.bench.proofs.run.Lts as lts
+use Rattle.bench.proofs.print.Reads as print-reads
+use Rattle.bench.proofs.run_tick.Reads as run-tick-reads
+use Rattle.io.proofs.buffer.Reads as buffer-reads
+use Rattle.session.proofs.open.Reads as open-reads
+
+abbrev Inv-loop : tie.InvT-loop
+Inv-loop sheet now₀ left₀ now left = Unit {0}
+
+abbrev μ-loop : tie.MeasureT-loop
+μ-loop sheet now₀ left₀ now left = left
+
+buffer-requires : tie.Need-buffer-requires Inv-loop μ-loop
+buffer-requires c κs = search needs
+
+slice-aggregate-open : tie.Need-slice-aggregate-open Inv-loop μ-loop
+slice-aggregate-open c = search needs
+
+open-requires : tie.Need-open-requires Inv-loop μ-loop
+open-requires c κs = search needs
+
+slice-aggregate-print : tie.Need-slice-aggregate-print Inv-loop μ-loop
+slice-aggregate-print c = search needs
+
+print-requires : tie.Need-print-requires Inv-loop μ-loop
+print-requires c κs = search needs
+
+loop-holds : tie.Need-loop-holds Inv-loop μ-loop
+loop-holds c = tt
+
+run-tick-requires : tie.Need-run-tick-requires Inv-loop μ-loop
+run-tick-requires c κs = search needs
+
+sub-left : tie.Need-sub-left Inv-loop μ-loop
+sub-left c = search needs
+
+loop-less : tie.Need-loop-less Inv-loop μ-loop
+loop-less c = search needs
+
+loop-again : tie.Need-loop-again Inv-loop μ-loop
+loop-again c = tt
+
+returns : tie.Need-returns Inv-loop μ-loop
+returns c = search needs
+
+pub run-spec : {M : Type 1} → statement M
+run-spec =
+    tie.close
+    (tie.spec
+    Inv-loop
+    μ-loop
+    buffer-requires
+    slice-aggregate-open
+    open-requires
+    slice-aggregate-print
+    print-requires
+    loop-holds
+    run-tick-requires
+    sub-left
+    loop-less
+    loop-again
+    returns)

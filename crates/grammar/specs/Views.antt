@@ -1,0 +1,47 @@
+-- What each answer of the readers says, as the grammar has it: what was read and the place behind it, or nothing. Assumes nothing: these are definitions.
+use Prim.Native.Nat.{ℕ, _-_, _≤_, _<_}
+use mathlib.Core.List.{List}
+use lib.IntN.{ℤ}
+use lib.ListN.{take, drop}
+use Rattle.grammar.specs.Grammar.{Read, fails, reads}
+use Rattle.grammar.specs.declared.Next.{Next}
+use Rattle.grammar.specs.declared.Next.the-variants.{To, Not as NotNext}
+use Rattle.grammar.specs.declared.Number.{Number}
+use Rattle.grammar.specs.declared.Number.the-variants.{Is as IsNumber, Not as NotNumber}
+use Rattle.grammar.specs.declared.Signed.{Signed}
+use Rattle.grammar.specs.declared.Signed.the-variants.{Is as IsSigned, Not as NotSigned}
+use Rattle.grammar.specs.declared.Word.{Word}
+use Rattle.grammar.specs.declared.Word.the-variants.{Is as IsWord, Not as NotWord}
+use Rattle.grammar.specs.declared.Place.{Place}
+use Rattle.grammar.specs.declared.Place.the-variants.{At, Never}
+
+abbrev pub seenNext : Next → Read (Unit {0})
+seenNext (To j) = reads tt j
+seenNext NotNext = fails
+
+abbrev pub seenNumber : Number → Read ℕ
+seenNumber (IsNumber v j) = reads v j
+seenNumber NotNumber = fails
+
+abbrev pub seenSigned : Signed → Read ℤ
+seenSigned (IsSigned v j) = reads v j
+seenSigned NotSigned = fails
+
+abbrev pub seenWord : Word → Read ℕ
+seenWord (IsWord v j) = reads v j
+seenWord NotWord = fails
+
+-- the bytes of s from i up to the place that was found
+abbrev pub seenLine : List ℕ → ℕ → Place → Read (List ℕ)
+seenLine s i (At place) = reads (take (place - i) (drop i s)) place
+seenLine s i Never = fails
+
+-- a place that was found lies from i on and before n
+abbrev pub Lies : Place → ℕ → ℕ → Type 0
+Lies (At place) i n = (i ≤ place) × (place < n)
+Lies Never i n = Unit {0}
+
+-- document 01's number: a sheet of which a part cannot be read is not of its form; 0 is no refusal
+abbrev pub refusalOf : {A : Type 0} → Read A → ℕ
+refusalOf fails = 14
+refusalOf (reads a j) = 0

@@ -1,0 +1,16 @@
+-- No session, and nothing printed. Assumes nothing.
+use borrow.Author.Needs.{needs}
+use Rattle.session.proofs.running.ended.Statement.{statement}
+use Rattle.session.proofs.running.ended.Tie as tie
+use Rattle.session.proofs.running.ended.Reads as reads
+use Rattle.session.proofs.running.ended.Lts as lts
+use Rattle.session.proofs.running.none.Reads as none-reads
+
+none-requires : tie.Need-none-requires
+none-requires c κs = search needs
+
+returns : tie.Need-returns
+returns c = rw (c .none .ensures)
+
+pub ended-spec : {M : Type 1} → statement M
+ended-spec = tie.close (tie.spec none-requires returns)

@@ -1,0 +1,16 @@
+-- No machine, and no ticks. Assumes nothing.
+use borrow.Author.Needs.{needs}
+use Rattle.session.proofs.running.none.Statement.{statement}
+use Rattle.session.proofs.running.none.Tie as tie
+use Rattle.session.proofs.running.none.Reads as reads
+use Rattle.session.proofs.running.none.Lts as lts
+use Rattle.unit.proofs.unstarted.Reads as unstarted-reads
+
+unstarted-requires : tie.Need-unstarted-requires
+unstarted-requires c κs = search needs
+
+returns : tie.Need-returns
+returns c = rw (c .unstarted .ensures)
+
+pub none-spec : {M : Type 1} → statement M
+none-spec = tie.close (tie.spec unstarted-requires returns)

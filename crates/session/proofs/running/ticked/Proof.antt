@@ -1,0 +1,49 @@
+-- One tick of the machine, and its line. Assumes nothing.
+use native.Mathlib.Omega.{arith}
+use mir.Syntax.{w16}
+use mir.ValLaws.{toZ-ofZ}
+use mathlib.Core.Path.{_≡_, refl}
+use Rattle.session.specs.Sessions.{tickedOf}
+use borrow.Author.Needs.{needs}
+use Rattle.session.proofs.running.ticked.Statement.{statement}
+use Rattle.session.proofs.running.ticked.Tie as tie
+use Rattle.session.proofs.running.ticked.Reads as reads
+use Rattle.session.proofs.running.ticked.Lts as lts
+use Rattle.session.proofs.transcript.tick_line.Reads as tick-line-reads
+use Rattle.unit.proofs.tick.Reads as tick-reads
+
+slice-aggregate-tick : tie.Need-slice-aggregate-tick
+slice-aggregate-tick c = search needs
+
+tick-requires : tie.Need-tick-requires
+tick-requires c κs = search needs
+
+sub-left : tie.Need-sub-left
+sub-left c = search needs
+
+sub-number : tie.Need-sub-number
+sub-number c = search needs
+
+tick-line-requires : tie.Need-tick-line-requires
+tick-line-requires c κs = search needs
+
+same-length : tie.Need-same-length
+same-length c = search needs
+
+returns : tie.Need-returns
+unfolding tickedOf
+returns c =
+    let told = rw (toZ-ofZ w16 (c .before .before .before .before .before .before .before .before .before .before .before .args .rail) (c .before .before .before .before .before .before .before .before .before .before .before .fits .rail)) at (c .before .before .before .before .before .before .before .tick .ensures) in
+    rw (c .before .before .tick-line .ensures, told)
+
+pub ticked-spec : {M : Type 1} → statement M
+ticked-spec =
+    tie.close
+    (tie.spec
+    slice-aggregate-tick
+    tick-requires
+    sub-left
+    sub-number
+    tick-line-requires
+    same-length
+    returns)

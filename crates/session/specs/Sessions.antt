@@ -1,0 +1,171 @@
+-- The whole output for a sheet as one text, and the same by steps: opening it, and then a tick at a time. Assumes nothing: these are definitions.
+use Prim.Native.Nat.{ℕ, zero, suc, _+_, _-_}
+use mathlib.Core.Bool.{Bool, true, false, cond, _||_}
+use mathlib.Core.List.{List, [], _∷_, _++_}
+use lib.Dec.{eqb, ltb}
+use lib.IntN.{ℤ}
+use Rattle.memory.specs.declared.Store.{Store}
+use Rattle.memory.specs.Memory.{emptyStore}
+use Rattle.state.specs.declared.parts.Profile.{Profile}
+use Rattle.state.specs.declared.starting.StartAnswer as start
+use Rattle.unit.specs.Machine.{noMachine, begunOf, toldOf}
+use Rattle.unit.specs.declared.Machine.{Machine}
+use Rattle.unit.specs.declared.Begun.{Begun}
+use Rattle.unit.specs.declared.Told.{Told}
+use Rattle.grammar.specs.Grammar.{Read, fails, reads}
+use Rattle.sheet.specs.Form.{Top, Tick, tickLine, Sheet, sheetIn}
+use Rattle.sheet.specs.Answers.{isSent, bytesOf}
+use Rattle.script.specs.Printing.{Page, page, typed}
+use Rattle.session.specs.Transcript.{tickText, ticksText, refused8, refused14}
+use Rattle.session.specs.declared.running.Session.{Session}
+use Rattle.session.specs.declared.running.Answer.{Answer}
+use Rattle.session.specs.declared.running.Answer.the-variants.{Running, ProfileBreaksARule, NotOfForm}
+use Rattle.session.specs.declared.running.Opened.{Opened}
+use Rattle.session.specs.declared.running.Stepped.{Stepped}
+
+-- ---- the whole output
+
+-- a tick of a sheet: words are never given
+abbrev pub tickOn : Machine → Tick → Told
+tickOn m t = toldOf (t .rail) (t .overcurrent) [] (isSent (t .transfer)) (bytesOf (t .transfer)) m
+
+abbrev pub lineOf : ℕ → Told → List ℕ
+lineOf number told = tickText number (told .replied) (told .machine .board)
+
+-- a line for each tick, numbered from n on
+unfoldable pub linesFrom : ℕ → Machine → List Tick → List ℕ
+linesFrom n m [] = []
+linesFrom n m (t ∷ ts) = lineOf n (tickOn m t) ++ linesFrom (n + 1) (tickOn m t .machine) ts
+
+-- nothing is stored
+abbrev pub profileIn : Top → Profile
+profileIn top = record { fitted = top .fitted; forced = top .forced; bid = top .bid }
+
+abbrev pub beginning : Profile → Begun
+beginning profile = begunOf noMachine profile emptyStore
+
+abbrev pub begunText : start.StartAnswer → Machine → ℕ → List Tick → List ℕ
+begunText start.StartAnswer.Accepted m count ticks = ticksText count ++ linesFrom 1 m ticks
+begunText start.StartAnswer.ProfileBreaksARule m count ticks = refused8
+
+abbrev pub sheetText : Read Sheet → List ℕ
+sheetText fails = refused14
+sheetText (reads sheet i) =
+    let begun = beginning (profileIn (sheet .top)) in
+    begunText (begun .answer) (begun .machine) (sheet .top .count) (sheet .ticks)
+
+unfoldable pub transcriptOf : List ℕ → List ℕ
+transcriptOf s = sheetText (sheetIn s)
+
+-- ---- by steps: a session and what was printed, from the front of a buffer
+
+pub data Open : Type 0 where
+  opens : Session → Answer → Page → Open
+
+abbrev pub opened : Opened → List ℕ → Open
+opened r held = opens (r .session) (r .answer) (page held (r .printed))
+
+pub data Step : Type 0 where
+  steps : Session → Page → Step
+
+abbrev pub stepped : Stepped → List ℕ → Step
+stepped r held = steps (r .session) (page held (r .printed))
+
+abbrev pub noSession : Session
+noSession = record { machine = noMachine; count = 0; left = 0; at = 0 }
+
+abbrev pub endedStep : Stepped
+endedStep = record { session = noSession; printed = 0 }
+
+-- ---- opening
+abbrev pub sessionAt : Machine → ℕ → ℕ → Session
+sessionAt m count first = record { machine = m; count = count; left = count; at = first }
+
+abbrev pub startedBy : start.StartAnswer → Machine → ℕ → ℕ → List ℕ → Open
+startedBy start.StartAnswer.Accepted m count first held = opens (sessionAt m count first) Running (typed (page held 0) (ticksText count))
+startedBy start.StartAnswer.ProfileBreaksARule m count first held = opens noSession ProfileBreaksARule (typed (page held 0) refused8)
+
+unfoldable pub startedOf : List ℕ → Profile → ℕ → ℕ → Open
+startedOf held profile count first = startedBy (beginning profile .answer) (beginning profile .machine) count first held
+
+abbrev pub openedBy : Read Sheet → List ℕ → Open
+openedBy fails held = opens noSession NotOfForm (typed (page held 0) refused14)
+openedBy (reads sheet i) held = startedOf held (profileIn (sheet .top)) (sheet .top .count) (sheet .top .first)
+
+unfoldable pub openedOf : List ℕ → List ℕ → Open
+openedOf held s = openedBy (sheetIn s) held
+
+-- ---- one tick
+abbrev pub after : Session → ℕ → Told → Session
+after session next told = record { machine = told .machine; count = session .count; left = session .left - 1; at = next }
+
+abbrev pub numberOf : Session → ℕ
+numberOf session = session .count - (session .left - 1)
+
+unfoldable pub tickedOf : List ℕ → Session → ℤ → ℕ → Bool → List ℕ → ℕ → Step
+tickedOf held session rail overcurrent sent transfer next =
+    let told = toldOf rail overcurrent [] sent transfer (session .machine) in
+    steps (after session next told) (typed (page held 0) (lineOf (numberOf session) told))
+
+-- none is left, or more than there are
+abbrev pub isOver : Session → Bool
+isOver session = eqb (session .left) 0 || ltb (session .count) (session .left)
+
+abbrev pub over : List ℕ → Step
+over held = steps noSession (page held 0)
+
+abbrev pub steppedBy : Read Tick → List ℕ → Session → Step
+steppedBy fails held session = over held
+steppedBy (reads t next) held session = cond (isOver session) (over held) (tickedOf held session (t .rail) (t .overcurrent) (isSent (t .transfer)) (bytesOf (t .transfer)) next)
+
+unfoldable pub steppedOf : List ℕ → List ℕ → Session → Step
+steppedOf held s session = steppedBy (tickLine 256 s (session .at)) held session
+
+-- ---- the steps one after another: what each prints, and the session that it leaves
+
+-- opening
+abbrev pub sessionBy : start.StartAnswer → Machine → ℕ → ℕ → Session
+sessionBy start.StartAnswer.Accepted m count first = sessionAt m count first
+sessionBy start.StartAnswer.ProfileBreaksARule m count first = noSession
+
+abbrev pub firstBy : start.StartAnswer → ℕ → List ℕ
+firstBy start.StartAnswer.Accepted count = ticksText count
+firstBy start.StartAnswer.ProfileBreaksARule count = refused8
+
+abbrev pub answerBy : start.StartAnswer → Answer
+answerBy start.StartAnswer.Accepted = Running
+answerBy start.StartAnswer.ProfileBreaksARule = ProfileBreaksARule
+
+abbrev pub sessionFrom : Read Sheet → Session
+sessionFrom fails = noSession
+sessionFrom (reads sheet i) =
+    let begun = beginning (profileIn (sheet .top)) in
+    sessionBy (begun .answer) (begun .machine) (sheet .top .count) (sheet .top .first)
+
+abbrev pub firstFrom : Read Sheet → List ℕ
+firstFrom fails = refused14
+firstFrom (reads sheet i) = firstBy (beginning (profileIn (sheet .top)) .answer) (sheet .top .count)
+
+abbrev pub answerFrom : Read Sheet → Answer
+answerFrom fails = NotOfForm
+answerFrom (reads sheet i) = answerBy (beginning (profileIn (sheet .top)) .answer)
+
+-- a tick
+abbrev pub nextBy : Read Tick → Session → Session
+nextBy fails session = noSession
+nextBy (reads t next) session = cond (isOver session) noSession (after session next (tickOn (session .machine) t))
+
+abbrev pub printedBy : Read Tick → Session → List ℕ
+printedBy fails session = []
+printedBy (reads t next) session = cond (isOver session) [] (lineOf (numberOf session) (tickOn (session .machine) t))
+
+-- so many steps
+unfoldable pub stepsFrom : ℕ → List ℕ → Session → List ℕ
+stepsFrom zero s session = []
+stepsFrom (suc n) s session = printedBy (tickLine 256 s (session .at)) session ++ stepsFrom n s (nextBy (tickLine 256 s (session .at)) session)
+
+-- document 01's number of an answer; 0 stands for none
+abbrev pub answerNumber : Answer → ℕ
+answerNumber Running = 0
+answerNumber ProfileBreaksARule = 8
+answerNumber NotOfForm = 14

@@ -1,0 +1,54 @@
+-- The lines of a transcript. Characters are their ASCII codes: 32 is a space, 45 is `-`, 10 ends a line, 48 to 57 are the digits. Assumes nothing: these are definitions.
+use Prim.Native.Nat.{ℕ, zero, suc, _+_, _/_, _%_, _^_}
+use mathlib.Core.Bool.{Bool, cond}
+use mathlib.Core.List.{List, [], _∷_, _++_}
+use lib.Dec.{ltb}
+use Rattle.hex.specs.Hex.{textOf, wordText}
+use Rattle.wire.specs.Replies.{shown}
+use Rattle.wire.specs.declared.reply.Reply.{Reply}
+use Rattle.state.specs.Parts.{modeOf}
+use Rattle.state.specs.declared.parts.Board.{Board}
+use Rattle.showing.specs.Naming.{modeLetter}
+use Rattle.sheet.specs.Form.{ticksWord}
+
+-- ---- a number in decimal, without leading zeros
+
+-- the digit for a power of ten, where the number reaches that far
+abbrev pub digitFor : ℕ → ℕ → List ℕ
+digitFor power n = cond (ltb n power) [] ((n / power % 10 + 48) ∷ [])
+
+-- the digits for the tens up to 10 ^ k, and the ones
+unfoldable pub digitsFor : ℕ → ℕ → List ℕ
+digitsFor zero n = (n % 10 + 48) ∷ []
+digitsFor (suc k) n = digitFor (10 ^ suc k) n ++ digitsFor k n
+
+-- a number of 32 bits has at most ten
+abbrev pub decimal : ℕ → List ℕ
+decimal n = digitsFor 9 n
+
+-- ---- the lines
+
+-- a space and the reply in ASCII form, or `-`
+unfoldable pub madeText : Bool → Reply → List ℕ
+madeText replied r = 32 ∷ cond replied (textOf (shown r)) (45 ∷ [])
+
+-- number, mode, channels on, channels latched, reply
+unfoldable pub tickText : ℕ → Bool → Board → List ℕ
+tickText number replied b =
+    decimal number
+    ++ (32 ∷ modeLetter (modeOf b) ∷ [])
+    ++ (32 ∷ wordText (b .channels .on))
+    ++ (32 ∷ wordText (b .channels .latched))
+    ++ madeText replied (b .reply)
+    ++ 10 ∷ []
+
+-- the count of ticks
+unfoldable pub ticksText : ℕ → List ℕ
+ticksText n = ticksWord ++ decimal n ++ 10 ∷ []
+
+-- refused 8; refused 14
+abbrev pub refused8 : List ℕ
+refused8 = 114 ∷ 101 ∷ 102 ∷ 117 ∷ 115 ∷ 101 ∷ 100 ∷ 32 ∷ 56 ∷ 10 ∷ []
+
+abbrev pub refused14 : List ℕ
+refused14 = 114 ∷ 101 ∷ 102 ∷ 117 ∷ 115 ∷ 101 ∷ 100 ∷ 32 ∷ 49 ∷ 52 ∷ 10 ∷ []

@@ -1,0 +1,178 @@
+// The steps of a session.
+ghost use mathlib.Core.Path.{_≡_};
+ghost use Prim.Native.Nat.{_<_, _≤_};
+ghost use Rattle.session.specs.Sessions.{noSession, endedStep, opened, stepped, startedOf, openedOf, steppedOf, tickedOf};
+use crate::transcript::tick_line;
+use crate::transcript::ticks_line;
+use memory::Store;
+use script::printing::text;
+use sheet::Head;
+use sheet::TickLine;
+use state::Profile;
+use state::StartAnswer;
+use unit::Machine;
+
+// The machine of a sheet, how many ticks the sheet has and how many are left, and the place of the next tick's line.
+pub struct Session {
+    pub machine: Machine,
+    pub count: u32,
+    pub left: u32,
+    pub at: usize,
+}
+
+// What opening a sheet answers.
+pub enum Answer {
+    Running,
+    ProfileBreaksARule,
+    NotOfForm,
+}
+
+// The session of a sheet, the answer, and how many characters were printed.
+pub struct Opened {
+    pub session: Session,
+    pub answer: Answer,
+    pub printed: usize,
+}
+
+// A session after one step, and how many characters were printed.
+pub struct Stepped {
+    pub session: Session,
+    pub printed: usize,
+}
+
+// A session with no ticks, to stand where a sheet is refused.
+fn none() -> Session
+    ensures { λ r. ⌜ r ≡ noSession ⌝ }
+{
+    Session {
+        machine: unit::unstarted(),
+        count: 0,
+        left: 0,
+        at: 0,
+    }
+}
+
+// Starts the board of a sheet of the form.
+fn started(profile: Profile, ticks: u32, first: usize, out: &mut [u8]) -> Opened
+    ensures { λ r. ⌜ opened r (now (out .exit)) ≡ startedOf (now (out .entry)) profile ticks first ⌝ }
+{
+    let begun = unit::start(unit::unstarted(), profile, Store::empty());
+    let answer = begun.answer;
+    let machine = begun.machine;
+    match answer {
+        StartAnswer::Accepted => Opened {
+            session: Session {
+                machine,
+                count: ticks,
+                left: ticks,
+                at: first,
+            },
+            answer: Answer::Running,
+            printed: ticks_line(out, ticks),
+        },
+        StartAnswer::ProfileBreaksARule => Opened {
+            session: none(),
+            answer: Answer::ProfileBreaksARule,
+            printed: text(out, 0, b"refused 8\n"),
+        },
+    }
+}
+
+// Opens a sheet of any bytes: the form of the whole sheet is looked at before the profile in it.
+pub fn open(s: &[u8], out: &mut [u8]) -> Opened
+    ensures { λ r. ⌜ opened r (now (out .exit)) ≡ openedOf (now (out .entry)) (now (s .entry)) ⌝ }
+{
+    let Head::Is {
+        bid,
+        fitted,
+        forced,
+        ticks,
+        first,
+    } = sheet::read(s)
+    else {
+        return Opened {
+            session: none(),
+            answer: Answer::NotOfForm,
+            printed: text(out, 0, b"refused 14\n"),
+        };
+    };
+    let profile = Profile {
+        fitted,
+        forced,
+        bid,
+    };
+    started(profile, ticks, first, out)
+}
+
+// Runs one tick of a session, and prints its line.
+// argued: called where a tick is left, and no more than there are
+fn ticked(
+    session: Session,
+    rail: i16,
+    overcurrent: u32,
+    sent: bool,
+    transfer: &[u8],
+    next: usize,
+    out: &mut [u8],
+) -> Stepped
+    requires { ⌜ (0 < session .left) × (session .left ≤ session .count) ⌝ }
+    ensures { λ r. ⌜ stepped r (now (out .exit)) ≡ tickedOf (now (out .entry)) session rail overcurrent sent (now (transfer .entry)) next ⌝ }
+{
+    let words: [u16; 0] = [];
+    let told = unit::tick(session.machine, rail, overcurrent, &words, sent, transfer);
+    let machine = told.machine;
+    let left = session.left - 1;
+    let number = session.count - left;
+    Stepped {
+        session: Session {
+            machine,
+            count: session.count,
+            left,
+            at: next,
+        },
+        printed: tick_line(out, number, told.replied, machine.board),
+    }
+}
+
+// Runs the next tick of a session; one that has no tick left, or no tick line where the next should be, prints nothing and ends.
+pub fn step(session: Session, s: &[u8], out: &mut [u8]) -> Stepped
+    ensures { λ r. ⌜ stepped r (now (out .exit)) ≡ steppedOf (now (out .entry)) (now (s .entry)) session ⌝ }
+{
+    let mut transfer = [0u8; 256];
+    let line = sheet::read_tick(s, session.at, &mut transfer);
+    let TickLine::Is {
+        rail,
+        overcurrent,
+        sent,
+        count,
+        next,
+    } = line
+    else {
+        return ended();
+    };
+    if session.left == 0 {
+        return ended();
+    }
+    if session.count < session.left {
+        return ended();
+    }
+    ticked(
+        session,
+        rail,
+        overcurrent,
+        sent,
+        wire::first(&transfer, count),
+        next,
+        out,
+    )
+}
+
+// A session that ended: nothing is printed.
+fn ended() -> Stepped
+    ensures { λ r. ⌜ r ≡ endedStep ⌝ }
+{
+    Stepped {
+        session: none(),
+        printed: 0,
+    }
+}

@@ -1,0 +1,6 @@
+pub mod Behind
+pub mod Parts
+pub mod Lines
+pub mod Runs
+pub mod Sheets
+pub mod Examples

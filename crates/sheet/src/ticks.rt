@@ -1,0 +1,108 @@
+// One tick line of a sheet.
+ghost use mathlib.Core.Path.{_≡_};
+ghost use lib.ListN.{length};
+ghost use Rattle.hex.specs.Hex.{payloadOf};
+ghost use Rattle.sheet.specs.Form.{spells, command, tickLine};
+ghost use Rattle.sheet.specs.Answers.{commandOf, commandHeld, tickOf, tickHeld};
+use grammar::Next;
+use grammar::Place;
+use grammar::Signed;
+use grammar::Word;
+use grammar::find_byte;
+use grammar::literal;
+use grammar::read_signed;
+use grammar::read_word;
+use hex::Payload;
+
+// What a tick line says, with how many bytes of a transfer it spells and the place behind it.
+pub enum TickLine {
+    Is {
+        rail: i16,
+        overcurrent: u32,
+        sent: bool,
+        count: usize,
+        next: usize,
+    },
+    Not,
+}
+
+// Whether there is a transfer, how many bytes it has, and the place behind the line.
+enum Command {
+    Is {
+        sent: bool,
+        count: usize,
+        next: usize,
+    },
+    Not,
+}
+
+// The bytes of a transfer, from the text of a command, into the front of a buffer.
+fn spelt(text: &[u8], next: usize, transfer: &mut [u8]) -> Command
+    ensures answer { λ r. ⌜ r ≡ commandOf (spells (length (now (transfer .entry))) (payloadOf (now (text .entry))) next) ⌝ }
+    ensures held { λ _. ⌜ now (transfer .exit) ≡ commandHeld (spells (length (now (transfer .entry))) (payloadOf (now (text .entry))) next) (now (transfer .entry)) ⌝ }
+{
+    match hex::read(text, transfer) {
+        Payload::Bytes(count) => Command::Is {
+            sent: true,
+            count,
+            next,
+        },
+        Payload::NotOfForm => Command::Not,
+        Payload::TooShort => Command::Not,
+    }
+}
+
+// The command up to the line's end: `-` for no transfer, else its bytes in ASCII form.
+fn read_command(s: &[u8], at: usize, transfer: &mut [u8]) -> Command
+    ensures answer { λ r. ⌜ r ≡ commandOf (command (length (now (transfer .entry))) (now (s .entry)) at) ⌝ }
+    ensures held { λ _. ⌜ now (transfer .exit) ≡ commandHeld (command (length (now (transfer .entry))) (now (s .entry)) at) (now (transfer .entry)) ⌝ }
+{
+    if let Next::To(next) = literal(s, at, b"-\n") {
+        return Command::Is {
+            sent: false,
+            count: 0,
+            next,
+        };
+    }
+    let Place::At(end) = find_byte(s, at, b'\n') else {
+        return Command::Not;
+    };
+    spelt(&s[at..end], end + 1, transfer)
+}
+
+// The tick line at a place. Where it is not of the form, or the buffer is too short for its transfer, the buffer keeps what it held.
+pub fn read_tick(s: &[u8], at: usize, transfer: &mut [u8]) -> TickLine
+    ensures answer { λ r. ⌜ r ≡ tickOf (tickLine (length (now (transfer .entry))) (now (s .entry)) at) ⌝ }
+    ensures held { λ _. ⌜ now (transfer .exit) ≡ tickHeld (tickLine (length (now (transfer .entry))) (now (s .entry)) at) (now (transfer .entry)) ⌝ }
+{
+    let Signed::Is {
+        value: rail,
+        next: after_rail,
+    } = read_signed(s, at)
+    else {
+        return TickLine::Not;
+    };
+    let Next::To(set_at) = literal(s, after_rail, b" ") else {
+        return TickLine::Not;
+    };
+    let Word::Is {
+        value: overcurrent,
+        next: after_set,
+    } = read_word(s, set_at)
+    else {
+        return TickLine::Not;
+    };
+    let Next::To(command_at) = literal(s, after_set, b" ") else {
+        return TickLine::Not;
+    };
+    let Command::Is { sent, count, next } = read_command(s, command_at, transfer) else {
+        return TickLine::Not;
+    };
+    TickLine::Is {
+        rail,
+        overcurrent,
+        sent,
+        count,
+        next,
+    }
+}
