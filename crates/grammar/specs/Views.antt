@@ -41,7 +41,7 @@ abbrev pub Lies : Place → ℕ → ℕ → Type 0
 Lies (At place) i n = (i ≤ place) × (place < n)
 Lies Never i n = Unit {0}
 
--- document 01's number: a sheet of which a part cannot be read is not of its form; 0 is no refusal
+-- document 01's number where this part has to stand: without it a sheet is not of its form. Tried as one of two ways it is no refusal yet. 0 is none
 abbrev pub refusalOf : {A : Type 0} → Read A → ℕ
 refusalOf fails = 14
 refusalOf (reads a j) = 0

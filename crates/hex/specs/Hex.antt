@@ -43,7 +43,7 @@ led (Value v) none = none
 led (Value v) (some vs) = some (v ∷ vs)
 led Bad o = none
 
--- one or more pairs, one space (32) between pairs and none elsewhere: the bytes that they spell; none where a text is not of this form
+-- pairs, at least one, and a space (32) between each and the next: the bytes that they spell; none where a text is not of this form
 unfoldable pub payloadOf : List ℕ → Option (List ℕ)
 payloadOf [] = none
 payloadOf (a ∷ []) = none

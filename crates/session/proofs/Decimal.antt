@@ -36,8 +36,8 @@ unfolding digitsFor
 digits-last k n e = rw e
 
 -- ---- 274 bytes are at most 821 characters
-pub text-fits : (bytes : List ℕ) → length bytes ≤ 274 → length (textOf bytes) ≤ 1024
-text-fits bytes h =
+pub text-fits-reply : (bytes : List ℕ) → length bytes ≤ 274 → length (textOf bytes) ≤ 821
+text-fits-reply bytes h =
     ⊎-elim
     (λ (l : 0 < length bytes). omega (arith, text-length bytes l))
     (λ (l : length bytes ≤ 0). rw (text-none bytes (omega arith)) (omega arith))
@@ -48,7 +48,7 @@ shown-short len bytes e = omega (arith, length-take len bytes)
 
 module _ (bytes held : List ℕ) (h : length bytes ≤ 274) (room : length held ≡ 1024) where
   fits : leb (length (textOf bytes)) (length held) ≡ true
-  fits = le-leb (length (textOf bytes)) (length held) (omega (arith, text-fits bytes h))
+  fits = le-leb (length (textOf bytes)) (length held) (omega (arith, text-fits-reply bytes h))
 
   pub digits-written : (n : ℕ) → writtenOf (textOf bytes) (length held) ≡ Length n → take n (laid (textOf bytes) held) ≡ textOf bytes
   digits-written n e =

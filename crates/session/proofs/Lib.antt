@@ -1,3 +1,4 @@
 pub mod Decimal
 pub mod Ticks
 pub mod Steps
+pub mod Pages

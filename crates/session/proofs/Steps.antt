@@ -1,4 +1,4 @@
--- Opening a sheet and then stepping through its ticks prints the whole transcript, and nothing else. Assumes nothing.
+-- What opening a sheet prints, and then each of its ticks, is together the whole transcript. Where a buffer has the room, what was printed is all of the text (`Pages`). Assumes nothing.
 use Prim.Native.Nat.{ℕ, zero, suc, _+_, _-_, _≤_, _<_}
 use mathlib.Core.Path.{_≡_, refl, ap, sym, _∙_}
 use mathlib.Core.Bool.{Bool, true, false, cond, _||_}

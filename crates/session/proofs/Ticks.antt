@@ -79,7 +79,7 @@ pub no-tick : (r : Read Tick) → TickLine.Not ≡ tickOf r → r ≡ fails
 no-tick fails e = refl
 no-tick (reads t j) e = let z : _≡_ {A = ℕ} 0 1 = cc in absurd (omega arith)
 
--- the bytes of its transfer, where the buffer is as long as a transfer may be
+-- the bytes of its transfer, of which there are no more than the buffer takes
 pub transfer-held : (s : List ℕ) (i : ℕ) (held : List ℕ) (t : Tick) (j count : ℕ) → tickLine (length held) s i ≡ reads t j → length (bytesOf (t .transfer)) ≡ count
     → take count (tickHeld (tickLine (length held) s i) held) ≡ bytesOf (t .transfer)
 transfer-held s i held t j count e n =

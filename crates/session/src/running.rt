@@ -78,7 +78,8 @@ fn started(profile: Profile, ticks: u32, first: usize, out: &mut [u8]) -> Opened
     }
 }
 
-// Opens a sheet of any bytes: the form of the whole sheet is looked at before the profile in it.
+// Opens a sheet of any bytes: the form of the whole sheet is looked at before the profile in it. What is to be printed goes into the front of the lent buffer, a refusal too;
+// a buffer that is too short for it is filled with its front.
 pub fn open(s: &[u8], out: &mut [u8]) -> Opened
     ensures { λ r. ⌜ opened r (now (out .exit)) ≡ openedOf (now (out .entry)) (now (s .entry)) ⌝ }
 {
@@ -134,7 +135,8 @@ fn ticked(
     }
 }
 
-// Runs the next tick of a session; one that has no tick left, or no tick line where the next should be, prints nothing and ends.
+// Runs the next tick of a session, and prints its line into the front of the lent buffer; no line of a board is longer than 1,024 characters, and a buffer that is too short is filled with
+// its front. A session that has no tick left, or more left than it has, or no tick line where the next should be, prints nothing and ends: a sheet that was opened has its lines.
 pub fn step(session: Session, s: &[u8], out: &mut [u8]) -> Stepped
     ensures { λ r. ⌜ stepped r (now (out .exit)) ≡ steppedOf (now (out .entry)) (now (s .entry)) session ⌝ }
 {

@@ -18,7 +18,7 @@ abbrev pub headOf : Read Top → Head
 headOf fails = Head.Not
 headOf (reads top i) = headBy top
 
--- ---- a tick line: its transfer is told by its length, and its bytes then stand at the front of the buffer
+-- ---- a tick line: whether it has a transfer and how long that is are told, and its bytes then stand at the front of the buffer
 abbrev pub isSent : Transfer → Bool
 isSent silence = false
 isSent (bytes bs) = true
@@ -52,11 +52,11 @@ isRead (reads a i) = true
 unfoldable pub areTicks : ℕ → List ℕ → ℕ → Bool
 areTicks n s first = isRead (on (times n (tickLine 256) s first) (λ ticks i. end s i))
 
--- 14 where a sheet is not of the form
 abbrev pub sheetHead : Read Sheet → Head
 sheetHead fails = Head.Not
 sheetHead (reads sheet i) = headBy (sheet .top)
 
+-- 14 where a sheet is not of the form
 abbrev pub headNumber : Head → ℕ
 headNumber (Head.Is bid fitted forced ticks first) = 0
 headNumber Head.Not = 14

@@ -31,7 +31,7 @@ unfoldable pub gap : ℕ → Parser (Unit {0})
 gap zero = byte 10
 gap (suc n) = byte 32
 
--- so many channels 0 to 31, each at least as high as `least`, with those of the set before them: the list rises strictly
+-- so many channels 0 to 31, each at least as high as `least`, put to those of the set, and behind the last the line's end: the next has to be higher
 unfoldable pub channelsFrom : ℕ → ℕ → ℕ → Parser ℕ
 channelsFrom zero least set = pure set
 channelsFrom (suc n) least set = do
@@ -40,7 +40,7 @@ channelsFrom (suc n) least set = do
   gap n
   channelsFrom n (c + 1) (withChannel set c)
 
--- an empty list is an empty line
+-- a list of none still has its line
 unfoldable pub channelList : ℕ → Parser ℕ
 channelList zero = byte 10 >> pure 0
 channelList (suc n) = channelsFrom (suc n) 0 0

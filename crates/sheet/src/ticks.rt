@@ -70,7 +70,8 @@ fn read_command(s: &[u8], at: usize, transfer: &mut [u8]) -> Command
     spelt(&s[at..end], end + 1, transfer)
 }
 
-// The tick line at a place. Where it is not of the form, or the buffer is too short for its transfer, the buffer keeps what it held.
+// The tick line at a place. The buffer's length is the most bytes that its transfer may have: a sheet's are read with 256. Where the line is not of the form, or its transfer is
+// longer, the buffer keeps what it held.
 pub fn read_tick(s: &[u8], at: usize, transfer: &mut [u8]) -> TickLine
     ensures answer { λ r. ⌜ r ≡ tickOf (tickLine (length (now (transfer .entry))) (now (s .entry)) at) ⌝ }
     ensures held { λ _. ⌜ now (transfer .exit) ≡ tickHeld (tickLine (length (now (transfer .entry))) (now (s .entry)) at) (now (transfer .entry)) ⌝ }
