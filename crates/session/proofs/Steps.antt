@@ -8,6 +8,9 @@ use lib.Dec.{eqb, ltb}
 use lib.ListN.{length}
 use borrow.Author.Tests.{ne-eqb, le-ltb}
 use Rattle.state.specs.declared.starting.StartAnswer as start
+use Rattle.state.specs.Start.{keepsTheRules, startOf}
+use Rattle.memory.specs.Memory.{emptyStore}
+use Rattle.unit.specs.Machine.{begunOf}
 use Rattle.unit.specs.declared.Machine.{Machine}
 use Rattle.grammar.specs.Grammar.{Read, fails, reads, times}
 use Rattle.sheet.specs.Form.{Top, Tick, tickLine, Sheet, sheetIn}
@@ -17,7 +20,7 @@ use Rattle.sheet.proofs.Behind.{times-turn, times-none}
 use Rattle.sheet.proofs.Sheets.{Accepted, accepted}
 use Rattle.script.specs.Printing.{page, typed}
 use Rattle.session.specs.Transcript.{ticksText, refused8, refused14}
-use Rattle.session.specs.Sessions.{tickOn, lineOf, linesFrom, profileIn, beginning, begunText, sheetText, transcriptOf, Open, opens, Step, steps, noSession, sessionAt, startedBy, startedOf, openedBy, openedOf, after, numberOf, tickedOf, isOver, steppedBy, steppedOf, sessionBy, firstBy, answerBy, sessionFrom, firstFrom, answerFrom, nextBy, printedBy, stepsFrom}
+use Rattle.session.specs.Sessions.{tickOn, lineOf, linesFrom, profileIn, beginning, begunText, sheetText, transcriptOf, Open, opens, Step, steps, noSession, sessionAt, startedBy, startedOf, openedBy, openedOf, after, numberOf, tickedOf, isOver, steppedBy, steppedOf, sessionBy, firstBy, answerBy, sessionFrom, firstFrom, answerFrom, nextBy, printedBy, stepsFrom, answerNumber}
 use Rattle.session.specs.declared.running.Session.{Session}
 
 -- ---- what a call leaves, as a session and a text
@@ -91,3 +94,27 @@ transcript s = go (sheetIn s) refl
         (sheet .top .first)
         (sheet .ticks)
         (a .lines ∙ ap (λ (w : Sheet). reads (w .ticks) (length s)) same)
+
+-- ---- 14 exactly where a sheet is not of the form, and 8 exactly where it is and its profile breaks a rule
+pub number-14 : (s : List ℕ) → sheetIn s ≡ fails → answerNumber (answerFrom (sheetIn s)) ≡ 14
+number-14 s e = rw e
+
+pub only-14 : (s : List ℕ) → answerNumber (answerFrom (sheetIn s)) ≡ 14 → sheetIn s ≡ fails
+only-14 s e = go (sheetIn s) e
+  where
+    begun : (a : start.StartAnswer) → answerNumber (answerBy a) ≡ 14 → ⊥
+    begun start.StartAnswer.Accepted e = absurd (omega arith)
+    begun start.StartAnswer.ProfileBreaksARule e = absurd (omega arith)
+
+    go : (r : Read Sheet) → answerNumber (answerFrom r) ≡ 14 → r ≡ fails
+    go fails e = refl
+    go (reads sheet i) e = absurd (begun (beginning (profileIn (sheet .top)) .answer) e)
+
+module _ (s : List ℕ) (sheet : Sheet) (i : ℕ) (read : sheetIn s ≡ reads sheet i) where
+  pub number-8 : keepsTheRules (profileIn (sheet .top)) emptyStore ≡ false → answerNumber (answerFrom (sheetIn s)) ≡ 8
+  unfolding begunOf startOf
+  number-8 broken = rw (read, broken)
+
+  pub only-8 : keepsTheRules (profileIn (sheet .top)) emptyStore ≡ true → answerNumber (answerFrom (sheetIn s)) ≡ 0
+  unfolding begunOf startOf
+  only-8 kept = rw (read, kept)
