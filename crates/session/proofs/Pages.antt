@@ -1,6 +1,6 @@
 -- A text that has the room stands whole at the front of a buffer, and no line of a transcript is longer than 1,024 characters. Assumes nothing.
-use Prim.Native.Nat.{ℕ, zero, suc, _+_, _/_, _%_, _^_, _≤_, _<_}
-use mathlib.Core.Path.{_≡_, refl, ap, sym, _∙_}
+use Prim.Native.Nat.{ℕ, zero, suc, _+_, _/_, _%_, _^_, _≤_}
+use mathlib.Core.Path.{_≡_, refl, ap, _∙_}
 use mathlib.Core.Bool.{Bool, true, false, cond}
 use mathlib.Core.List.{List, [], _∷_, _++_}
 use native.Mathlib.Omega.{arith}
@@ -9,11 +9,11 @@ use lib.ListN.{length, take, drop, set, length-set, length-append}
 use lib.Seq.{sets}
 use borrow.Author.Tests.{lt-ltb}
 use Rattle.laws.proofs.Lists.{sets-step, sets-front}
-use Rattle.hex.specs.Hex.{textOf, wordText}
+use Rattle.hex.specs.Hex.{wordText}
 use Rattle.wire.specs.Replies.{shown}
 use Rattle.wire.specs.declared.reply.Reply.{Reply}
 use Rattle.state.specs.declared.parts.Board.{Board}
-use Rattle.script.specs.Printing.{Page, page, and, typed}
+use Rattle.script.specs.Printing.{page, and, typed}
 use Rattle.session.specs.Transcript.{digitFor, digitsFor, madeText, tickText}
 use Rattle.session.proofs.Decimal.{text-fits-reply, shown-short}
 

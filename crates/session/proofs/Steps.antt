@@ -1,10 +1,9 @@
 -- What opening a sheet prints, and then each of its ticks, is together the whole transcript. Where a buffer has the room, what was printed is all of the text (`Pages`). Assumes nothing.
 use Prim.Native.Nat.{ℕ, zero, suc, _+_, _-_, _≤_, _<_}
 use mathlib.Core.Path.{_≡_, refl, ap, sym, _∙_}
-use mathlib.Core.Bool.{Bool, true, false, cond, _||_}
-use mathlib.Core.List.{List, [], _∷_, _++_}
+use mathlib.Core.Bool.{Bool, true, false, cond}
+use mathlib.Core.List.{List, [], _++_}
 use native.Mathlib.Omega.{arith}
-use lib.Dec.{eqb, ltb}
 use lib.ListN.{length}
 use borrow.Author.Tests.{ne-eqb, le-ltb}
 use Rattle.state.specs.declared.starting.StartAnswer as start
@@ -13,14 +12,13 @@ use Rattle.memory.specs.Memory.{emptyStore}
 use Rattle.unit.specs.Machine.{begunOf}
 use Rattle.unit.specs.declared.Machine.{Machine}
 use Rattle.grammar.specs.Grammar.{Read, fails, reads, times}
-use Rattle.sheet.specs.Form.{Top, Tick, tickLine, Sheet, sheetIn}
+use Rattle.sheet.specs.Form.{Tick, tickLine, Sheet, sheetIn}
 use Rattle.sheet.specs.Answers.{headBy, sheetHead}
-use Rattle.sheet.specs.declared.head.Head.{Head}
 use Rattle.sheet.proofs.Behind.{times-turn, times-none}
 use Rattle.sheet.proofs.Sheets.{Accepted, accepted}
 use Rattle.script.specs.Printing.{page, typed}
-use Rattle.session.specs.Transcript.{ticksText, refused8, refused14}
-use Rattle.session.specs.Sessions.{tickOn, lineOf, linesFrom, profileIn, beginning, begunText, sheetText, transcriptOf, Open, opens, Step, steps, noSession, sessionAt, startedBy, startedOf, openedBy, openedOf, after, numberOf, tickedOf, isOver, steppedBy, steppedOf, sessionBy, firstBy, answerBy, sessionFrom, firstFrom, answerFrom, nextBy, printedBy, stepsFrom, answerNumber}
+use Rattle.session.specs.Transcript.{ticksText}
+use Rattle.session.specs.Sessions.{tickOn, lineOf, linesFrom, profileIn, beginning, begunText, sheetText, transcriptOf, opens, steps, noSession, startedBy, startedOf, openedBy, openedOf, after, numberOf, tickedOf, isOver, steppedBy, steppedOf, sessionBy, firstBy, answerBy, sessionFrom, firstFrom, answerFrom, nextBy, printedBy, stepsFrom, answerNumber}
 use Rattle.session.specs.declared.running.Session.{Session}
 
 -- ---- what a call leaves, as a session and a text

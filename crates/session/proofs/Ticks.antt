@@ -1,8 +1,8 @@
 -- What the reader of a tick line answers, taken back to the line: its tick, and the bytes of its transfer at the front of the buffer. Assumes nothing.
-use Prim.Native.Nat.{ℕ, zero, suc, _+_, _≤_}
-use mathlib.Core.Path.{_≡_, refl, ap, sym, _∙_}
+use Prim.Native.Nat.{ℕ, _≤_}
+use mathlib.Core.Path.{_≡_, refl, ap, sym}
 use mathlib.Core.Bool.{Bool, true, false, cond}
-use mathlib.Core.List.{List, [], _∷_, _++_}
+use mathlib.Core.List.{List, [], _∷_}
 use mathlib.Core.Option.{Option, none, some}
 use native.Mathlib.Omega.{arith}
 use lib.Dec.{leb}
@@ -10,7 +10,7 @@ use lib.IntN.{ℤ}
 use lib.ListN.{length, take, drop}
 use lib.Seq.{take-at}
 use borrow.Author.Tests.{leb-true, le-leb}
-use Rattle.hex.specs.Hex.{payloadOf, laid}
+use Rattle.hex.specs.Hex.{payloadOf}
 use Rattle.grammar.specs.Grammar.{Read, fails, reads, on, either, byte, text, upTo}
 use Rattle.grammar.specs.Numbers.{signed, word}
 use Rattle.sheet.specs.Form.{Transfer, silence, bytes, spells, command, Tick, tickLine}

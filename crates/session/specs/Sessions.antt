@@ -1,10 +1,9 @@
 -- The whole output for a sheet as one text, and the same by steps: opening it, and then a tick at a time. Assumes nothing: these are definitions.
 use Prim.Native.Nat.{ℕ, zero, suc, _+_, _-_}
-use mathlib.Core.Bool.{Bool, true, false, cond, _||_}
+use mathlib.Core.Bool.{Bool, cond, _||_}
 use mathlib.Core.List.{List, [], _∷_, _++_}
 use lib.Dec.{eqb, ltb}
 use lib.IntN.{ℤ}
-use Rattle.memory.specs.declared.Store.{Store}
 use Rattle.memory.specs.Memory.{emptyStore}
 use Rattle.state.specs.declared.parts.Profile.{Profile}
 use Rattle.state.specs.declared.starting.StartAnswer as start

@@ -1,23 +1,21 @@
 -- A read gives each answer exactly when `GivenWhen` says, and a switch is exactly its text. Assumes nothing.
-use Prim.Native.Nat.{ℕ, _+_, _≤_, _<_}
+use Prim.Native.Nat.{ℕ, _≤_, _<_}
 use mathlib.Core.Path.{_≡_, refl, ap, sym, _∙_}
 use mathlib.Core.Bool.{Bool, true, false, cond, _&&_}
 use mathlib.Core.Option.{Option, none, some}
-use mathlib.Core.List.{List, [], _∷_, _++_}
+use mathlib.Core.List.{List, [], _∷_}
 use native.Mathlib.Omega.{arith}
 use lib.Dec.{eqb, leb, ltb}
-use lib.ListN.{length, take, drop}
-use lib.Seq.{take-at, drop-at}
-use borrow.Author.Tests.{eqb-true, leb-true, leb-false, ltb-true, ltb-false, eq-eqb, lt-ltb, le-ltb, le-leb, lt-leb}
+use lib.ListN.{length}
+use borrow.Author.Tests.{eqb-true, leb-true, leb-false, ltb-true, ltb-false, lt-ltb, le-ltb, le-leb, lt-leb}
 use Rattle.wire.specs.declared.forms.Form.{Form}
 use Rattle.wire.specs.declared.forms.Form.the-variants.{Raw, Ascii}
-use Rattle.hex.specs.Hex.{payloadOf, readOf, laid, heldAfter}
+use Rattle.hex.specs.Hex.{payloadOf, readOf}
 use Rattle.hex.specs.declared.Payload.{Payload}
 use Rattle.text.specs.Frames.{startsWith, frameOf}
-use Rattle.text.specs.First.{FrameAt, Complete}
-use Rattle.text.specs.Lines.{part, switchText, same, switchOf, spelt, asciiLine, inForm, commandLine, switching, lineIn, lineOf, heldIn, commandHeld, switchHeld, heldBy, lineHeld, payloadIn}
-use Rattle.text.specs.Given.{Plain, Spelt, Unspelt, Handed, GivenWhen}
-use Rattle.text.specs.Answers.{lineNumber, lineTells}
+use Rattle.text.specs.First.{FrameAt}
+use Rattle.text.specs.Lines.{part, switchText, same, switchOf, spelt, asciiLine, inForm, commandLine, switching, lineIn, lineOf}
+use Rattle.text.specs.Given.{Plain, Handed, GivenWhen}
 use Rattle.text.specs.declared.frames.Frame.{Frame}
 use Rattle.text.specs.declared.frames.Frame.the-variants.{Found, NotThere}
 use Rattle.text.specs.declared.reading.Line.{Line}

@@ -1,18 +1,18 @@
 -- What a read leaves: the scratch buffer as it was, but for a command in ASCII form, whose bytes then stand at its front and are the payload handed on; and the numbers and
 -- places that it tells. Assumes nothing.
-use Prim.Native.Nat.{ℕ, zero, suc, _+_, _-_, _≤_, _<_}
-use mathlib.Core.Path.{_≡_, refl, ap, sym, subst, _∙_}
+use Prim.Native.Nat.{ℕ, _+_, _-_, _≤_}
+use mathlib.Core.Path.{_≡_, refl, ap, sym, subst}
 use mathlib.Core.Bool.{Bool, true, false, cond}
 use mathlib.Core.Option.{Option, none, some}
-use mathlib.Core.List.{List, [], _∷_, _++_}
+use mathlib.Core.List.{List, _++_}
 use native.Mathlib.Omega.{arith}
 use lib.Dec.{eqb, leb, ltb}
-use lib.ListN.{length, take, drop}
-use lib.Seq.{take-at, drop-at}
+use lib.ListN.{length, drop}
+use lib.Seq.{take-at}
 use borrow.Author.Tests.{le-ltb, le-leb}
 use Rattle.wire.specs.declared.forms.Form.{Form}
 use Rattle.wire.specs.declared.forms.Form.the-variants.{Raw, Ascii}
-use Rattle.hex.specs.Hex.{payloadOf, readOf, laid, heldAfter}
+use Rattle.hex.specs.Hex.{payloadOf, readOf, heldAfter}
 use Rattle.hex.specs.declared.Payload.{Payload}
 use Rattle.text.specs.Frames.{openingTag, closingTag, frameOf}
 use Rattle.text.specs.First.{StandsAt, FrameAt, Complete}
@@ -25,7 +25,7 @@ use Rattle.text.specs.declared.reading.Line.{Line}
 use Rattle.text.specs.declared.reading.Line.the-variants.{Command, Switch, NoFrame, TooLong, NotOfForm, ScratchTooShort}
 use Rattle.text.specs.declared.reading.Switched.{Switched}
 use Rattle.text.specs.declared.reading.Switched.the-variants.{To, No}
-use Rattle.text.proofs.Search.{found-frame, frame-found}
+use Rattle.text.proofs.Search.{frame-found}
 use Rattle.text.proofs.Given.{no-switch, given, given-only}
 
 -- ---- the scratch buffer

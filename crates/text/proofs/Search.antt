@@ -7,7 +7,7 @@ use mathlib.Core.Logic.{⊎-elim}
 use mathlib.Core.Option.{Option, none, some}
 use mathlib.Core.List.{List, [], _∷_}
 use native.Mathlib.Omega.{arith}
-use lib.ListN.{length, drop}
+use lib.ListN.{drop}
 use lib.Seq.{drop-drop}
 use Rattle.laws.proofs.Lists.{lt-or-le}
 use Rattle.text.specs.Frames.{startsWith, firstAt, openingTag, closingTag, openedAt, closedAt, frameOf}

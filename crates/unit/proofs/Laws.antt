@@ -1,9 +1,9 @@
 -- What a bench can rely on: framing says the reply of the latest tick and never an older one, a switch takes at the read, and a refused call leaves the machine as it was.
 -- Assumes nothing.
 use Prim.Native.Nat.{ℕ}
-use mathlib.Core.Path.{_≡_, refl, ap, sym, subst, _∙_}
-use mathlib.Core.Bool.{Bool, true, false, cond, false≢true}
-use mathlib.Core.List.{List, []}
+use mathlib.Core.Path.{_≡_, refl, ap, _∙_}
+use mathlib.Core.Bool.{Bool, true, false, cond}
+use mathlib.Core.List.{List}
 use native.Mathlib.Omega.{arith}
 use lib.IntN.{ℤ}
 use lib.ListN.{length}
@@ -26,12 +26,11 @@ use Rattle.state.specs.Parts.{modeOf, withForm, withReply}
 use Rattle.state.specs.declared.parts.Board.{Board}
 use Rattle.state.specs.Start.{commandResetOf, freshOf, keepsTheRules, startOf}
 use Rattle.state.specs.declared.parts.Profile.{Profile}
-use Rattle.state.specs.declared.starting.StartAnswer.the-variants.{Accepted, ProfileBreaksARule}
+use Rattle.state.specs.declared.starting.StartAnswer.the-variants.{Accepted}
 use Rattle.answers.specs.Answers.{headerOf, silentOf}
 use Rattle.answers.specs.declared.Answer.{Answer}
 use Rattle.answers.specs.declared.Answer.the-variants.{FewerThanFourBytes, InStartup}
-use Rattle.answers.specs.declared.Outcome.{Outcome}
-use Rattle.answers.specs.declared.Outcome.the-variants.{NoTransfer, Answered}
+use Rattle.answers.specs.declared.Outcome.the-variants.{Answered}
 use Rattle.answers.specs.declared.Commanded.{Commanded}
 use Rattle.commands.specs.Effects.{runOf, restartedOf}
 use Rattle.commands.specs.Step.{isStartup, decodedOf, transferredOf, commandedOf}
@@ -39,10 +38,9 @@ use Rattle.board.specs.Tick.{risenOf, changedOf, trippedOf, watchedAs, watchedI
 use Rattle.board.proofs.Happened.{told, found, own-reply, form-after, reset-form}
 use Rattle.text.specs.Answers.{lineNumber}
 use Rattle.text.specs.Lines.{lineOf, switchText}
-use Rattle.text.specs.Framing.{replyFrame, written, dueText, framedOf}
+use Rattle.text.specs.Framing.{replyFrame, written, framedOf}
 use Rattle.text.specs.declared.reading.Line.{Line}
 use Rattle.text.specs.declared.reading.Line.the-variants.{Command, Switch, NoFrame, TooLong, NotOfForm, ScratchTooShort}
-use Rattle.text.specs.declared.framing.Due.{Due}
 use Rattle.text.specs.declared.framing.Due.the-variants.{Nothing, Reply, Echo}
 use Rattle.text.specs.declared.framing.Framed.the-variants.{Written}
 use Rattle.text.proofs.FramingLaws.{nothing-due}

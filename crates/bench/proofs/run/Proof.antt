@@ -2,12 +2,6 @@
 use borrow.Author.Needs.{needs}
 use Rattle.bench.proofs.run.Statement.{statement}
 use Rattle.bench.proofs.run.Tie as tie
-use Rattle.bench.proofs.run.Reads as reads
-use Rattle.bench.proofs.run.Lts as lts
-use Rattle.bench.proofs.print.Reads as print-reads
-use Rattle.bench.proofs.run_tick.Reads as run-tick-reads
-use Rattle.io.proofs.buffer.Reads as buffer-reads
-use Rattle.session.proofs.open.Reads as open-reads
 
 abbrev Inv-loop : tie.InvT-loop
 Inv-loop sheet now₀ left₀ now left = Unit {0}

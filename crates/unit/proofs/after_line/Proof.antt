@@ -2,9 +2,6 @@
 use borrow.Author.Needs.{needs}
 use Rattle.unit.proofs.after_line.Statement.{statement}
 use Rattle.unit.proofs.after_line.Tie as tie
-use Rattle.unit.proofs.after_line.Reads as reads
-use Rattle.unit.proofs.after_line.Lts as lts
-use Rattle.state.proofs.with_form.Reads as with-form-reads
 
 enum-known-line : tie.Need-enum-known-line
 enum-known-line c = search needs

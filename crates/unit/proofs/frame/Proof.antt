@@ -4,10 +4,6 @@ use Rattle.unit.specs.Machine.{dueOf}
 use borrow.Author.Needs.{needs}
 use Rattle.unit.proofs.frame.Statement.{statement}
 use Rattle.unit.proofs.frame.Tie as tie
-use Rattle.unit.proofs.frame.Reads as reads
-use Rattle.unit.proofs.frame.Lts as lts
-use Rattle.text.proofs.frame.Reads as frame-reads
-use Rattle.wire.proofs.first.Reads as first-reads
 
 slice-aggregate-first : tie.Need-slice-aggregate-first
 slice-aggregate-first c = search needs

@@ -1,13 +1,9 @@
 -- The read's answer, and the machine after it. Assumes nothing.
-use mathlib.Core.Path.{_≡_, refl}
+use mathlib.Core.Path.{refl}
 use Rattle.unit.specs.Machine.{heardOf}
 use borrow.Author.Needs.{needs}
 use Rattle.unit.proofs.read_line.Statement.{statement}
 use Rattle.unit.proofs.read_line.Tie as tie
-use Rattle.unit.proofs.read_line.Reads as reads
-use Rattle.unit.proofs.read_line.Lts as lts
-use Rattle.text.proofs.read.Reads as read-reads
-use Rattle.unit.proofs.after_line.Reads as after-line-reads
 
 read-requires : tie.Need-read-requires
 read-requires c κs = search needs

@@ -1,12 +1,8 @@
 -- The answer of the start says whose machine stays. Assumes nothing.
-use mathlib.Core.Path.{_≡_, sym, ap, _∙_}
 use Rattle.unit.specs.Machine.{begunOf}
 use borrow.Author.Needs.{needs}
 use Rattle.unit.proofs.start.Statement.{statement}
 use Rattle.unit.proofs.start.Tie as tie
-use Rattle.unit.proofs.start.Reads as reads
-use Rattle.unit.proofs.start.Lts as lts
-use Rattle.state.proofs.start.Reads as start-reads
 
 start-requires : tie.Need-start-requires
 start-requires c κs = search needs

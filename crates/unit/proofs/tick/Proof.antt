@@ -5,10 +5,6 @@ use Rattle.unit.specs.Machine.{toldOf}
 use borrow.Author.Needs.{needs}
 use Rattle.unit.proofs.tick.Statement.{statement}
 use Rattle.unit.proofs.tick.Tie as tie
-use Rattle.unit.proofs.tick.Reads as reads
-use Rattle.unit.proofs.tick.Lts as lts
-use Rattle.board.proofs.tick.Reads as tick-reads
-use Rattle.unit.proofs.due_after.Reads as due-after-reads
 
 tick-requires : tie.Need-tick-requires
 tick-requires c κs = search needs

@@ -2,9 +2,6 @@
 use borrow.Author.Needs.{needs}
 use Rattle.unit.proofs.unstarted.Statement.{statement}
 use Rattle.unit.proofs.unstarted.Tie as tie
-use Rattle.unit.proofs.unstarted.Reads as reads
-use Rattle.unit.proofs.unstarted.Lts as lts
-use Rattle.state.proofs.unstarted.Reads as unstarted-reads
 
 unstarted-requires : tie.Need-unstarted-requires
 unstarted-requires c κs = search needs

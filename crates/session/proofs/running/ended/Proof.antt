@@ -2,9 +2,6 @@
 use borrow.Author.Needs.{needs}
 use Rattle.session.proofs.running.ended.Statement.{statement}
 use Rattle.session.proofs.running.ended.Tie as tie
-use Rattle.session.proofs.running.ended.Reads as reads
-use Rattle.session.proofs.running.ended.Lts as lts
-use Rattle.session.proofs.running.none.Reads as none-reads
 
 none-requires : tie.Need-none-requires
 none-requires c κs = search needs

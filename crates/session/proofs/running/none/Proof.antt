@@ -2,9 +2,6 @@
 use borrow.Author.Needs.{needs}
 use Rattle.session.proofs.running.none.Statement.{statement}
 use Rattle.session.proofs.running.none.Tie as tie
-use Rattle.session.proofs.running.none.Reads as reads
-use Rattle.session.proofs.running.none.Lts as lts
-use Rattle.unit.proofs.unstarted.Reads as unstarted-reads
 
 unstarted-requires : tie.Need-unstarted-requires
 unstarted-requires c κs = search needs

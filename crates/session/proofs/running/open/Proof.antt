@@ -1,16 +1,10 @@
 -- The read of the whole sheet says which of the two it is. Assumes nothing.
-use mathlib.Core.Path.{_≡_, sym, _∙_}
+use mathlib.Core.Path.{sym, _∙_}
 use Rattle.sheet.proofs.Sheets.{accepted, refused}
 use Rattle.session.specs.Sessions.{openedOf}
 use borrow.Author.Needs.{needs}
 use Rattle.session.proofs.running.open.Statement.{statement}
 use Rattle.session.proofs.running.open.Tie as tie
-use Rattle.session.proofs.running.open.Reads as reads
-use Rattle.session.proofs.running.open.Lts as lts
-use Rattle.script.proofs.printing.text.Reads as text-reads
-use Rattle.session.proofs.running.none.Reads as none-reads
-use Rattle.session.proofs.running.started.Reads as started-reads
-use Rattle.sheet.proofs.read.Reads as read-reads
 
 read-requires : tie.Need-read-requires
 read-requires c κs = search needs

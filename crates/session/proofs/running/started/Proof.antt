@@ -1,18 +1,8 @@
 -- The answer of the start says which of the two it is. Assumes nothing.
-use mathlib.Core.Path.{_≡_, ap, sym, _∙_}
-use Rattle.unit.specs.Machine.{begunOf}
 use Rattle.session.specs.Sessions.{startedOf}
 use borrow.Author.Needs.{needs}
 use Rattle.session.proofs.running.started.Statement.{statement}
 use Rattle.session.proofs.running.started.Tie as tie
-use Rattle.session.proofs.running.started.Reads as reads
-use Rattle.session.proofs.running.started.Lts as lts
-use Rattle.memory.proofs.Store.empty.Reads as empty-reads
-use Rattle.script.proofs.printing.text.Reads as text-reads
-use Rattle.session.proofs.running.none.Reads as none-reads
-use Rattle.session.proofs.transcript.ticks_line.Reads as ticks-line-reads
-use Rattle.unit.proofs.start.Reads as start-reads
-use Rattle.unit.proofs.unstarted.Reads as unstarted-reads
 
 unstarted-requires : tie.Need-unstarted-requires
 unstarted-requires c κs = search needs

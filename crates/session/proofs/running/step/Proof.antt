@@ -1,22 +1,15 @@
 -- What the tick line says, and whether a tick is left. Assumes nothing.
 use borrow.Author.Tests.{eq-eqb, ne-eqb, lt-ltb, le-ltb}
 use native.Mathlib.Omega.{arith}
-use Prim.Native.Nat.{ℕ}
-use mathlib.Core.Path.{_≡_, refl, ap, sym, _∙_}
+use mathlib.Core.Path.{refl, sym, _∙_}
 use Rattle.grammar.proofs.Signs.{kept}
-use lib.ListN.{length, replicate}
+use lib.ListN.{replicate}
 use Rattle.sheet.specs.Form.{tickLine}
 use Rattle.session.specs.Sessions.{steppedOf}
 use Rattle.session.proofs.Ticks.{read-tick, no-tick, transfer-held}
 use borrow.Author.Needs.{needs}
 use Rattle.session.proofs.running.step.Statement.{statement}
 use Rattle.session.proofs.running.step.Tie as tie
-use Rattle.session.proofs.running.step.Reads as reads
-use Rattle.session.proofs.running.step.Lts as lts
-use Rattle.session.proofs.running.ended.Reads as ended-reads
-use Rattle.session.proofs.running.ticked.Reads as ticked-reads
-use Rattle.sheet.proofs.read_tick.Reads as read-tick-reads
-use Rattle.wire.proofs.first.Reads as first-reads
 
 slice-aggregate-read-tick : tie.Need-slice-aggregate-read-tick
 slice-aggregate-read-tick c = search needs

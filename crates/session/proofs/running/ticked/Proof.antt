@@ -1,16 +1,10 @@
 -- One tick of the machine, and its line. Assumes nothing.
-use native.Mathlib.Omega.{arith}
 use mir.Syntax.{w16}
 use mir.ValLaws.{toZ-ofZ}
-use mathlib.Core.Path.{_≡_, refl}
 use Rattle.session.specs.Sessions.{tickedOf}
 use borrow.Author.Needs.{needs}
 use Rattle.session.proofs.running.ticked.Statement.{statement}
 use Rattle.session.proofs.running.ticked.Tie as tie
-use Rattle.session.proofs.running.ticked.Reads as reads
-use Rattle.session.proofs.running.ticked.Lts as lts
-use Rattle.session.proofs.transcript.tick_line.Reads as tick-line-reads
-use Rattle.unit.proofs.tick.Reads as tick-reads
 
 slice-aggregate-tick : tie.Need-slice-aggregate-tick
 slice-aggregate-tick c = search needs

@@ -1,9 +1,9 @@
 -- The digits that are left, put behind what stands on the page now. Assumes nothing.
 use borrow.Author.Needs.{needs}
 use native.Mathlib.Omega.{arith}
-use Prim.Native.Nat.{ℕ, _≤_, _-_, _+_, _%_, _^_}
+use Prim.Native.Nat.{ℕ, _-_, _^_}
 use mathlib.Core.Path.{_≡_, refl, ap, sym, _∙_}
-use mathlib.Core.List.{List, [], _∷_}
+use mathlib.Core.List.{List}
 use lib.ListN.{length}
 use Rattle.script.specs.Printing.{page, typed}
 use Rattle.script.proofs.Turns.{turn}
@@ -11,10 +11,6 @@ use Rattle.session.specs.Transcript.{digitFor, digitsFor}
 use Rattle.session.proofs.Decimal.{digits-turn, power-turn, power-some, digits-last}
 use Rattle.session.proofs.transcript.decimal.Statement.{statement}
 use Rattle.session.proofs.transcript.decimal.Tie as tie
-use Rattle.session.proofs.transcript.decimal.Reads as reads
-use Rattle.session.proofs.transcript.decimal.Lts as lts
-use Rattle.script.proofs.printing.put.Reads as put-reads
-use Rattle.session.proofs.transcript.digit.Reads as digit-reads
 
 record Digits (out₀ : List ℕ) (at n : ℕ) (out : List ℕ) (place power left : ℕ) : Type 0 where
   kept : length out ≡ length out₀

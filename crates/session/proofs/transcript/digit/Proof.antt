@@ -1,14 +1,9 @@
 -- A number below the power has no digit for it. Assumes nothing.
 use borrow.Author.Tests.{lt-ltb, le-ltb}
-use native.Mathlib.Omega.{arith}
-use mathlib.Core.Path.{_≡_}
-use Rattle.script.specs.Printing.{page, typed}
+use Rattle.script.specs.Printing.{typed}
 use borrow.Author.Needs.{needs}
 use Rattle.session.proofs.transcript.digit.Statement.{statement}
 use Rattle.session.proofs.transcript.digit.Tie as tie
-use Rattle.session.proofs.transcript.digit.Reads as reads
-use Rattle.session.proofs.transcript.digit.Lts as lts
-use Rattle.script.proofs.printing.put.Reads as put-reads
 
 returns : tie.Need-returns
 unfolding typed

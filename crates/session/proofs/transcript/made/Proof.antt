@@ -2,15 +2,11 @@
 use borrow.Author.Tests.{not-true}
 use mathlib.Core.Path.{_≡_}
 use mathlib.Core.Bool.{true, false}
-use Rattle.script.specs.Printing.{page, typed}
+use Rattle.script.specs.Printing.{typed}
 use Rattle.session.specs.Transcript.{madeText}
 use borrow.Author.Needs.{needs}
 use Rattle.session.proofs.transcript.made.Statement.{statement}
 use Rattle.session.proofs.transcript.made.Tie as tie
-use Rattle.session.proofs.transcript.made.Reads as reads
-use Rattle.session.proofs.transcript.made.Lts as lts
-use Rattle.script.proofs.printing.put.Reads as put-reads
-use Rattle.session.proofs.transcript.reply.Reads as reply-reads
 
 put-requires : tie.Need-put-requires
 put-requires c κs = search needs

@@ -1,6 +1,5 @@
 -- The room is enough for every reply, so all of its digits are there to be put. Assumes nothing.
-use native.Mathlib.Omega.{arith}
-use mathlib.Core.Path.{_≡_, refl, ap, sym, _∙_}
+use mathlib.Core.Path.{_≡_, ap, sym, _∙_}
 use Prim.Native.Nat.{ℕ}
 use lib.ListN.{length, take, replicate, length-replicate}
 use Rattle.wire.specs.Replies.{shown}
@@ -9,11 +8,6 @@ use Rattle.session.proofs.Decimal.{shown-short, digits-written, digits-
 use borrow.Author.Needs.{needs}
 use Rattle.session.proofs.transcript.reply.Statement.{statement}
 use Rattle.session.proofs.transcript.reply.Tie as tie
-use Rattle.session.proofs.transcript.reply.Reads as reads
-use Rattle.session.proofs.transcript.reply.Lts as lts
-use Rattle.hex.proofs.write.Reads as write-reads
-use Rattle.script.proofs.printing.text.Reads as text-reads
-use Rattle.wire.proofs.first.Reads as first-reads
 
 slice-aggregate-first : tie.Need-slice-aggregate-first
 slice-aggregate-first c = search needs

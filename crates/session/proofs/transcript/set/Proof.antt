@@ -1,14 +1,8 @@
 -- A space, and the digits behind it. Assumes nothing.
-use Rattle.script.specs.Printing.{page, typed}
-use Rattle.script.proofs.Turns.{typed-append}
+use Rattle.script.specs.Printing.{typed}
 use borrow.Author.Needs.{needs}
 use Rattle.session.proofs.transcript.set.Statement.{statement}
 use Rattle.session.proofs.transcript.set.Tie as tie
-use Rattle.session.proofs.transcript.set.Reads as reads
-use Rattle.session.proofs.transcript.set.Lts as lts
-use Rattle.hex.proofs.write_word.Reads as write-word-reads
-use Rattle.script.proofs.printing.put.Reads as put-reads
-use Rattle.script.proofs.printing.text.Reads as text-reads
 
 put-requires : tie.Need-put-requires
 put-requires c κs = search needs

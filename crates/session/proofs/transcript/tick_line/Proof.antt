@@ -1,20 +1,10 @@
 -- Each part behind the one before it. Assumes nothing.
-use Rattle.script.specs.Printing.{page, typed}
+use Rattle.script.specs.Printing.{typed}
 use Rattle.script.proofs.Turns.{typed-append}
 use Rattle.session.specs.Transcript.{tickText}
 use borrow.Author.Needs.{needs}
 use Rattle.session.proofs.transcript.tick_line.Statement.{statement}
 use Rattle.session.proofs.transcript.tick_line.Tie as tie
-use Rattle.session.proofs.transcript.tick_line.Reads as reads
-use Rattle.session.proofs.transcript.tick_line.Lts as lts
-use Rattle.channels.proofs.Channels.latched.Reads as latched-reads
-use Rattle.channels.proofs.Channels.on.Reads as on-reads
-use Rattle.modes.proofs.ModeAge.mode.Reads as mode-reads
-use Rattle.script.proofs.printing.put.Reads as put-reads
-use Rattle.session.proofs.transcript.decimal.Reads as decimal-reads
-use Rattle.session.proofs.transcript.made.Reads as made-reads
-use Rattle.session.proofs.transcript.set.Reads as set-reads
-use Rattle.showing.proofs.mode_letter.Reads as mode-letter-reads
 
 decimal-requires : tie.Need-decimal-requires
 decimal-requires c κs = search needs

@@ -1,15 +1,10 @@
 -- Each part behind the one before it. Assumes nothing.
-use Rattle.script.specs.Printing.{page, typed}
+use Rattle.script.specs.Printing.{typed}
 use Rattle.script.proofs.Turns.{typed-append}
 use Rattle.session.specs.Transcript.{ticksText}
 use borrow.Author.Needs.{needs}
 use Rattle.session.proofs.transcript.ticks_line.Statement.{statement}
 use Rattle.session.proofs.transcript.ticks_line.Tie as tie
-use Rattle.session.proofs.transcript.ticks_line.Reads as reads
-use Rattle.session.proofs.transcript.ticks_line.Lts as lts
-use Rattle.script.proofs.printing.put.Reads as put-reads
-use Rattle.script.proofs.printing.text.Reads as text-reads
-use Rattle.session.proofs.transcript.decimal.Reads as decimal-reads
 
 slice-aggregate-text : tie.Need-slice-aggregate-text
 slice-aggregate-text c = search needs

@@ -1,19 +1,16 @@
 use native.Mathlib.Nat.{add-zero, add-assoc}
 use mathlib.Core.List.{List}
-use mathlib.Core.Option.{Option}
 -- `find` meets its contract. The outer invariant: the first place from here is the first place from the start. The inner one: what is
 -- left of the tag stands here just where the tag stands at the outer place. Assumes nothing.
 use borrow.Author.Needs.{needs}
 use native.Mathlib.Omega.{arith}
 use Prim.Native.Nat.{ℕ, _+_, _≤_, _-_}
-use mathlib.Core.Path.{_≡_, refl, sym, ap, _∙_}
+use mathlib.Core.Path.{_≡_, sym, ap, _∙_}
 use lib.ListN.{length, drop}
 use Rattle.text.specs.Frames.{startsWith, firstAt, placeOf}
 use Rattle.text.proofs.Scanning.{starts-end, starts-same, starts-other, first-none, first-next, found-at}
 use Rattle.text.proofs.frames.find.Statement.{statement}
 use Rattle.text.proofs.frames.find.Tie as tie
-use Rattle.text.proofs.frames.find.Reads as reads
-use Rattle.text.proofs.frames.find.Lts as lts
 
 -- the invariants, with a name for each part
 record Bytes (tag s : List ℕ) (i k : ℕ) : Type 0 where

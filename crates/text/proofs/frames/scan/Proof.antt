@@ -1,15 +1,10 @@
-use mathlib.Core.Path.{subst}
-use lib.ListN.{length}
 -- `scan` meets its contract. Assumes nothing.
 use native.Mathlib.Omega.{arith}
-use mathlib.Core.Path.{sym, ap, _∙_}
+use mathlib.Core.Path.{sym, _∙_}
 use Rattle.text.proofs.Scanning.{unopened, unclosed, whole}
 use borrow.Author.Needs.{needs}
 use Rattle.text.proofs.frames.scan.Statement.{statement}
 use Rattle.text.proofs.frames.scan.Tie as tie
-use Rattle.text.proofs.frames.scan.Reads as reads
-use Rattle.text.proofs.frames.scan.Lts as lts
-use Rattle.text.proofs.frames.find.Reads as find-reads
 
 slice-aggregate-find : tie.Need-slice-aggregate-find
 slice-aggregate-find c = search needs

@@ -1,12 +1,9 @@
 -- The answer of the read of hex, case by case. Assumes nothing.
-use mathlib.Core.Path.{_≡_, sym, _∙_}
+use mathlib.Core.Path.{sym, _∙_}
 use borrow.Author.Needs.{needs}
 use Rattle.text.specs.Lines.{asciiLine}
 use Rattle.text.proofs.reading.ascii_line.Statement.{statement}
 use Rattle.text.proofs.reading.ascii_line.Tie as tie
-use Rattle.text.proofs.reading.ascii_line.Reads as reads
-use Rattle.text.proofs.reading.ascii_line.Lts as lts
-use Rattle.hex.proofs.read.Reads as read-reads
 
 read-requires : tie.Need-read-requires
 read-requires c κs = search needs

@@ -1,15 +1,10 @@
 -- The length is looked at first, then the form. Assumes nothing.
 use borrow.Author.Tests.{lt-ltb, le-ltb}
-use native.Mathlib.Omega.{arith}
-use mathlib.Core.Path.{_≡_, refl, sym, _∙_}
+use mathlib.Core.Path.{refl}
 use Rattle.text.specs.Lines.{part, commandLine, commandHeld}
 use borrow.Author.Needs.{needs}
 use Rattle.text.proofs.reading.command_line.Statement.{statement}
 use Rattle.text.proofs.reading.command_line.Tie as tie
-use Rattle.text.proofs.reading.command_line.Reads as reads
-use Rattle.text.proofs.reading.command_line.Lts as lts
-use Rattle.text.proofs.reading.ascii_line.Reads as ascii-line-reads
-use Rattle.text.proofs.reading.part.Reads as part-reads
 
 part-requires : tie.Need-part-requires
 part-requires c κs = search needs

@@ -9,8 +9,6 @@ use Rattle.text.specs.Frames.{startsWith}
 use Rattle.text.proofs.Scanning.{starts-end, starts-same, starts-other, different, differing, alike}
 use Rattle.text.proofs.reading.is_same.Statement.{statement}
 use Rattle.text.proofs.reading.is_same.Tie as tie
-use Rattle.text.proofs.reading.is_same.Reads as reads
-use Rattle.text.proofs.reading.is_same.Lts as lts
 
 record Bytes (s text : List ℕ) (i : ℕ) : Type 0 where
   upto : i ≤ length s

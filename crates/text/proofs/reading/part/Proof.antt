@@ -1,15 +1,11 @@
 -- Both ways are the same definition: with the end before the start nothing is taken. Assumes nothing.
 use native.Mathlib.Omega.{arith}
-use Prim.Native.Nat.{ℕ, _-_}
+use Prim.Native.Nat.{_-_}
 use mathlib.Core.Path.{_≡_}
 use Rattle.text.specs.Lines.{part}
 use borrow.Author.Needs.{needs}
 use Rattle.text.proofs.reading.part.Statement.{statement}
 use Rattle.text.proofs.reading.part.Tie as tie
-use Rattle.text.proofs.reading.part.Reads as reads
-use Rattle.text.proofs.reading.part.Lts as lts
-use Rattle.wire.proofs.first.Reads as first-reads
-use Rattle.wire.proofs.rest.Reads as rest-reads
 
 first-requires : tie.Need-first-requires
 first-requires c κs = search needs

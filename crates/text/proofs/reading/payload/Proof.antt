@@ -2,9 +2,6 @@
 use borrow.Author.Needs.{needs}
 use Rattle.text.proofs.reading.payload.Statement.{statement}
 use Rattle.text.proofs.reading.payload.Tie as tie
-use Rattle.text.proofs.reading.payload.Reads as reads
-use Rattle.text.proofs.reading.payload.Lts as lts
-use Rattle.text.proofs.reading.part.Reads as part-reads
 
 enum-told : tie.Need-enum-told
 enum-told c = search needs

@@ -1,15 +1,9 @@
 -- The scan's answer, then the switch's, then the command's. Assumes nothing.
-use mathlib.Core.Path.{_≡_, refl, sym, _∙_}
-use Rattle.text.specs.Lines.{lineOf, lineHeld, part, switchOf}
+use mathlib.Core.Path.{refl, sym, _∙_}
+use Rattle.text.specs.Lines.{lineOf, lineHeld, part}
 use borrow.Author.Needs.{needs}
 use Rattle.text.proofs.reading.read.Statement.{statement}
 use Rattle.text.proofs.reading.read.Tie as tie
-use Rattle.text.proofs.reading.read.Reads as reads
-use Rattle.text.proofs.reading.read.Lts as lts
-use Rattle.text.proofs.frames.scan.Reads as scan-reads
-use Rattle.text.proofs.reading.command_line.Reads as command-line-reads
-use Rattle.text.proofs.reading.part.Reads as part-reads
-use Rattle.text.proofs.reading.switch_of.Reads as switch-of-reads
 
 scan-requires : tie.Need-scan-requires
 scan-requires c κs = search needs

@@ -6,9 +6,6 @@ use Rattle.text.specs.Lines.{switchOf}
 use borrow.Author.Needs.{needs}
 use Rattle.text.proofs.reading.switch_of.Statement.{statement}
 use Rattle.text.proofs.reading.switch_of.Tie as tie
-use Rattle.text.proofs.reading.switch_of.Reads as reads
-use Rattle.text.proofs.reading.switch_of.Lts as lts
-use Rattle.text.proofs.reading.is_same.Reads as is-same-reads
 
 slice-aggregate-is-same : tie.Need-slice-aggregate-is-same
 slice-aggregate-is-same c = search needs
