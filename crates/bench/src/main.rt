@@ -1,4 +1,7 @@
 // Runs the session sheet on standard input, and prints its transcript or why it is refused. Nothing is decided here: `session` says what is printed.
+ghost use mathlib.Core.Path.{_≡_};
+ghost use Rattle.sheet.specs.Form.{tickLine};
+ghost use Rattle.session.specs.Sessions.{nextBy};
 use libc::STDIN_FILENO;
 use libc::STDOUT_FILENO;
 use session::Session;
@@ -8,9 +11,10 @@ fn print(out: &[u8], printed: usize) {
     io::write_all(STDOUT_FILENO, script::printing::shown(out, printed));
 }
 
-// Runs one tick and prints its line.
-// argued: what it answers is the session that `session::step` leaves
-fn run_tick(session: Session, sheet: &[u8]) -> Session {
+// Runs one tick and prints its line; the session is the one that the step leaves.
+fn run_tick(session: Session, sheet: &[u8]) -> Session
+    ensures { λ r. ⌜ r ≡ nextBy (tickLine 256 (now (sheet .entry)) (session .at)) session ⌝ }
+{
     let mut out = io::buffer();
     let stepped = session::step(session, sheet, &mut out);
     print(&out, stepped.printed);

@@ -1,7 +1,7 @@
 -- The equations of a search, one for each way that a turn of its loops can go, and the three answers of a scan. Assumes nothing.
 use Prim.Native.Nat.{ℕ, _+_, _≤_, _<_}
 use mathlib.Core.Path.{_≡_, refl, ap, sym, _∙_}
-use mathlib.Core.Bool.{Bool, true, false, _&&_}
+use mathlib.Core.Bool.{Bool, true, false, _&&_, and-false}
 use mathlib.Core.Option.{Option, none, some}
 use mathlib.Core.List.{List, [], _∷_}
 use native.Mathlib.Omega.{arith}
@@ -33,11 +33,7 @@ starts-short : (tag l : List ℕ) → length l < length tag → startsWith tag l
 unfolding startsWith
 starts-short [] l h = absurd (omega arith)
 starts-short (t ∷ ts) [] h = refl
-starts-short (t ∷ ts) (x ∷ l) h = ap (λ (b : Bool). eqb x t && b) (starts-short ts l (omega arith)) ∙ no (eqb x t)
-  where
-    no : (b : Bool) → b && false ≡ false
-    no true = refl
-    no false = refl
+starts-short (t ∷ ts) (x ∷ l) h = ap (λ (b : Bool). eqb x t && b) (starts-short ts l (omega arith)) ∙ and-false (eqb x t)
 
 first-short : (tag : List ℕ) (i : ℕ) (l : List ℕ) → length l < length tag → firstAt tag i l ≡ none
 unfolding firstAt
@@ -104,11 +100,7 @@ module _ (s text : List ℕ) where
 
   pub differing : startsWith text s ≡ false → false ≡ same s text
   unfolding same
-  differing e = rw e (no (eqb (length s) (length text)))
-    where
-      no : (b : Bool) → false ≡ b && false
-      no true = refl
-      no false = refl
+  differing e = rw e (sym (and-false (eqb (length s) (length text))))
 
   pub alike : length s ≡ length text → startsWith text s ≡ true → true ≡ same s text
   unfolding same
