@@ -3,3 +3,4 @@ pub mod Reading
 pub mod Writing
 pub mod RoundTrip
 pub mod Numbers
+pub mod Digits

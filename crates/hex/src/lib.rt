@@ -1,6 +1,6 @@
 // Bytes as text: pairs of hex digits, read in either case and written in capitals.
 ghost use mathlib.Core.Path.{_≡_};
-ghost use Prim.Native.Nat.{_+_, _*_, _%_, _<_, _≤_};
+ghost use Prim.Native.Nat.{_+_, _*_, _/_, _%_, _^_, _<_, _≤_};
 ghost use lib.ListN.{length};
 ghost use lib.Seq.{sets};
 ghost use Rattle.hex.specs.Hex.{digitOf, pairOf, payloadOf, readOf, heldAfter, laid, capitalOf, digitsOf, textOf, writtenOf, fourPairs, wordOf, wordText};
@@ -225,29 +225,36 @@ pub fn read_word(text: &[u8]) -> Word
     four_pairs(upper, second, third, lowest)
 }
 
-// A byte of a number.
-fn low(x: u32) -> u8
-    ensures { λ r. ⌜ r ≡ x % 256 ⌝ }
+// The bit of a number at a place, 0 for the lowest.
+// argued: called with places below 32
+fn bit(x: u32, place: u32) -> u8
+    requires { ⌜ place < 32 ⌝ }
+    ensures { λ r. ⌜ r ≡ x / 2 ^ place % 2 ⌝ }
 {
-    (x % 256) as u8
+    ((x >> place) % 2) as u8
 }
 
-// A 32-bit number as eight capital digits, the uppermost first.
+// What the bits at four places are worth as one digit, the uppermost first.
+// argued: called with places below 32
+fn four(x: u32, eight: u32, four: u32, two: u32, one: u32) -> u8
+    requires { ⌜ (eight < 32) × (four < 32) × (two < 32) × (one < 32) ⌝ }
+    ensures { λ r. ⌜ r ≡ 8 * (x / 2 ^ eight % 2) + 4 * (x / 2 ^ four % 2) + 2 * (x / 2 ^ two % 2) + x / 2 ^ one % 2 ⌝ }
+{
+    8 * bit(x, eight) + 4 * bit(x, four) + 2 * bit(x, two) + bit(x, one)
+}
+
+// A 32-bit number as eight capital digits, the uppermost first: of a set, channel 31 stands first and channel c is bit c.
 pub fn write_word(x: u32) -> [u8; 8]
     ensures { λ r. ⌜ r ≡ wordText x ⌝ }
 {
-    let a = low(x / 16777216);
-    let b = low(x / 65536);
-    let c = low(x / 256);
-    let d = low(x);
     [
-        capital(a / 16),
-        capital(a % 16),
-        capital(b / 16),
-        capital(b % 16),
-        capital(c / 16),
-        capital(c % 16),
-        capital(d / 16),
-        capital(d % 16),
+        capital(four(x, 31, 30, 29, 28)),
+        capital(four(x, 27, 26, 25, 24)),
+        capital(four(x, 23, 22, 21, 20)),
+        capital(four(x, 19, 18, 17, 16)),
+        capital(four(x, 15, 14, 13, 12)),
+        capital(four(x, 11, 10, 9, 8)),
+        capital(four(x, 7, 6, 5, 4)),
+        capital(four(x, 3, 2, 1, 0)),
     ]
 }
