@@ -1,6 +1,5 @@
--- The answers of the command step. Of `value_read` the bytes that count are said and no others: the exception of docs/DECISIONS.md. Assumes nothing.
+-- The answers of the command step. Assumes nothing.
 use mathlib.Core.Path.{sym, _∙_}
-use lib.ListN.{take}
 use Rattle.single.specs.Single.{Single}
 use Rattle.answers.proofs.start_of.Reads as start-of
 use Rattle.answers.proofs.header.Reads as header
@@ -40,5 +39,5 @@ single-not-this-board κ a r r′ s s′ p q = p ∙ sym q
 pub single-cause-number : Single cause-number.Post (λ κ r s. r)
 single-cause-number κ a r r′ s s′ p q = p ∙ sym q
 
-pub read-value-read : Single value-read.Post (λ κ r s. take (r .len) (r .bytes))
-read-value-read κ a r r′ s s′ p q = p ∙ sym q
+pub single-value-read : Single value-read.Post (λ κ r s. r)
+single-value-read κ a r r′ s s′ p q = p .1 ∙ sym (q .1)
