@@ -3,9 +3,11 @@ use Prim.Native.Nat.{ℕ}
 use mathlib.Core.Bool.{cond}
 use mathlib.Core.List.{List, [], _∷_}
 use lib.Dec.{eqb}
+use lib.ListN.{replicate}
 use Rattle.wire.specs.Numbers.{bytesOf}
 use Rattle.value.specs.Types.{width}
-use Rattle.value.specs.Values.{wireBytes}
+use Rattle.value.specs.Values.{wireBytes, valueBytes}
+use Rattle.value.specs.declared.ValueBytes.{ValueBytes}
 use Rattle.settings.specs.Values.{getOf}
 use Rattle.settings.specs.declared.Got.{Got}
 use Rattle.memory.specs.Limits.{safetyLow, safetyHigh, timeoutOf, emergencyLow, emergencyHigh, emergencyPeriod, linger}
@@ -55,3 +57,12 @@ valueAs n Got.Unknown = []
 
 unfoldable pub valueRead : Profile → Memory → Resets → ℕ → List ℕ
 valueRead p m r id = valueAs (readOnlyNumber p m r id) (getOf (m .current) id)
+
+-- the room of eight bytes in which they are handed on, and how many of them count: behind a setting's bytes stand zeros, behind a read-only one's the rest of its number
+abbrev pub roomAs : ℕ → Got → ValueBytes
+roomAs n (Got.Value v) = valueBytes v
+roomAs n (Got.ReadOnly t) = record { len = width t; bytes = bytesOf 8 n }
+roomAs n Got.Unknown = record { len = 0; bytes = replicate 8 0 }
+
+unfoldable pub roomRead : Profile → Memory → Resets → ℕ → ValueBytes
+roomRead p m r id = roomAs (readOnlyNumber p m r id) (getOf (m .current) id)

@@ -2,7 +2,7 @@
 ghost use mathlib.Core.Path.{_≡_};
 ghost use lib.ListN.{take};
 ghost use Rattle.state.specs.Parts.{causeNumber};
-ghost use Rattle.answers.specs.Parameters.{readOnlyNumber, valueRead};
+ghost use Rattle.answers.specs.Parameters.{readOnlyNumber, valueRead, roomRead};
 use memory::Memory;
 use settings::Got;
 use state::Cause;
@@ -49,9 +49,10 @@ fn read_only_number(p: Profile, m: Memory, r: Resets, id: u16) -> u64
     }
 }
 
-// The bytes that an id reads, as many as its type has; an id that is no parameter has none.
+// The bytes that an id reads, as many as its type has, at the front of a room of eight; an id that is no parameter has none.
 pub fn value_read(p: Profile, m: Memory, r: Resets, id: u16) -> ValueBytes
-    ensures { λ v. ⌜ take (v .len) (v .bytes) ≡ valueRead p m r id ⌝ }
+    ensures read { λ v. ⌜ take (v .len) (v .bytes) ≡ valueRead p m r id ⌝ }
+    ensures room { λ v. ⌜ v ≡ roomRead p m r id ⌝ }
 {
     match settings::get(m.current, id) {
         Got::Value(v) => value::bytes(v),

@@ -1,7 +1,7 @@
 -- By what the id is.
-use mathlib.Core.Path.{sym, _∙_}
+use mathlib.Core.Path.{refl, sym, _∙_}
 use Rattle.answers.proofs.Values.{cut-at-width, value-taken}
-use Rattle.answers.specs.Parameters.{valueRead}
+use Rattle.answers.specs.Parameters.{valueRead, roomRead}
 use borrow.Author.Needs.{needs}
 use Rattle.answers.proofs.parameters.value_read.Statement.{statement}
 use Rattle.answers.proofs.parameters.value_read.Tie as tie
@@ -31,16 +31,17 @@ enum-told : tie.Need-enum-told
 enum-told c = search needs
 
 returns : tie.Need-returns
-unfolding valueRead
-returns c = rw (sym (c .before .before .before .before .get .ensures) ∙ c .before .before .v .given .1, c .bytes .ensures) (value-taken _)
+unfolding valueRead roomRead
+returns c =
+    rw (sym (c .before .before .before .before .get .ensures) ∙ c .before .before .v .given .1, c .bytes .ensures) (value-taken _, refl)
 
 returns-2 : tie.Need-returns-2
-unfolding valueRead
-returns-2 c = rw (sym (c .before .before .before .before .before .before .get .ensures) ∙ c .before .before .before .before .t .given .1, c .bytes64 .ensures, c .before .read-only-number .ensures, c .before .before .width .ensures) (cut-at-width _ _)
+unfolding valueRead roomRead
+returns-2 c = rw (sym (c .before .before .before .before .before .before .get .ensures) ∙ c .before .before .before .before .t .given .1, c .bytes64 .ensures, c .before .read-only-number .ensures, c .before .before .width .ensures) (cut-at-width _ _, refl)
 
 returns-3 : tie.Need-returns-3
-unfolding valueRead
-returns-3 c = rw (sym (c .before .before .get .ensures) ∙ c .enum-told .given .1)
+unfolding valueRead roomRead
+returns-3 c = rw (sym (c .before .before .get .ensures) ∙ c .enum-told .given .1) (refl, refl)
 
 pub value-read-spec : {M : Type 1} → statement M
 value-read-spec =

@@ -17,7 +17,7 @@ accepted-with-requires c κs = search needs
 
 returns : tie.Need-returns
 unfolding parameterOf
-returns c = rw (c .accepted-with .ensures, c .before .parameter .ensures, c .before .before .before .value-read .ensures, c .before .before .header .ensures)
+returns c = rw (c .accepted-with .ensures, c .before .parameter .ensures, c .before .before .before .value-read .ensures .0, c .before .before .header .ensures)
 
 pub parameter-spec : {M : Type 1} → statement M
 parameter-spec =
