@@ -1,5 +1,6 @@
--- The boundary table holds: antt computes it. Assumes nothing.
-use mathlib.Core.Path.{refl}
+-- The boundary table holds: antt computes each of its rows. Assumes nothing.
+use mathlib.Core.Path.{_≡_, refl}
+use mathlib.Core.List.{List, [], _∷_, map}
 use Rattle.wire.specs.Replies as replies
 use Rattle.wire.specs.Numbers.{bytesOf, number}
 use Rattle.settings.specs.Table as tables
@@ -21,8 +22,40 @@ use Rattle.answers.specs.Answers.{acceptedWith, acceptedOf, refusedOf, notThisB
 use Rattle.commands.specs.Effects.{isNominal, switchedOf, groupOffOf, groupStateOf, runOf}
 use Rattle.commands.specs.Step.{isStartup, turnedDown, decodedOf, transferredOf, commandedOf}
 use Rattle.board.specs.Tick.{broughtBy, risenOf, changedOf, trippedOf, watchedIn, tickWith}
-use Rattle.claims.specs.Boundary.{set, rows, BoundaryTable}
+use Rattle.claims.specs.Boundary.{Row, set, rows, seen, expected, BoundaryTable}
+
+-- row by row
+infixr 20 _and_
+data Each : List Row → Type 0 where
+  none : Each []
+  _and_ : {r : Row} {rs : List Row} → seen r ≡ expected r → Each rs → Each (r ∷ rs)
+
+in-one : (rs : List Row) → Each rs → map seen rs ≡ map expected rs
+in-one [] none = refl
+in-one (r ∷ rs) (p and ps) = rw (p, in-one rs ps)
+
+each-row : Each rows
+unfolding set rows tickWith risenOf broughtBy olderOf dog.risenOf changedOf stepOf enteringOf isDark fromNominalToSafety leavesEmergency timerAfter resetsAfter allOff forcedOn commandEnabledOff whole has setOf listOf trippedOf overcurrentAt commandedOf transferredOf isStartup fewerThanFour decodedOf decodeOf decodeBy headerIs isIn baseCodes commandTable.table commandTable.find listed carried groupIn number bytesOf turnedDown runOf groupOffOf groupStateOf switchedOf isNominal groupOff groupState acceptedOf acceptedWith refusedOf notThisBoardOf shortReply replies.shown replies.written replies.replyOf replies.room replies.laidOut replies.replyCode watchedIn dog.watchedOf timeoutOf numberOf tables.parameterOf tables.rowOf tables.find tables.readWriteRows tables.readOnlyRows tables.lies setIn settingOf withNumber tables.same tables.clampOf tables.atLeast tables.atMost tables.lowOf tables.highOf defaultsOf defaultN tables.column tables.defaultOf freshOf watchdogResetOf loadedFrom emptyStore cleared
+each-row =
+    refl  -- 1
+    and refl  -- 2
+    and refl  -- 3
+    and refl  -- 4
+    and refl  -- 5
+    and refl  -- 5
+    and refl  -- 6
+    and refl  -- 6
+    and refl  -- 7
+    and refl  -- 8
+    and refl  -- 9
+    and refl  -- 10
+    and refl  -- 11
+    and refl  -- 12
+    and refl  -- 13
+    and refl  -- 14
+    and refl  -- 15
+    and refl  -- 15
+    and none
 
 pub boundary-table : BoundaryTable
-unfolding set rows tickWith risenOf broughtBy olderOf dog.risenOf changedOf stepOf enteringOf isDark fromNominalToSafety leavesEmergency timerAfter resetsAfter allOff forcedOn commandEnabledOff whole has setOf listOf trippedOf overcurrentAt commandedOf transferredOf isStartup fewerThanFour decodedOf decodeOf decodeBy headerIs isIn baseCodes commandTable.table commandTable.find listed carried groupIn number bytesOf turnedDown runOf groupOffOf groupStateOf switchedOf isNominal groupOff groupState acceptedOf acceptedWith refusedOf notThisBoardOf shortReply replies.shown replies.written replies.replyOf replies.room replies.laidOut replies.replyCode watchedIn dog.watchedOf timeoutOf numberOf tables.parameterOf tables.rowOf tables.find tables.readWriteRows tables.readOnlyRows tables.lies setIn settingOf withNumber tables.same tables.clampOf tables.atLeast tables.atMost tables.lowOf tables.highOf defaultsOf defaultN tables.column tables.defaultOf freshOf watchdogResetOf loadedFrom emptyStore cleared
-boundary-table = refl
+boundary-table = in-one rows each-row
