@@ -31,8 +31,7 @@ use Rattle.order.specs.Checks.{unavailable, channelCodes, channelWrong, checksu
 use Rattle.order.proofs.Order.{in-order}
 use Rattle.commands.specs.Step.{commandedOf}
 use Rattle.state.specs.Parts.{modeOf}
-use Rattle.answers.specs.Answers.{toldNumber}
-use Rattle.claims.specs.Conditions.{Sent, _at_, code, id, lengths, neededBy, valueShort, keyWrong, isNaN, valueNaN, parameterWrong, refusals, none, table, condition, Given, obeyed}
+use Rattle.claims.specs.Conditions.{Sent, _at_, code, id, lengths, neededBy, valueShort, keyWrong, isNaN, valueNaN, parameterWrong, refusals, none, table, condition, Given, answer}
 
 -- ---- rows numbered one after the other: the number of the first that applies is given, and it alone
 unfoldable numbered : ℕ → List Bool → List Check
@@ -244,15 +243,15 @@ module _ (t : Sent) where
   same-first = rw from-4
 
 -- ---- the command step
-step-tells : (t : Sent) → toldNumber (obeyed t .outcome) ≡ some (first (refusals t))
+step-tells : (t : Sent) → answer t ≡ some (first (refusals t))
 unfolding commandedOf
 step-tells t = in-order (t .rail) (t .limits) (t .board) (t .bytes) ∙ ap some (same-first t)
 
-pub answered : (t : Sent) (n : ℕ) → Given t n → toldNumber (obeyed t .outcome) ≡ some n
+pub answered : (t : Sent) (n : ℕ) → Given t n → answer t ≡ some n
 answered t n g = step-tells t ∙ ap some (only-one t (first (refusals t)) n (given-first t) g)
 
 same-number : (n m : ℕ) → _≡_ {A = Option ℕ} (some n) (some m) → n ≡ m
 same-number n m e = cc
 
-pub only-answered : (t : Sent) (n : ℕ) → toldNumber (obeyed t .outcome) ≡ some n → Given t n
+pub only-answered : (t : Sent) (n : ℕ) → answer t ≡ some n → Given t n
 only-answered t n e = subst (Given t) (same-number (first (refusals t)) n (sym (step-tells t) ∙ e)) (given-first t)

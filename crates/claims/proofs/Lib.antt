@@ -1,2 +1,4 @@
 pub mod Boundary
 pub mod Conditions
+pub mod Results
+pub mod Refused

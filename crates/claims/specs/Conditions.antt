@@ -6,7 +6,7 @@ use Prim.Native.Nat.{ℕ, _+_, _≤_, _<_}
 use mathlib.Core.Path.{_≡_}
 use mathlib.Core.Bool.{Bool, true, false, cond, not, _&&_, _||_}
 use mathlib.Core.List.{List, [], _∷_}
-use mathlib.Core.Option.{some}
+use mathlib.Core.Option.{Option, some}
 use lib.Dec.{eqb, ltb}
 use lib.Ieee.{binary32, binary64}
 use lib.IntN.{ℤ}
@@ -140,27 +140,34 @@ pub record Given (t : Sent) (n : ℕ) : Type 0 where
   pub holds : condition n (table t) ≡ true
   pub first : (k : ℕ) → 1 ≤ k → k < n → condition k (table t) ≡ false
 
--- ---- the claim
--- the command step
+-- ---- what is told
+-- by the command step
 abbrev pub obeyed : Sent → Commanded
 obeyed t = commandedOf (t .rail) (t .limits) true (t .bytes) (t .board)
 
--- what the transfer of a tick meets: the board after steps 1 to 3
+abbrev pub answer : Sent → Option ℕ
+answer t = toldNumber (obeyed t .outcome)
+
+-- by a tick, whose transfer meets the board that steps 1 to 3 leave
 abbrev pub settled : Machine → Sample → Board
 settled m i = trippedOf (i .named) (changedOf (i .rail) (limitsOf (m .board .memory)) (risenOf (i .words) (m .board)))
 
 abbrev pub metIn : Machine → Sample → Sent
 metIn m i = record { rail = i .rail; limits = limitsOf (m .board .memory); board = settled m i; bytes = i .transfer }
 
+abbrev pub tickAnswer : Machine → Sample → Option ℕ
+tickAnswer m i = toldNumber (told m i .outcome)
+
+-- ---- the claim
 pub record ExactlyWhen : Type 0 where
   -- one of the eight answers is given to every transfer, and no second one
   pub one : (t : Sent) → (n : ℕ) × (n ≤ 7) × Given t n
   pub only-one : (t : Sent) (n m : ℕ) → Given t n → Given t m → n ≡ m
-  -- it is what the command step answers, and the step answers nothing else
-  pub answered : (t : Sent) (n : ℕ) → Given t n → toldNumber (obeyed t .outcome) ≡ some n
-  pub only-answered : (t : Sent) (n : ℕ) → toldNumber (obeyed t .outcome) ≡ some n → Given t n
-  -- and so with a tick that happens and has a transfer
-  pub told-so : (m : Machine) (i : Sample) (n : ℕ) → allowedCount (length (i .words)) ≡ true → i .sent ≡ true → Given (metIn m i) n → toldNumber (told m i .outcome) ≡ some n
-  -- a tick that tells one of the eight happened, had a transfer, and its answer is given
-  pub only-told : (m : Machine) (i : Sample) (n : ℕ) → n ≤ 7 → toldNumber (told m i .outcome) ≡ some n
+  -- the command step answers what is given, and nothing else
+  pub answered : (t : Sent) (n : ℕ) → Given t n → answer t ≡ some n
+  pub only-answered : (t : Sent) (n : ℕ) → answer t ≡ some n → Given t n
+  -- so does a tick that happens and has a transfer
+  pub told-so : (m : Machine) (i : Sample) (n : ℕ) → allowedCount (length (i .words)) ≡ true → i .sent ≡ true → Given (metIn m i) n → tickAnswer m i ≡ some n
+  -- and a tick that tells one of the eight is such a tick
+  pub only-told : (m : Machine) (i : Sample) (n : ℕ) → n ≤ 7 → tickAnswer m i ≡ some n
       → (allowedCount (length (i .words)) ≡ true) × (i .sent ≡ true) × Given (metIn m i) n

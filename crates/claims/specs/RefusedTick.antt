@@ -1,0 +1,35 @@
+-- Demand 1, what a tick with a refused command leaves. With answer 1 or 2 the machine and the watchdog's event are those of the tick without a transfer. With 3 they are too, but for the
+-- waiting reply, and wholly where the watchdog resets. With 0 and with 4 to 7 no watchdog event comes in that tick; with 4 to 7 all but the reply and the timer is as after step 3.
+-- All machines and all ticks are meant. Assumes nothing: these are definitions and the statement of the claim.
+use Prim.Native.Nat.{ℕ, _≤_}
+use mathlib.Core.Path.{_≡_}
+use mathlib.Core.Bool.{false}
+use mathlib.Core.List.{[]}
+use mathlib.Core.Option.{some}
+use Rattle.watchdog.specs.declared.Event.the-variants.{NoEvent, WatchdogReset}
+use Rattle.state.specs.Parts.{withReply, withTimer}
+use Rattle.text.specs.declared.framing.Due.the-variants.{Reply}
+use Rattle.unit.specs.declared.Machine.{Machine}
+use Rattle.claims.specs.Runs.{Sample, told}
+use Rattle.claims.specs.Conditions.{settled, metIn, tickAnswer}
+use Rattle.claims.specs.Refused.{refusal}
+
+-- the same tick without its transfer
+abbrev pub quiet : Sample → Sample
+quiet i = record { rail = i .rail; named = i .named; words = i .words; sent = false; transfer = [] }
+
+pub record RefusedTick : Type 0 where
+  -- 1 and 2
+  pub as-without : (m : Machine) (i : Sample) (n : ℕ) → 1 ≤ n → n ≤ 2 → tickAnswer m i ≡ some n
+      → (told m i .machine ≡ told m (quiet i) .machine) × (told m i .event ≡ told m (quiet i) .event)
+  -- 3: the event; and the machine without a reset, with the reply to be said on the text line too, and with one
+  pub three-event : (m : Machine) (i : Sample) → tickAnswer m i ≡ some 3 → told m i .event ≡ told m (quiet i) .event
+  pub three-replies : (m : Machine) (i : Sample) → tickAnswer m i ≡ some 3 → (told m i .event ≡ WatchdogReset → ⊥)
+      → told m i .machine ≡ record { board = withReply (refusal 3 (metIn m i)) (told m (quiet i) .machine .board); due = Reply }
+  pub three-resets : (m : Machine) (i : Sample) → tickAnswer m i ≡ some 3 → told m i .event ≡ WatchdogReset → told m i .machine ≡ told m (quiet i) .machine
+  -- 0, and 4 to 7
+  pub accepted-no-event : (m : Machine) (i : Sample) → tickAnswer m i ≡ some 0 → told m i .event ≡ NoEvent
+  pub refused-no-event : (m : Machine) (i : Sample) (n : ℕ) → 4 ≤ n → n ≤ 7 → tickAnswer m i ≡ some n → told m i .event ≡ NoEvent
+  -- 4 to 7: steps 1 to 3, and then only the reply and the timer
+  pub as-after-step-3 : (m : Machine) (i : Sample) (n : ℕ) → 4 ≤ n → n ≤ 7 → tickAnswer m i ≡ some n
+      → told m i .machine ≡ record { board = withReply (refusal n (metIn m i)) (withTimer 0 (settled m i)); due = Reply }
