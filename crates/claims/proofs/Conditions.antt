@@ -58,17 +58,17 @@ further m n rows f =
     }
 
 data Found (m : ℕ) (rows : List Check) : ℕ → Type 0 where
-  one : {n : ℕ} → First m rows n → Found m rows n
+  found : {n : ℕ} → First m rows n → Found m rows n
   nothing : none rows ≡ true → Found m rows 0
 
 find : (m : ℕ) (bs : List Bool) → Found m (numbered m bs) (first (numbered m bs))
 unfolding numbered first none
 find m [] = nothing refl
-find m (true ∷ bs) = one (here m (numbered (suc m) bs))
+find m (true ∷ bs) = found (here m (numbered (suc m) bs))
 find m (false ∷ bs) = go (first (numbered (suc m) bs)) (find (suc m) bs)
   where
     go : (n : ℕ) → Found (suc m) (numbered (suc m) bs) n → Found m (m when false ∷ numbered (suc m) bs) n
-    go n (one f) = one (further m n (numbered (suc m) bs) f)
+    go n (found f) = found (further m n (numbered (suc m) bs) f)
     go n (nothing e) = nothing e
 
 -- ---- of the table: the number of the first refusal that applies is given
@@ -78,7 +78,7 @@ behind-0 k b rows h = rw (ne-eqb k 0 (λ e. omega arith))
 
 given-found : (t : Sent) (n : ℕ) → Found 1 (refusals t) n → Given t n
 unfolding condition
-given-found t n (one f) =
+given-found t n (found f) =
     record {
       holds = behind-0 n (none (refusals t)) (refusals t) (f .from) ∙ f .holds;
       first = λ k l h. behind-0 k (none (refusals t)) (refusals t) l ∙ f .before k l h;
@@ -92,6 +92,17 @@ conditions (n when b ∷ rows) = b ∷ conditions rows
 given-first : (t : Sent) → Given t (first (refusals t))
 unfolding numbered
 given-first t = given-found t (first (refusals t)) (find 1 (conditions (refusals t)))
+
+-- it is at most 7
+first-most : (m : ℕ) (bs : List Bool) → 1 ≤ m → first (numbered m bs) < m + length bs
+unfolding first numbered
+first-most m [] h = omega arith
+first-most m (true ∷ bs) h = omega arith
+first-most m (false ∷ bs) h = omega (arith, first-most (suc m) bs (omega arith))
+
+pub one : (t : Sent) → (n : ℕ) × (n ≤ 7) × Given t n
+unfolding numbered
+one t = (first (refusals t), omega (arith, first-most 1 (conditions (refusals t)) (omega arith)), given-first t)
 
 -- and no other
 and-both : (a b : Bool) → not a && b ≡ true → (a ≡ false) × (b ≡ true)

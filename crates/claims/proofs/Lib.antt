@@ -2,3 +2,4 @@ pub mod Boundary
 pub mod Conditions
 pub mod Results
 pub mod Refused
+pub mod RefusedTicks

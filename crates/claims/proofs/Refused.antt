@@ -45,12 +45,12 @@ stat-agrees NotAvailable h = refl
 stat-agrees Wrong h = refl
 
 -- what is told of a command that was accepted
-told-0 : (c : Commanded) (n : ℕ) → c .outcome ≡ Outcome.Answered Accepted → toldNumber (c .outcome) ≡ some n → n ≡ 0
+pub told-0 : (c : Commanded) (n : ℕ) → c .outcome ≡ Outcome.Answered Accepted → toldNumber (c .outcome) ≡ some n → n ≡ 0
 told-0 c n e q = same-number n 0 (sym q ∙ ap toldNumber e)
 
 module _ (t : Sent) where
   -- the result of the step, whose transfer is there
-  step : Result (code t) (t .board) (obeyed t)
+  pub step : Result (code t) (t .board) (obeyed t)
   unfolding commandedOf
   step = result (t .rail) (t .limits) (t .bytes) (t .board)
 
@@ -71,7 +71,7 @@ module _ (t : Sent) where
   reply-alone-in c (refused a k) q = absurd (omega (arith, k, same-number (numberOf a) 3 q))
 
   -- the reply of an answer from 4 on
-  refusal-of : (a : Answer) (n : ℕ) → 4 ≤ numberOf a → numberOf a ≡ n → replyOf (shortReply (headerOf (t .board .profile)) (code t) (statOf a)) ≡ refusal n t
+  pub refusal-of : (a : Answer) (n : ℕ) → 4 ≤ numberOf a → numberOf a ≡ n → replyOf (shortReply (headerOf (t .board .profile)) (code t) (statOf a)) ≡ refusal n t
   refusal-of a n k e = ap (λ (stat : ℕ). replyOf (shortReply (headerOf (t .board .profile)) (code t) stat)) (stat-agrees a k ∙ ap (statIn stats) e)
 
   reply-and-timer-in : (c : Commanded) → Result (code t) (t .board) c → (n : ℕ) → 4 ≤ n → toldNumber (c .outcome) ≡ some n
