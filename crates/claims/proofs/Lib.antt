@@ -3,3 +3,4 @@ pub mod Conditions
 pub mod Results
 pub mod Refused
 pub mod RefusedTicks
+pub mod Untouched
