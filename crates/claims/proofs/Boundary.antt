@@ -16,7 +16,7 @@ use Rattle.command.specs.Decode.{fewerThanFour, headerIs, groupIn, carried, lis
 use Rattle.memory.specs.Memory.{emptyStore, loadedFrom, setIn}
 use Rattle.memory.specs.Limits.{timeoutOf}
 use Rattle.replies.specs.Layouts.{shortReply}
-use Rattle.state.specs.Start.{freshOf, neverReset, watchdogResetOf}
+use Rattle.state.specs.Start.{freshOf, watchdogResetOf}
 use Rattle.state.specs.Change.{isDark, fromNominalToSafety, leavesEmergency, enteringOf, timerAfter, resetsAfter}
 use Rattle.answers.specs.Answers.{acceptedWith, acceptedOf, refusedOf, notThisBoardOf}
 use Rattle.commands.specs.Effects.{isNominal, switchedOf, groupOffOf, groupStateOf, runOf}

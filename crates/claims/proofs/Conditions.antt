@@ -1,14 +1,13 @@
 -- One of document 01's eight answers is given to every transfer, and it is the one told. Assumes nothing.
 use Prim.Native.Nat.{ℕ, suc, _+_, _≤_, _<_}
 use mathlib.Core.Path.{_≡_, refl, sym, ap, subst, _∙_}
-use mathlib.Core.Bool.{Bool, true, false, cond, not, _&&_, _||_, false≢true}
+use mathlib.Core.Bool.{Bool, true, false, not, _&&_, _||_, false≢true}
 use mathlib.Core.List.{List, [], _∷_}
-use mathlib.Core.Logic.{_⊎_, ⊎-elim}
+use mathlib.Core.Logic.{⊎-elim}
 use mathlib.Core.Option.{Option, some}
 use native.Mathlib.Omega.{arith}
-use lib.Dec.{T, eqb, ltb}
+use lib.Dec.{eqb, ltb}
 use lib.Ieee.{binary32, binary64}
-use lib.IntN.{ℤ}
 use lib.ListN.{length, drop, length-drop}
 use borrow.Author.Tests.{eqb-true, eqb-false, eq-eqb, ne-eqb, ltb-true, ltb-false, lt-ltb, le-ltb}
 use Rattle.laws.proofs.Lists.{lt-or-le}
@@ -26,12 +25,12 @@ use Rattle.command.specs.Table as commandTable
 use Rattle.command.specs.Decode.{fewerThanFour, valuePart}
 use Rattle.command.specs.Checks as checks
 use Rattle.command.specs.Checks.{Check, _when_, first}
-use Rattle.command.proofs.Laws.{cases, Each, none as end, _and_, by-code}
+use Rattle.command.proofs.Laws.{cases, Each, none, _and_, by-code}
 use Rattle.order.specs.Checks.{unavailable, channelCodes, channelWrong, checksumWrong, checksBy, checksOf}
 use Rattle.order.proofs.Order.{in-order}
 use Rattle.commands.specs.Step.{commandedOf}
 use Rattle.state.specs.Parts.{modeOf}
-use Rattle.claims.specs.Conditions.{Sent, _at_, code, id, lengths, neededBy, valueShort, keyWrong, isNaN, valueNaN, parameterWrong, refusals, none, table, condition, Given, answer}
+use Rattle.claims.specs.Conditions.{Sent, _at_, code, id, lengths, neededBy, valueShort, keyWrong, isNaN, valueNaN, parameterWrong, refusals, noneOf, table, condition, Given, answer}
 
 -- ---- rows numbered one after the other: the number of the first that applies is given, and it alone
 unfoldable numbered : ℕ → List Bool → List Check
@@ -59,10 +58,10 @@ further m n rows f =
 
 data Found (m : ℕ) (rows : List Check) : ℕ → Type 0 where
   found : {n : ℕ} → First m rows n → Found m rows n
-  nothing : none rows ≡ true → Found m rows 0
+  nothing : noneOf rows ≡ true → Found m rows 0
 
 find : (m : ℕ) (bs : List Bool) → Found m (numbered m bs) (first (numbered m bs))
-unfolding numbered first none
+unfolding numbered first noneOf
 find m [] = nothing refl
 find m (true ∷ bs) = found (here m (numbered (suc m) bs))
 find m (false ∷ bs) = go (first (numbered (suc m) bs)) (find (suc m) bs)
@@ -80,8 +79,8 @@ given-found : (t : Sent) (n : ℕ) → Found 1 (refusals t) n → Given t n
 unfolding condition
 given-found t n (found f) =
     record {
-      holds = behind-0 n (none (refusals t)) (refusals t) (f .from) ∙ f .holds;
-      first = λ k l h. behind-0 k (none (refusals t)) (refusals t) l ∙ f .before k l h;
+      holds = behind-0 n (noneOf (refusals t)) (refusals t) (f .from) ∙ f .holds;
+      first = λ k l h. behind-0 k (noneOf (refusals t)) (refusals t) l ∙ f .before k l h;
     }
 given-found t n (nothing e) = record { holds = e; first = λ k l h. absurd (omega arith) }
 
@@ -109,11 +108,11 @@ and-both : (a b : Bool) → not a && b ≡ true → (a ≡ false) × (b ≡ true
 and-both true b e = absurd (false≢true e)
 and-both false b e = (refl, e)
 
-none-holds : (k : ℕ) (rows : List Check) → none rows ≡ true → condition k rows ≡ false
-unfolding none condition
+none-holds : (k : ℕ) (rows : List Check) → noneOf rows ≡ true → condition k rows ≡ false
+unfolding noneOf condition
 none-holds k [] e = refl
 none-holds k (m when b ∷ rows) e =
-    let w = and-both b (none rows) e in
+    let w = and-both b (noneOf rows) e in
     cases (eqb k m) (λ q. rw q (w .0)) (λ q. rw q (none-holds k rows (w .1)))
 
 -- where 0 is given no refusal is, and of two refusals the lower is the only one
@@ -123,8 +122,8 @@ not-both t n m g h l = cases (eqb n 0) (λ z. zero (eqb-true n 0 z)) (λ z. fals
   where
     zero : n ≡ 0 → ⊥
     zero z =
-        let e : none (refusals t) ≡ true = rw z at (g .holds) in
-        false≢true (sym (behind-0 m (none (refusals t)) (refusals t) (omega arith) ∙ none-holds m (refusals t) e) ∙ h .holds)
+        let e : noneOf (refusals t) ≡ true = rw z at (g .holds) in
+        false≢true (sym (behind-0 m (noneOf (refusals t)) (refusals t) (omega arith) ∙ none-holds m (refusals t) e) ∙ h .holds)
 
 pub only-one : (t : Sent) (n m : ℕ) → Given t n → Given t m → n ≡ m
 only-one t n m g h =
@@ -150,7 +149,7 @@ module _ (t : Sent) where
   unfolding baseCodes commandTable.find commandTable.table neededBy
   lengths-agree k h =
       at-code (λ c. checks.shorter (commandTable.find commandTable.table c) s ≡ ltb (length s) (neededBy lengths c)) k baseCodes h
-      (refl and refl and refl and refl and refl and refl and refl and refl and refl and refl and refl and refl and refl and refl and refl and refl and refl and refl and refl and end)
+      (refl and refl and refl and refl and refl and refl and refl and refl and refl and refl and refl and refl and refl and refl and refl and refl and refl and refl and refl and none)
 
   or-false : (b : Bool) → b ≡ b || false
   or-false true = refl
@@ -160,7 +159,7 @@ module _ (t : Sent) where
   unfolding isIn baseCodes commandTable.find commandTable.table keyWrong
   keys-agree k h =
       at-code (λ c. checks.keyWrong (commandTable.find commandTable.table c) s ≡ keyWrong c (t at 4)) k baseCodes h
-      (or-false (not (eqb (t at 4) 0xA6)) and refl and refl and refl and refl and refl and refl and refl and refl and refl and refl and refl and refl and refl and refl and refl and refl and refl and refl and end)
+      (or-false (not (eqb (t at 4) 0xA6)) and refl and refl and refl and refl and refl and refl and refl and refl and refl and refl and refl and refl and refl and refl and refl and refl and refl and refl and none)
 
   -- checks with one number are one, where none of another number stands between
   joined : (short un key param nan channel sum : Bool)

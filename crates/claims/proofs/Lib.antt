@@ -1,5 +1,6 @@
 pub mod Boundary
 pub mod Conditions
+pub mod Answered
 pub mod Results
 pub mod Refused
 pub mod RefusedTicks

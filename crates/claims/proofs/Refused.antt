@@ -1,26 +1,24 @@
 -- What a refused command leaves, by the result of the command step. Assumes nothing.
 use Prim.Native.Nat.{ℕ, _*_, _/_, _%_, _+_, _≤_, _<_}
-use mathlib.Core.Path.{_≡_, refl, sym, ap, subst, _∙_}
+use mathlib.Core.Path.{_≡_, refl, sym, ap, _∙_}
 use mathlib.Core.Bool.{true, false}
 use mathlib.Core.List.{List, [], _∷_}
 use mathlib.Core.Option.{Option, some}
 use native.Mathlib.Omega.{arith}
 use lib.Dec.{eqb}
 use Rattle.wire.specs.Numbers.{bytesOf}
-use Rattle.wire.specs.Replies.{room, shown, written, replyOf, laidOut, replyCode}
+use Rattle.wire.specs.Replies.{shown, replyOf, laidOut, replyCode}
 use Rattle.replies.specs.Layouts.{shortReply}
-use Rattle.state.specs.Parts.{withReply, withTimer}
-use Rattle.state.specs.declared.parts.Board.{Board}
 use Rattle.answers.specs.Answers.{numberOf, toldNumber, statOf, headerOf, refusedOf, notThisBoardOf}
 use Rattle.answers.specs.declared.Answer.{Answer}
 use Rattle.answers.specs.declared.Answer.the-variants.{Accepted, FewerThanFourBytes, InStartup, NotThisBoard, CodeNotListed, TooShort, NotAvailable, Wrong}
 use Rattle.answers.specs.declared.Outcome.{Outcome}
 use Rattle.answers.specs.declared.Commanded.{Commanded}
 use Rattle.commands.specs.Step.{commandedOf}
-use Rattle.claims.specs.Conditions.{Sent, code, obeyed, answer}
+use Rattle.claims.specs.Conditions.{Sent, code, obeyed}
 use Rattle.replies.proofs.Positions.{shown-short}
 use Rattle.command.proofs.Laws.{cases}
-use Rattle.claims.specs.Refused.{Stat, _has-stat_, stats, statIn, refusal, RefusedCommand}
+use Rattle.claims.specs.Refused.{Stat, _has-stat_, stats, statIn, refusal, answeredAlone, answeredAndFed, RefusedCommand}
 use Rattle.claims.proofs.Results.{Result, accepted, short, starting, elsewhere, refused, result}
 
 pub same-number : (n m : ℕ) → _≡_ {A = Option ℕ} (some n) (some m) → n ≡ m
@@ -62,7 +60,7 @@ module _ (t : Sent) where
   nothing-in c elsewhere n l h q = absurd (omega (arith, same-number 3 n q))
   nothing-in c (refused a k) n l h q = absurd (omega (arith, k, same-number (numberOf a) n q))
 
-  reply-alone-in : (c : Commanded) → Result (code t) (t .board) c → toldNumber (c .outcome) ≡ some 3 → (c .board ≡ withReply (refusal 3 t) (t .board)) × (c .replied ≡ true)
+  reply-alone-in : (c : Commanded) → Result (code t) (t .board) c → toldNumber (c .outcome) ≡ some 3 → (c .board ≡ answeredAlone t) × (c .replied ≡ true)
   unfolding notThisBoardOf refusedOf statIn
   reply-alone-in c (accepted e z) q = absurd (omega (arith, told-0 c 3 e q))
   reply-alone-in c short q = absurd (omega (arith, same-number 1 3 q))
@@ -75,7 +73,7 @@ module _ (t : Sent) where
   refusal-of a n k e = ap (λ (stat : ℕ). replyOf (shortReply (headerOf (t .board .profile)) (code t) stat)) (stat-agrees a k ∙ ap (statIn stats) e)
 
   reply-and-timer-in : (c : Commanded) → Result (code t) (t .board) c → (n : ℕ) → 4 ≤ n → toldNumber (c .outcome) ≡ some n
-      → (c .board ≡ withReply (refusal n t) (withTimer 0 (t .board))) × (c .replied ≡ true)
+      → (c .board ≡ answeredAndFed n t) × (c .replied ≡ true)
   unfolding notThisBoardOf refusedOf
   reply-and-timer-in c (accepted e z) n l q = absurd (omega (arith, told-0 c n e q))
   reply-and-timer-in c short n l q = absurd (omega (arith, same-number 1 n q))
@@ -102,8 +100,8 @@ five-bytes t n h k =
 pub refused-command : RefusedCommand
 refused-command =
     record {
-      nothing = λ t n l h q. nothing-in t (obeyed t) (step t) n l h q;
+      nothing = λ t n l h q. nothing-in t (obeyed t) (step t) n (omega arith) (omega arith) q;
       reply-alone = λ t q. reply-alone-in t (obeyed t) (step t) q;
-      reply-and-timer = λ t n l h q. reply-and-timer-in t (obeyed t) (step t) n l q;
+      reply-and-timer = λ t n l h q. reply-and-timer-in t (obeyed t) (step t) n (omega arith) q;
       five-bytes = five-bytes;
     }

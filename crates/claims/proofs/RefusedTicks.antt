@@ -1,107 +1,35 @@
--- What a tick tells and leaves, by the result of its command step. Assumes nothing.
+-- What a tick leaves, by the result of its command step. Assumes nothing.
 use Prim.Native.Nat.{ℕ, _≤_, _<_}
 use mathlib.Core.Path.{_≡_, refl, sym, ap, _∙_}
-use mathlib.Core.Bool.{Bool, true, false}
-use mathlib.Core.List.{List}
+use mathlib.Core.Bool.{Bool}
 use mathlib.Core.Logic.{⊎-elim}
-use mathlib.Core.Option.{Option, none, some}
+use mathlib.Core.Option.{some}
 use native.Mathlib.Omega.{arith}
-use lib.ListN.{length}
 use Rattle.laws.proofs.Lists.{lt-or-le}
 use Rattle.watchdog.specs.Watchdog as dog
 use Rattle.watchdog.specs.declared.Event.{Event}
 use Rattle.watchdog.specs.declared.Event.the-variants.{NoEvent, PeripheralReset, WatchdogReset}
 use Rattle.watchdog.proofs.Laws.{disabled, early}
-use Rattle.command.proofs.Laws.{cases}
 use Rattle.memory.specs.Limits.{timeoutOf, limitsOf}
-use Rattle.state.specs.Parts.{withReply, withTimer}
-use Rattle.state.specs.Start.{freshOf, watchdogResetOf}
-use Rattle.state.specs.declared.parts.Board.{Board}
+use Rattle.state.specs.Parts.{withReply}
+use Rattle.state.specs.Start.{watchdogResetOf}
 use Rattle.answers.specs.Answers.{numberOf, toldNumber, silentOf, refusedOf, notThisBoardOf}
 use Rattle.answers.specs.declared.Answer.{Answer}
 use Rattle.answers.specs.declared.Answer.the-variants.{FewerThanFourBytes, InStartup}
 use Rattle.answers.specs.declared.Outcome.the-variants.{NoTransfer, Answered}
 use Rattle.answers.specs.declared.Commanded.{Commanded}
 use Rattle.commands.specs.Step.{commandedOf}
-use Rattle.board.specs.Tick.{watchedAs, watchedIn, tickWith, allowedCount, tickOf}
-use Rattle.board.proofs.Laws.{number-9}
+use Rattle.board.specs.Tick.{watchedAs}
 use Rattle.text.specs.declared.framing.Due.{Due}
-use Rattle.text.specs.declared.framing.Due.the-variants.{Reply}
-use Rattle.unit.specs.Machine.{toldBy, toldOf}
+use Rattle.unit.specs.Machine.{toldBy}
 use Rattle.unit.specs.declared.Machine.{Machine}
-use Rattle.unit.specs.declared.Told.{Told}
 use Rattle.claims.specs.Runs.{Sample, told}
-use Rattle.claims.specs.Conditions.{Sent, code, Given, obeyed, answer, settled, metIn, tickAnswer, ExactlyWhen}
-use Rattle.claims.specs.Refused.{statIn, refusal}
-use Rattle.claims.specs.RefusedTicks.{quiet, RefusedTick}
-use Rattle.claims.proofs.Conditions as conditions
+use Rattle.claims.specs.Conditions.{Sent, code, obeyed, answer, settled, metIn, tickAnswer}
+use Rattle.claims.specs.Refused.{statIn, refusal, answeredAndFed}
+use Rattle.claims.specs.RefusedTicks.{quiet, replying, RefusedTick}
 use Rattle.claims.proofs.Results.{Result, accepted, short, starting, elsewhere, refused}
 use Rattle.claims.proofs.Refused.{same-number, told-0, refusal-of, step}
-
--- ---- a tick that happens is its command step and then the watchdog
-abbrev happening : Commanded → Event
-happening c = dog.watchedOf (c .board .timer) (dog.secondsInTicks (timeoutOf (c .board .memory)))
-
-abbrev watched : Due → Commanded → Told
-watched due c = toldBy (watchedAs (happening c) c) due
-
-abbrev given : Machine → Sample → Commanded
-given m i = commandedOf (i .rail) (limitsOf (m .board .memory)) (i .sent) (i .transfer) (settled m i)
-
-module _ (m : Machine) (i : Sample) where
-  told-is : allowedCount (length (i .words)) ≡ true → told m i ≡ watched (m .due) (given m i)
-  unfolding toldOf tickOf tickWith watchedIn
-  told-is allowed = rw allowed
-
-  -- the watchdog leaves what is told of the transfer
-  outcome-kept : (due : Due) (c : Commanded) → watched due c .outcome ≡ c .outcome
-  outcome-kept due c = go (happening c)
-    where
-      go : (e : Event) → watchedAs e c .outcome ≡ c .outcome
-      go NoEvent = refl
-      go PeripheralReset = refl
-      go WatchdogReset = refl
-
-  answer-is : allowedCount (length (i .words)) ≡ true → i .sent ≡ true → tickAnswer m i ≡ answer (metIn m i)
-  answer-is allowed sent = ap (λ (r : Told). toldNumber (r .outcome)) (told-is allowed) ∙ ap toldNumber (outcome-kept (m .due) (given m i)) ∙ rw sent
-
-  told-9 : allowedCount (length (i .words)) ≡ false → tickAnswer m i ≡ some 9
-  unfolding toldOf
-  told-9 wrong = number-9 (i .rail) (i .named) (i .words) (i .sent) (i .transfer) (m .board) wrong
-
-  -- a tick that tells a number up to 7 happened and had a transfer
-  happens : (n : ℕ) → n ≤ 7 → tickAnswer m i ≡ some n → allowedCount (length (i .words)) ≡ true
-  happens n h q = cases (allowedCount (length (i .words))) (λ e. e) (λ e. absurd (omega (arith, same-number 9 n (sym (told-9 e) ∙ q))))
-
-  sends : (n : ℕ) → allowedCount (length (i .words)) ≡ true → tickAnswer m i ≡ some n → i .sent ≡ true
-  unfolding commandedOf
-  sends n allowed q =
-      cases (i .sent) (λ e. e)
-      (λ e.
-      let z : none ≡ some n = sym (ap (λ (r : Told). toldNumber (r .outcome)) (told-is allowed) ∙ ap toldNumber (outcome-kept (m .due) (given m i)) ∙ rw e) ∙ q in
-      let y : _≡_ {A = ℕ} 0 1 = cc in
-      absurd (omega arith))
-
--- ---- the answers of ticks
-pub told-so : (m : Machine) (i : Sample) (n : ℕ) → allowedCount (length (i .words)) ≡ true → i .sent ≡ true → Given (metIn m i) n → tickAnswer m i ≡ some n
-told-so m i n allowed sent g = answer-is m i allowed sent ∙ conditions.answered (metIn m i) n g
-
-pub only-told : (m : Machine) (i : Sample) (n : ℕ) → n ≤ 7 → tickAnswer m i ≡ some n → (allowedCount (length (i .words)) ≡ true) × (i .sent ≡ true) × Given (metIn m i) n
-only-told m i n h q =
-    let allowed = happens m i n h q in
-    let sent = sends m i n allowed q in
-    (allowed, sent, conditions.only-answered (metIn m i) n (sym (answer-is m i allowed sent) ∙ q))
-
-pub exactly-when : ExactlyWhen
-exactly-when =
-    record {
-      one = conditions.one;
-      only-one = conditions.only-one;
-      answered = conditions.answered;
-      only-answered = conditions.only-answered;
-      told-so = told-so;
-      only-told = only-told;
-    }
+use Rattle.claims.proofs.Answered.{happening, watched, told-is, answer-is, happens, sends}
 
 -- ---- what a tick leaves
 -- a timer of 0 brings no event, whatever the timeout
@@ -161,12 +89,12 @@ module _ (t : Sent) (due : Due) where
       go PeripheralReset = refl
       go WatchdogReset = refl
 
-  other-replies : (watched due (toAnother t) .event ≡ WatchdogReset → ⊥) → watched due (toAnother t) .machine ≡ record { board = withReply (refusal 3 t) (watched due (withoutAny t) .machine .board); due = Reply }
+  other-replies : (watched due (toAnother t) .event ≡ WatchdogReset → ⊥) → watched due (toAnother t) .machine ≡ replying (withReply (refusal 3 t) (watched due (withoutAny t) .machine .board))
   unfolding notThisBoardOf statIn
   other-replies n = go (happening (withoutAny t)) n
     where
       go : (e : Event) → (toldBy (watchedAs e (toAnother t)) due .event ≡ WatchdogReset → ⊥)
-          → toldBy (watchedAs e (toAnother t)) due .machine ≡ record { board = withReply (refusal 3 t) (toldBy (watchedAs e (withoutAny t)) due .machine .board); due = Reply }
+          → toldBy (watchedAs e (toAnother t)) due .machine ≡ replying (withReply (refusal 3 t) (toldBy (watchedAs e (withoutAny t)) due .machine .board))
       go NoEvent n = refl
       go PeripheralReset n = refl
       go WatchdogReset n = absurd (n refl)
@@ -193,16 +121,13 @@ module _ (t : Sent) (due : Due) where
   accepted-quiet c (refused a k) q = absurd (omega (arith, k, same-number (numberOf a) 0 q))
 
   -- 4 to 7
-  abbrev answeredOnly : ℕ → Machine
-  answeredOnly n = record { board = withReply (refusal n t) (withTimer 0 (t .board)); due = Reply }
-
   refused-quiet : (a : Answer) (n : ℕ) → 4 ≤ numberOf a → numberOf a ≡ n
-      → (watched due (refusedOf a (code t) (t .board)) .event ≡ NoEvent) × (watched due (refusedOf a (code t) (t .board)) .machine ≡ answeredOnly n)
+      → (watched due (refusedOf a (code t) (t .board)) .event ≡ NoEvent) × (watched due (refusedOf a (code t) (t .board)) .machine ≡ replying (answeredAndFed n t))
   unfolding refusedOf
   refused-quiet a n k e = rw (quiet-at-0 (dog.secondsInTicks (timeoutOf (t .board .memory)))) (refl, rw (refusal-of t a n k e))
 
   refused-in : (c : Commanded) → Result (code t) (t .board) c → (n : ℕ) → 4 ≤ n → toldNumber (c .outcome) ≡ some n
-      → (watched due c .event ≡ NoEvent) × (watched due c .machine ≡ answeredOnly n)
+      → (watched due c .event ≡ NoEvent) × (watched due c .machine ≡ replying (answeredAndFed n t))
   unfolding notThisBoardOf refusedOf
   refused-in c (accepted e z) n l q = absurd (omega (arith, told-0 c n e q))
   refused-in c short n l q = absurd (omega (arith, same-number 1 n q))
@@ -234,14 +159,14 @@ refused-tick =
     record {
       as-without = λ m i n l h q.
           rw (with-transfer m i n (omega arith) q, without-transfer m i n (omega arith) q)
-          (alike-in (metIn m i) (m .due) (obeyed (metIn m i)) (step (metIn m i)) n l h (step-answer m i n (omega arith) q));
+          (alike-in (metIn m i) (m .due) (obeyed (metIn m i)) (step (metIn m i)) n (omega arith) (omega arith) (step-answer m i n (omega arith) q));
       three-event = λ m i q. rw (three m i q, without-transfer m i 3 (omega arith) q) (other-event (metIn m i) (m .due));
       three-replies = λ m i q r. rw (three m i q, without-transfer m i 3 (omega arith) q) (other-replies (metIn m i) (m .due) (rw (three m i q) at r));
       three-resets = λ m i q r. rw (three m i q, without-transfer m i 3 (omega arith) q) (other-resets (metIn m i) (m .due) (rw (three m i q) at r));
       accepted-no-event = λ m i q.
           rw (with-transfer m i 0 (omega arith) q) (accepted-quiet (metIn m i) (m .due) (obeyed (metIn m i)) (step (metIn m i)) (step-answer m i 0 (omega arith) q));
       refused-no-event = λ m i n l h q.
-          rw (with-transfer m i n h q) (refused-in (metIn m i) (m .due) (obeyed (metIn m i)) (step (metIn m i)) n l (step-answer m i n h q) .0);
+          rw (with-transfer m i n (omega arith) q) (refused-in (metIn m i) (m .due) (obeyed (metIn m i)) (step (metIn m i)) n (omega arith) (step-answer m i n (omega arith) q) .0);
       as-after-step-3 = λ m i n l h q.
-          rw (with-transfer m i n h q) (refused-in (metIn m i) (m .due) (obeyed (metIn m i)) (step (metIn m i)) n l (step-answer m i n h q) .1);
+          rw (with-transfer m i n (omega arith) q) (refused-in (metIn m i) (m .due) (obeyed (metIn m i)) (step (metIn m i)) n (omega arith) (step-answer m i n (omega arith) q) .1);
     }

@@ -1,34 +1,22 @@
 -- Refusals 8 to 14, from the laws of the crates that give them. Assumes nothing.
-use Prim.Native.Nat.{ℕ, _<_}
-use mathlib.Core.Path.{_≡_, refl, sym, _∙_, ap}
-use mathlib.Core.Bool.{false}
-use mathlib.Core.List.{List}
+use mathlib.Core.Path.{_≡_, refl, sym}
 use lib.ListN.{length}
-use Rattle.hex.specs.Hex.{laid}
-use Rattle.memory.specs.Memory.{emptyStore}
-use Rattle.memory.specs.declared.Store.{Store}
-use Rattle.state.specs.Start.{keepsTheRules, startOf}
-use Rattle.state.specs.declared.parts.Profile.{Profile}
+use Rattle.state.specs.Start.{startOf}
 use Rattle.state.specs.declared.starting.StartAnswer.{StartAnswer}
 use Rattle.state.specs.declared.starting.StartAnswer.the-variants.{Accepted, ProfileBreaksARule}
 use Rattle.state.specs.declared.starting.Started.{Started}
 use Rattle.state.proofs.Laws as state
-use Rattle.board.specs.Tick.{allowedCount, tickOf}
+use Rattle.board.specs.Tick.{tickOf}
 use Rattle.board.proofs.Laws as board
 use Rattle.board.proofs.Happened as happened
 use Rattle.text.proofs.Enclosing.{laid-short}
 use Rattle.text.proofs.FramingLaws.{number-13-framing}
 use Rattle.text.proofs.Given as text
 use Rattle.text.proofs.Leaves.{refused-leaves}
-use Rattle.text.specs.Answers.{lineNumber}
-use Rattle.text.specs.Lines.{lineHeld}
 use Rattle.unit.specs.Machine.{begunBy, begunOf, toldOf, heardOf, dueOf}
 use Rattle.unit.specs.declared.Machine.{Machine}
 use Rattle.unit.proofs.Laws as unit
-use Rattle.grammar.specs.Grammar.{fails, reads}
-use Rattle.sheet.specs.Form.{Sheet, sheetIn}
-use Rattle.script.specs.Printing.{page, typed}
-use Rattle.session.specs.Sessions.{profileIn, opens, openedOf, startedOf}
+use Rattle.session.specs.Sessions.{openedOf, startedOf}
 use Rattle.session.proofs.Steps as session
 use Rattle.claims.specs.Untouched.{Eight, Nine, Reads, Frames, Sheets, OtherRefusals}
 

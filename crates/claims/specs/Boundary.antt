@@ -3,7 +3,7 @@
 -- rail, it stands twice, with a rail at safety low and with one below. `a ∷ b ∷ []` is a list of two. Assumes nothing: these are definitions and the statement of the claim.
 use Prim.Native.Nat.{ℕ, _+_, _-_, _/_, _^_}
 use mathlib.Core.Path.{_≡_}
-use mathlib.Core.Bool.{Bool, true, false, cond}
+use mathlib.Core.Bool.{true, false, cond}
 use mathlib.Core.List.{List, [], _∷_, _++_, map}
 use mathlib.Core.Option.{Option, none, some}
 use lib.IntN.{ℤ, pos, negℤ}
@@ -16,7 +16,6 @@ use Rattle.modes.specs.declared.Mode.{Mode}
 use Rattle.modes.specs.declared.Mode.the-variants.{Startup, Nominal, Safety, Emergency}
 use Rattle.modes.specs.declared.ModeAge.{ModeAge}
 use Rattle.modes.specs.declared.Limits.{Limits}
-use Rattle.channels.specs.declared.Channels.{Channels}
 use Rattle.watchdog.specs.declared.Event.{Event}
 use Rattle.watchdog.specs.declared.Event.the-variants.{PeripheralReset, WatchdogReset}
 use Rattle.memory.specs.Memory.{emptyStore, setIn}
@@ -101,7 +100,6 @@ infix 10 the-answer_and-reply_
 infix 10 the-mode_
 infix 10 the-channels-on_
 infix 10 the-event_and-mode_
-
 -- ---- the tick of a row
 -- linger, emergency period and safety low are the rows'; safety high is 7000, which row 7 and row 8 have their rail above
 abbrev pub limits : Limits

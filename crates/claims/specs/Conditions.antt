@@ -6,7 +6,7 @@ use Prim.Native.Nat.{ℕ, _+_, _≤_, _<_}
 use mathlib.Core.Path.{_≡_}
 use mathlib.Core.Bool.{Bool, true, false, cond, not, _&&_, _||_}
 use mathlib.Core.List.{List, [], _∷_}
-use mathlib.Core.Option.{Option, some}
+use mathlib.Core.Option.{Option, none, some}
 use lib.Dec.{eqb, ltb}
 use lib.Ieee.{binary32, binary64}
 use lib.IntN.{ℤ}
@@ -123,12 +123,12 @@ refusals t =
     ∷ 7 when (keyWrong (code t) (t at 4) || channelWrong (code t) (t .board .profile) (t at 4) || parameterWrong t || checksumWrong (code t) (number 2 (drop 5 (t .bytes))) (t .board .memory))
     ∷ []
 
-unfoldable pub none : List Check → Bool
-none [] = true
-none (k when b ∷ rows) = not b && none rows
+unfoldable pub noneOf : List Check → Bool
+noneOf [] = true
+noneOf (k when b ∷ rows) = not b && noneOf rows
 
 abbrev pub table : Sent → List Check
-table t = 0 when none (refusals t) ∷ refusals t
+table t = 0 when noneOf (refusals t) ∷ refusals t
 
 -- the condition of a number's row
 unfoldable pub condition : ℕ → List Check → Bool
@@ -168,6 +168,8 @@ pub record ExactlyWhen : Type 0 where
   pub only-answered : (t : Sent) (n : ℕ) → answer t ≡ some n → Given t n
   -- so does a tick that happens and has a transfer
   pub told-so : (m : Machine) (i : Sample) (n : ℕ) → allowedCount (length (i .words)) ≡ true → i .sent ≡ true → Given (metIn m i) n → tickAnswer m i ≡ some n
-  -- and a tick that tells one of the eight is such a tick
+  -- a tick that happens and has none tells no number
+  pub unasked : (m : Machine) (i : Sample) → allowedCount (length (i .words)) ≡ true → i .sent ≡ false → tickAnswer m i ≡ none
+  -- and a tick that tells one of the eight happened, had a transfer, and its answer is given
   pub only-told : (m : Machine) (i : Sample) (n : ℕ) → n ≤ 7 → tickAnswer m i ≡ some n
       → (allowedCount (length (i .words)) ≡ true) × (i .sent ≡ true) × Given (metIn m i) n

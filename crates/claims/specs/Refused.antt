@@ -11,6 +11,7 @@ use Rattle.wire.specs.declared.reply.Reply.{Reply}
 use Rattle.wire.specs.Replies.{shown, replyOf, replyCode}
 use Rattle.replies.specs.Layouts.{shortReply}
 use Rattle.state.specs.Parts.{withReply, withTimer}
+use Rattle.state.specs.declared.parts.Board.{Board}
 use Rattle.answers.specs.Answers.{headerOf}
 use Rattle.claims.specs.Conditions.{Sent, code, obeyed, answer}
 
@@ -31,15 +32,22 @@ statIn ((k has-stat stat) ∷ more) n = cond (eqb n k) stat (statIn more n)
 abbrev pub refusal : ℕ → Sent → Reply
 refusal n t = replyOf (shortReply (headerOf (t .board .profile)) (code t) (statIn stats n))
 
+-- ---- what it leaves
+-- 3: the reply waits, and the timer goes on
+abbrev pub answeredAlone : Sent → Board
+answeredAlone t = withReply (refusal 3 t) (t .board)
+
+-- 4 to 7: the reply waits, and the timer is 0
+abbrev pub answeredAndFed : ℕ → Sent → Board
+answeredAndFed n t = withReply (refusal n t) (withTimer 0 (t .board))
+
 -- ---- the claim
 pub record RefusedCommand : Type 0 where
-  -- 1 and 2: nothing changes and no reply is made
+  -- 1 and 2 change nothing and make no reply
   pub nothing : (t : Sent) (n : ℕ) → 1 ≤ n → n ≤ 2 → answer t ≡ some n → (obeyed t .board ≡ t .board) × (obeyed t .replied ≡ false)
-  -- 3: the reply waits, and the timer goes on
-  pub reply-alone : (t : Sent) → answer t ≡ some 3 → (obeyed t .board ≡ withReply (refusal 3 t) (t .board)) × (obeyed t .replied ≡ true)
-  -- 4 to 7: the reply waits, and the timer is 0
-  pub reply-and-timer : (t : Sent) (n : ℕ) → 4 ≤ n → n ≤ 7 → answer t ≡ some n
-      → (obeyed t .board ≡ withReply (refusal n t) (withTimer 0 (t .board))) × (obeyed t .replied ≡ true)
+  -- 3, and 4 to 7
+  pub reply-alone : (t : Sent) → answer t ≡ some 3 → (obeyed t .board ≡ answeredAlone t) × (obeyed t .replied ≡ true)
+  pub reply-and-timer : (t : Sent) (n : ℕ) → 4 ≤ n → n ≤ 7 → answer t ≡ some n → (obeyed t .board ≡ answeredAndFed n t) × (obeyed t .replied ≡ true)
   -- the reply shows five bytes; code and BID are bytes by their types, and would be cut to one if they were not
   pub five-bytes : (t : Sent) (n : ℕ) → code t < 256 → t .board .profile .bid < 256
       → shown (refusal n t) ≡ 0x11 ∷ 0x07 ∷ replyCode (code t) ∷ t .board .profile .bid ∷ statIn stats n ∷ []
