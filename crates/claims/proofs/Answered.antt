@@ -22,7 +22,7 @@ use Rattle.unit.specs.declared.Told.{Told}
 use Rattle.claims.specs.Runs.{Sample, told}
 use Rattle.claims.specs.Conditions.{Given, answer, settled, metIn, tickAnswer, ExactlyWhen}
 use Rattle.claims.proofs.Conditions as conditions
-use Rattle.claims.proofs.Refused.{same-number}
+use Rattle.claims.proofs.Conditions.{same-number}
 
 -- ---- a tick that happens is its command step and then the watchdog
 abbrev pub happening : Commanded → Event

@@ -25,28 +25,30 @@ use Rattle.command.specs.Table as commandTable
 use Rattle.command.specs.Decode.{fewerThanFour, valuePart}
 use Rattle.command.specs.Checks as checks
 use Rattle.command.specs.Checks.{Check, _when_, first}
-use Rattle.command.proofs.Laws.{cases, Each, none, _and_, by-code}
+use Rattle.command.proofs.Laws.{cases, none, _and_}
 use Rattle.order.specs.Checks.{unavailable, channelCodes, channelWrong, checksumWrong, checksBy, checksOf}
-use Rattle.order.proofs.Order.{in-order}
+use Rattle.order.proofs.Order.{at-code, in-order}
 use Rattle.commands.specs.Step.{commandedOf}
-use Rattle.state.specs.Parts.{modeOf}
-use Rattle.claims.specs.Conditions.{Sent, _at_, code, id, lengths, neededBy, valueShort, keyWrong, isNaN, valueNaN, parameterWrong, refusals, noneOf, table, condition, Given, answer}
+use Rattle.claims.specs.Conditions as claim
+use Rattle.claims.specs.Conditions.{Sent, _at_, code, id, lengths, neededBy, valueShort, keyWrong, isNaN, valueNaN, refusals, noneOf, table, condition, Given, answer}
 
 -- ---- rows numbered one after the other: the number of the first that applies is given, and it alone
 unfoldable numbered : ℕ → List Bool → List Check
 numbered m [] = []
 numbered m (b ∷ bs) = m when b ∷ numbered (suc m) bs
 
--- the first that applies has a number of the list, its condition holds, and that of none before it; 0 is where none applies
+-- n is the first that applies: a number of the list whose condition holds, and that of none before it
 record First (m : ℕ) (rows : List Check) (n : ℕ) : Type 0 where
   from : m ≤ n
   holds : condition n rows ≡ true
   before : (k : ℕ) → m ≤ k → k < n → condition k rows ≡ false
 
+-- a row that applies is the first
 here : (m : ℕ) (rows : List Check) → First m (m when true ∷ rows) m
 unfolding condition
 here m rows = record { from = omega arith; holds = rw (eq-eqb m m refl); before = λ k l h. absurd (omega arith) }
 
+-- behind a row that does not apply, the first of the others is
 further : (m n : ℕ) (rows : List Check) → First (suc m) rows n → First m (m when false ∷ rows) n
 unfolding condition
 further m n rows f =
@@ -56,6 +58,7 @@ further m n rows f =
       before = λ k l h. cases (eqb k m) (λ e. rw e) (λ e. rw e (f .before k (omega (arith, eqb-false k m e)) h));
     }
 
+-- the first that applies, or none, as `first` finds it
 data Found (m : ℕ) (rows : List Check) : ℕ → Type 0 where
   found : {n : ℕ} → First m rows n → Found m rows n
   nothing : noneOf rows ≡ true → Found m rows 0
@@ -71,6 +74,7 @@ find m (false ∷ bs) = go (first (numbered (suc m) bs)) (find (suc m) bs)
     go n (nothing e) = nothing e
 
 -- ---- of the table: the number of the first refusal that applies is given
+-- the row of 0 says nothing of a refusal
 behind-0 : (k : ℕ) (b : Bool) (rows : List Check) → 1 ≤ k → condition k (0 when b ∷ rows) ≡ condition k rows
 unfolding condition
 behind-0 k b rows h = rw (ne-eqb k 0 (λ e. omega arith))
@@ -80,9 +84,9 @@ unfolding condition
 given-found t n (found f) =
     record {
       holds = behind-0 n (noneOf (refusals t)) (refusals t) (f .from) ∙ f .holds;
-      first = λ k l h. behind-0 k (noneOf (refusals t)) (refusals t) l ∙ f .before k l h;
+      none-before = λ k l h. behind-0 k (noneOf (refusals t)) (refusals t) l ∙ f .before k l h;
     }
-given-found t n (nothing e) = record { holds = e; first = λ k l h. absurd (omega arith) }
+given-found t n (nothing e) = record { holds = e; none-before = λ k l h. absurd (omega arith) }
 
 abbrev conditions : List Check → List Bool
 conditions [] = []
@@ -103,7 +107,7 @@ pub one : (t : Sent) → (n : ℕ) × (n ≤ 7) × Given t n
 unfolding numbered
 one t = (first (refusals t), omega (arith, first-most 1 (conditions (refusals t)) (omega arith)), given-first t)
 
--- and no other
+-- and no other is
 and-both : (a b : Bool) → not a && b ≡ true → (a ≡ false) × (b ≡ true)
 and-both true b e = absurd (false≢true e)
 and-both false b e = (refl, e)
@@ -118,7 +122,7 @@ none-holds k (m when b ∷ rows) e =
 -- where 0 is given no refusal is, and of two refusals the lower is the only one
 not-both : (t : Sent) (n m : ℕ) → Given t n → Given t m → n < m → ⊥
 unfolding condition
-not-both t n m g h l = cases (eqb n 0) (λ z. zero (eqb-true n 0 z)) (λ z. false≢true (sym (h .first n (omega (arith, eqb-false n 0 z)) l) ∙ g .holds))
+not-both t n m g h l = cases (eqb n 0) (λ z. zero (eqb-true n 0 z)) (λ z. false≢true (sym (h .none-before n (omega (arith, eqb-false n 0 z)) l) ∙ g .holds))
   where
     zero : n ≡ 0 → ⊥
     zero z =
@@ -137,23 +141,50 @@ only-one t n m g h =
     (lt-or-le n m)
 
 -- ---- the list of checks that the step is known to answer by, and the table's rows, have the same first number
+or-false : (b : Bool) → b ≡ b || false
+or-false true = refl
+or-false false = refl
+
+-- checks with one number are one, where none of another number stands between
+joined : (short un key param nan channel sum : Bool)
+    → first (5 when short ∷ 6 when un ∷ 7 when key ∷ 7 when param ∷ 7 when nan ∷ 7 when channel ∷ 7 when sum ∷ [])
+    ≡ first (5 when (short || false) ∷ 6 when un ∷ 7 when (key || channel || (param || nan) || sum) ∷ [])
+unfolding first
+joined true un key param nan channel sum = refl
+joined false true key param nan channel sum = refl
+joined false false true param nan channel sum = refl
+joined false false false true nan true sum = refl
+joined false false false true nan false sum = refl
+joined false false false false true true sum = refl
+joined false false false false true false sum = refl
+joined false false false false false true sum = refl
+joined false false false false false false true = refl
+joined false false false false false false false = refl
+
+-- a value that is long enough is read as a NaN exactly where its bits are a NaN's, and else as a number
+read-whole : (type : ValueType) (x : ℕ) → (checks.isTooShort (valueOf type x) ≡ false) × (checks.isNaN (valueOf type x) ≡ isNaN type x)
+unfolding valueOf
+read-whole Int8 x = (refl, refl)
+read-whole Uint8 x = (refl, refl)
+read-whole Int16 x = (refl, refl)
+read-whole Uint16 x = (refl, refl)
+read-whole Int32 x = (refl, refl)
+read-whole Uint32 x = (refl, refl)
+read-whole Float x = cases (nanPattern binary32 x) (λ e. rw e (refl, refl)) (λ e. rw e (refl, refl))
+read-whole Int64 x = (refl, refl)
+read-whole Uint64 x = (refl, refl)
+read-whole Double x = cases (nanPattern binary64 x) (λ e. rw e (refl, refl)) (λ e. rw e (refl, refl))
+
 module _ (t : Sent) where
   abbrev s : List ℕ
   s = t .bytes
 
-  at-code : (P : ℕ → Type 0) (k : ℕ) (cs : List ℕ) → isIn k cs ≡ true → Each P cs → P k
-  at-code P k cs h each = by-code P k cs each (λ e. absurd (false≢true (sym e ∙ h)))
-
-  -- the lengths and the keys are the commands' own
+  -- the lengths and the keys are those of the commands
   lengths-agree : (k : ℕ) → isIn k baseCodes ≡ true → checks.shorter (commandTable.find commandTable.table k) s ≡ ltb (length s) (neededBy lengths k)
   unfolding baseCodes commandTable.find commandTable.table neededBy
   lengths-agree k h =
       at-code (λ c. checks.shorter (commandTable.find commandTable.table c) s ≡ ltb (length s) (neededBy lengths c)) k baseCodes h
       (refl and refl and refl and refl and refl and refl and refl and refl and refl and refl and refl and refl and refl and refl and refl and refl and refl and refl and refl and none)
-
-  or-false : (b : Bool) → b ≡ b || false
-  or-false true = refl
-  or-false false = refl
 
   keys-agree : (k : ℕ) → isIn k baseCodes ≡ true → checks.keyWrong (commandTable.find commandTable.table k) s ≡ keyWrong k (t at 4)
   unfolding isIn baseCodes commandTable.find commandTable.table keyWrong
@@ -161,37 +192,7 @@ module _ (t : Sent) where
       at-code (λ c. checks.keyWrong (commandTable.find commandTable.table c) s ≡ keyWrong c (t at 4)) k baseCodes h
       (or-false (not (eqb (t at 4) 0xA6)) and refl and refl and refl and refl and refl and refl and refl and refl and refl and refl and refl and refl and refl and refl and refl and refl and refl and refl and none)
 
-  -- checks with one number are one, where none of another number stands between
-  joined : (short un key param nan channel sum : Bool)
-      → first (5 when short ∷ 6 when un ∷ 7 when key ∷ 7 when param ∷ 7 when nan ∷ 7 when channel ∷ 7 when sum ∷ [])
-      ≡ first (5 when (short || false) ∷ 6 when un ∷ 7 when (key || channel || (param || nan) || sum) ∷ [])
-  unfolding first
-  joined true un key param nan channel sum = refl
-  joined false true key param nan channel sum = refl
-  joined false false true param nan channel sum = refl
-  joined false false false true nan true sum = refl
-  joined false false false true nan false sum = refl
-  joined false false false false true true sum = refl
-  joined false false false false true false sum = refl
-  joined false false false false false true sum = refl
-  joined false false false false false false true = refl
-  joined false false false false false false false = refl
-
-  -- a value that is long enough is read as a NaN exactly where its bits are a NaN's, and else as a number
-  read-whole : (type : ValueType) (x : ℕ) → (checks.isTooShort (valueOf type x) ≡ false) × (checks.isNaN (valueOf type x) ≡ isNaN type x)
-  unfolding valueOf
-  read-whole Int8 x = (refl, refl)
-  read-whole Uint8 x = (refl, refl)
-  read-whole Int16 x = (refl, refl)
-  read-whole Uint16 x = (refl, refl)
-  read-whole Int32 x = (refl, refl)
-  read-whole Uint32 x = (refl, refl)
-  read-whole Float x = cases (nanPattern binary32 x) (λ e. rw e (refl, refl)) (λ e. rw e (refl, refl))
-  read-whole Int64 x = (refl, refl)
-  read-whole Uint64 x = (refl, refl)
-  read-whole Double x = cases (nanPattern binary64 x) (λ e. rw e (refl, refl)) (λ e. rw e (refl, refl))
-
-  -- 0x84, where the two bytes of its id are there and the id can be set
+  -- 0x84 behind its id, where that can be set: the value's bytes count from the sixth on
   long-enough : (type : ValueType) → 6 ≤ length s → ltb (length (drop 6 s)) (width type) ≡ ltb (length s) (6 + width type)
   long-enough type h =
       cases (ltb (length s) (6 + width type))
@@ -206,7 +207,7 @@ module _ (t : Sent) where
       let w = read-whole type (number (width type) (drop 6 s)) in
       cases (ltb (length s) (6 + width type)) (λ e. rw (long-enough type h, e)) (λ e. rw (long-enough type h, e, w .0, w .1))
 
-  -- 0x84 with its id
+  -- 0x84 as a whole: its four checks are one 5 and one 7
   parameter-checked : (p : Parameter)
       → first (5 when ltb (length s) 6 ∷ 7 when checks.idWrong 0x84 p ∷ 5 when checks.valueOf p (valuePart s) checks.isTooShort ∷ 7 when checks.valueOf p (valuePart s) checks.isNaN ∷ [])
       ≡ first (5 when (ltb (length s) 6 || valueShort p t) ∷ 7 when ((checks.idWrong 0x84 p || valueNaN p t) || false) ∷ [])
@@ -218,34 +219,25 @@ module _ (t : Sent) where
   parameter-checked (ReadOnly type) = cases (ltb (length s) 6) (λ e. rw e) (λ e. rw e)
   parameter-checked Unknown = cases (ltb (length s) 6) (λ e. rw e) (λ e. rw e)
 
-  abbrev listedChecks : List Check
-  listedChecks = checksBy (t .rail) (t .limits) (t .board) (code t) s
+  -- from the row of 4 on, by the code
+  abbrev Agree : Type 0
+  Agree = first (checksBy (t .rail) (t .limits) (t .board) (code t) s) ≡ first (drop 3 (refusals t))
 
-  -- the table's rows from 4 on
-  abbrev listedRows : List Check
-  listedRows =
-      4 when not (isIn (code t) baseCodes)
-      ∷ 5 when (ltb (length s) (neededBy lengths (code t)) || eqb (code t) 0x84 && valueShort (parameterOf (id t)) t)
-      ∷ 6 when unavailable (code t) (modeOf (t .board)) (t .rail) (t .limits)
-      ∷ 7 when (keyWrong (code t) (t at 4) || channelWrong (code t) (t .board .profile) (t at 4) || parameterWrong t || checksumWrong (code t) (number 2 (drop 5 s)) (t .board .memory))
-      ∷ []
-
-  set-listed : code t ≡ 0x84 → first listedChecks ≡ first listedRows
+  set-agrees : code t ≡ 0x84 → Agree
   unfolding first checksBy baseCodes isIn commandTable.find commandTable.table neededBy unavailable channelCodes keyWrong channelWrong checksumWrong
-  set-listed e = rw e (parameter-checked (parameterOf (id t)))
+  set-agrees e = rw e (parameter-checked (parameterOf (id t)))
 
-  other-listed : isIn (code t) baseCodes ≡ true → eqb (code t) 0x84 ≡ false → first listedChecks ≡ first listedRows
+  other-agrees : isIn (code t) baseCodes ≡ true → eqb (code t) 0x84 ≡ false → Agree
   unfolding first checksBy
-  other-listed h e =
+  other-agrees h e =
       rw (h, e, lengths-agree (code t) h, keys-agree (code t) h)
-      (joined (ltb (length s) (neededBy lengths (code t))) (unavailable (code t) (modeOf (t .board)) (t .rail) (t .limits)) (keyWrong (code t) (t at 4))
-      (checks.idWrong (code t) (parameterOf (id t))) false (channelWrong (code t) (t .board .profile) (t at 4)) (checksumWrong (code t) (number 2 (drop 5 s)) (t .board .memory)))
+      (joined (ltb (length s) (neededBy lengths (code t))) (claim.notAvailable t) (keyWrong (code t) (t at 4)) (checks.idWrong (code t) (parameterOf (id t))) false (claim.channelWrong t) (claim.checksumWrong t))
 
-  from-4 : first listedChecks ≡ first listedRows
+  from-4 : Agree
   unfolding first checksBy
   from-4 =
       cases (isIn (code t) baseCodes)
-      (λ h. cases (eqb (code t) 0x84) (λ e. set-listed (eqb-true (code t) 0x84 e)) (λ e. other-listed h e))
+      (λ h. cases (eqb (code t) 0x84) (λ e. set-agrees (eqb-true (code t) 0x84 e)) (λ e. other-agrees h e))
       (λ h. rw h)
 
   same-first : first (checksOf (t .rail) (t .limits) (t .board) s) ≡ first (refusals t)
@@ -260,7 +252,7 @@ step-tells t = in-order (t .rail) (t .limits) (t .board) (t .bytes) ∙ ap some 
 pub answered : (t : Sent) (n : ℕ) → Given t n → answer t ≡ some n
 answered t n g = step-tells t ∙ ap some (only-one t (first (refusals t)) n (given-first t) g)
 
-same-number : (n m : ℕ) → _≡_ {A = Option ℕ} (some n) (some m) → n ≡ m
+pub same-number : (n m : ℕ) → _≡_ {A = Option ℕ} (some n) (some m) → n ≡ m
 same-number n m e = cc
 
 pub only-answered : (t : Sent) (n : ℕ) → answer t ≡ some n → Given t n

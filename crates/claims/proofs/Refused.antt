@@ -3,7 +3,7 @@ use Prim.Native.Nat.{ℕ, _*_, _/_, _%_, _+_, _≤_, _<_}
 use mathlib.Core.Path.{_≡_, refl, sym, ap, _∙_}
 use mathlib.Core.Bool.{true, false}
 use mathlib.Core.List.{List, [], _∷_}
-use mathlib.Core.Option.{Option, some}
+use mathlib.Core.Option.{some}
 use native.Mathlib.Omega.{arith}
 use lib.Dec.{eqb}
 use Rattle.wire.specs.Numbers.{bytesOf}
@@ -19,10 +19,8 @@ use Rattle.claims.specs.Conditions.{Sent, code, obeyed}
 use Rattle.replies.proofs.Positions.{shown-short}
 use Rattle.command.proofs.Laws.{cases}
 use Rattle.claims.specs.Refused.{Stat, _has-stat_, stats, statIn, refusal, answeredAlone, answeredAndFed, RefusedCommand}
+use Rattle.claims.proofs.Conditions.{same-number}
 use Rattle.claims.proofs.Results.{Result, accepted, short, starting, elsewhere, refused, result}
-
-pub same-number : (n m : ℕ) → _≡_ {A = Option ℕ} (some n) (some m) → n ≡ m
-same-number n m e = cc
 
 -- every STAT of some rows is a byte
 infixr 20 _and_

@@ -28,7 +28,8 @@ use Rattle.claims.specs.Conditions.{Sent, code, obeyed, answer, settled,
 use Rattle.claims.specs.Refused.{statIn, refusal, answeredAndFed}
 use Rattle.claims.specs.RefusedTicks.{quiet, replying, RefusedTick}
 use Rattle.claims.proofs.Results.{Result, accepted, short, starting, elsewhere, refused}
-use Rattle.claims.proofs.Refused.{same-number, told-0, refusal-of, step}
+use Rattle.claims.proofs.Conditions.{same-number}
+use Rattle.claims.proofs.Refused.{told-0, refusal-of, step}
 use Rattle.claims.proofs.Answered.{happening, watched, told-is, answer-is, happens, sends}
 
 -- ---- what a tick leaves

@@ -1,6 +1,6 @@
--- Demand 1, when a command is refused: document 01's command table, row by row, as conditions on the bytes of a transfer, the mode, the profile, the rail and the settings. No decoder
--- stands between: a place in the bytes is written as a number. To every transfer exactly one of the eight answers 0 to 7 is given, and it is the one that the machine tells. All boards
--- and all bytes are meant, not only those that can be reached. `7 when b` is a row with the number 7 whose condition is b; `a ∷ b ∷ []` is a list of two; || is or, && is and.
+-- Demand 1, when a command is refused: to every transfer exactly one of the eight answers of document 01's command table is given, and it is the one that the machine tells. The table
+-- stands below, row by row, as conditions on the bytes of the transfer, the mode, the profile, the rail and the settings; no decoder stands between, and a place in the bytes is a number.
+-- All boards and all bytes are meant, not only boards that can be reached. `7 when b` is a row with the number 7 and the condition b; `a ∷ b ∷ []` is a list of two; || is or, && is and.
 -- Assumes nothing: these are definitions and the statement of the claim.
 use Prim.Native.Nat.{ℕ, _+_, _≤_, _<_}
 use mathlib.Core.Path.{_≡_}
@@ -29,7 +29,8 @@ use Rattle.state.specs.declared.parts.Board.{Board}
 use Rattle.answers.specs.Answers.{toldNumber}
 use Rattle.answers.specs.declared.Commanded.{Commanded}
 use Rattle.commands.specs.Step.{commandedOf}
-use Rattle.order.specs.Checks.{_is_, unavailable, channelWrong, checksumWrong}
+use Rattle.order.specs.Checks as order
+use Rattle.order.specs.Checks.{_is_}
 use Rattle.board.specs.Tick.{risenOf, changedOf, trippedOf, allowedCount}
 use Rattle.unit.specs.declared.Machine.{Machine}
 use Rattle.claims.specs.Runs.{Sample, told}
@@ -41,10 +42,20 @@ pub record Sent : Type 0 where
   pub board : Board
   pub bytes : List ℕ
 
--- the byte at a place, counted from 0; the header is STID, IVID, CC, BID
+-- the byte at a place, counted from 0; STID, IVID, CC and BID stand at 0 to 3, and a key or a channel at 4
 infix 80 _at_
 abbrev pub _at_ : Sent → ℕ → ℕ
 t at place = getD (t .bytes) place 0
+
+abbrev pub code : Sent → ℕ
+code t = t at 2
+
+-- a parameter's id stands at 4 and its value from 6 on; a checksum stands at 5; the lower byte comes first
+abbrev pub id : Sent → ℕ
+id t = number 2 (drop 4 (t .bytes))
+
+abbrev pub checksum : Sent → ℕ
+checksum t = number 2 (drop 5 (t .bytes))
 
 infix 60 _differs-from_
 abbrev pub _differs-from_ : ℕ → ℕ → Bool
@@ -54,8 +65,9 @@ infix 60 _has-fewer-than_bytes
 abbrev pub _has-fewer-than_bytes : Sent → ℕ → Bool
 t has-fewer-than n bytes = ltb (length (t .bytes)) n
 
-abbrev pub code : Sent → ℕ
-code t = t at 2
+-- ---- 3
+abbrev pub notTheBoards : Sent → Bool
+notTheBoards t = (t at 0) differs-from 0x11 || (t at 1) differs-from 7 || (t at 3) differs-from (t .board .profile .bid)
 
 -- ---- 5: the bytes that each command needs, its header included, as the ICD's command pages give them
 infix 70 _needs_
@@ -75,20 +87,29 @@ unfoldable pub neededBy : List Need → ℕ → ℕ
 neededBy [] c = 0
 neededBy ((k needs n) ∷ more) c = cond (eqb c k) n (neededBy more c)
 
--- and 0x84 needs the bytes of its value behind those of its id, where the id is one that can be set
-abbrev pub id : Sent → ℕ
-id t = number 2 (drop 4 (t .bytes))
-
+-- 0x84 needs its value too, as many bytes as the id's type has. A value is looked for only where the id can be set: so one 5 and one 7 are document 01's four checks
+-- of 0x84, which are 5 for the id, 7 for the id, 5 for the value and 7 for the value.
 abbrev pub valueShort : Parameter → Sent → Bool
 valueShort (ReadWrite type) t = t has-fewer-than 6 + width type bytes
 valueShort (ReadOnly type) t = false
 valueShort Unknown t = false
 
--- ---- 7: a key, a channel, a parameter or a checksum
+abbrev pub shorterThanNeeded : Sent → Bool
+shorterThanNeeded t = t has-fewer-than neededBy lengths (code t) bytes || eqb (code t) 0x84 && valueShort (parameterOf (id t)) t
+
+-- ---- 6: the channel commands outside nominal, 0x32 in emergency, 0x30 in emergency, or in safety with the rail below safety low: `order` has it as a table
+abbrev pub notAvailable : Sent → Bool
+notAvailable t = order.unavailable (code t) (modeOf (t .board)) (t .rail) (t .limits)
+
+-- ---- 7
 unfoldable pub keyWrong : ℕ → ℕ → Bool
 keyWrong c key = eqb c 0xAA && key differs-from 0xA6 || isIn c (0x90 ∷ 0x92 ∷ 0x94 ∷ []) && key differs-from 0xA7
 
--- a value that is a NaN, which only the two float types have
+-- 0x16, 0x18: an index above 31 or not fitted, and for 0x18 a force-enabled one
+abbrev pub channelWrong : Sent → Bool
+channelWrong t = order.channelWrong (code t) (t .board .profile) (t at 4)
+
+-- a NaN, which only the two float types have
 abbrev pub isNaN : ValueType → ℕ → Bool
 isNaN Int8 x = false
 isNaN Uint8 x = false
@@ -106,21 +127,24 @@ valueNaN (ReadWrite type) t = isNaN type (number (width type) (drop 6 (t .bytes)
 valueNaN (ReadOnly type) t = false
 valueNaN Unknown t = false
 
--- the id is unknown (0x82), or unknown or read-only (0x84, 0x86), or the value is a NaN (0x84)
+-- an id that is unknown (0x82), unknown or read-only (0x84, 0x86), or a value that is a NaN (0x84)
 abbrev pub parameterWrong : Sent → Bool
 parameterWrong t = idWrong (code t) (parameterOf (id t)) || eqb (code t) 0x84 && valueNaN (parameterOf (id t)) t
 
+-- 0x94: neither 0 nor that of the settings in force
+abbrev pub checksumWrong : Sent → Bool
+checksumWrong t = order.checksumWrong (code t) (checksum t) (t .board .memory)
+
 -- ---- the table
--- 6 and, of 7, the channel and the checksum are as `order` has them: they read the code, the mode, the rail, safety low, the profile, and the settings in force
 abbrev pub refusals : Sent → List Check
 refusals t =
     1 when (t has-fewer-than 4 bytes)
     ∷ 2 when (modeOf (t .board) is Startup)
-    ∷ 3 when ((t at 0) differs-from 0x11 || (t at 1) differs-from 7 || (t at 3) differs-from (t .board .profile .bid))
+    ∷ 3 when notTheBoards t
     ∷ 4 when not (isIn (code t) baseCodes)
-    ∷ 5 when (t has-fewer-than neededBy lengths (code t) bytes || eqb (code t) 0x84 && valueShort (parameterOf (id t)) t)
-    ∷ 6 when unavailable (code t) (modeOf (t .board)) (t .rail) (t .limits)
-    ∷ 7 when (keyWrong (code t) (t at 4) || channelWrong (code t) (t .board .profile) (t at 4) || parameterWrong t || checksumWrong (code t) (number 2 (drop 5 (t .bytes))) (t .board .memory))
+    ∷ 5 when shorterThanNeeded t
+    ∷ 6 when notAvailable t
+    ∷ 7 when (keyWrong (code t) (t at 4) || channelWrong t || parameterWrong t || checksumWrong t)
     ∷ []
 
 unfoldable pub noneOf : List Check → Bool
@@ -130,7 +154,7 @@ noneOf (k when b ∷ rows) = not b && noneOf rows
 abbrev pub table : Sent → List Check
 table t = 0 when noneOf (refusals t) ∷ refusals t
 
--- the condition of a number's row
+-- the condition in the row of a number
 unfoldable pub condition : ℕ → List Check → Bool
 condition n [] = false
 condition n (k when b ∷ rows) = cond (eqb n k) b (condition n rows)
@@ -138,7 +162,7 @@ condition n (k when b ∷ rows) = cond (eqb n k) b (condition n rows)
 -- an answer is given: the condition of its row holds, and that of no refusal before it
 pub record Given (t : Sent) (n : ℕ) : Type 0 where
   pub holds : condition n (table t) ≡ true
-  pub first : (k : ℕ) → 1 ≤ k → k < n → condition k (table t) ≡ false
+  pub none-before : (k : ℕ) → 1 ≤ k → k < n → condition k (table t) ≡ false
 
 -- ---- what is told
 -- by the command step
