@@ -6,9 +6,9 @@ use Rattle.wire.specs.Numbers.{bytesOf, number}
 use Rattle.settings.specs.Table as tables
 use Rattle.settings.specs.Values.{withNumber, setOf as settingOf, numberOf, defaultsOf, defaultN}
 use Rattle.modes.specs.Table.{stepOf, olderOf}
-use Rattle.channels.specs.Sets.{has, setOf, listOf}
+use Rattle.channels.specs.Sets.{has, setOf}
 use Rattle.channels.specs.Chan.{whole}
-use Rattle.channels.specs.Operations.{overcurrentAt, groupOff, groupState, commandEnabledOff, allOff, forcedOn, cleared}
+use Rattle.channels.specs.Operations.{overcurrentAt, groupOff, groupState}
 use Rattle.watchdog.specs.Watchdog as dog
 use Rattle.command.specs.Table as commandTable
 use Rattle.command.specs.Codes.{isIn, baseCodes}
@@ -17,11 +17,11 @@ use Rattle.memory.specs.Memory.{emptyStore, loadedFrom, setIn}
 use Rattle.memory.specs.Limits.{timeoutOf}
 use Rattle.replies.specs.Layouts.{shortReply}
 use Rattle.state.specs.Start.{freshOf, watchdogResetOf}
-use Rattle.state.specs.Change.{isDark, fromNominalToSafety, leavesEmergency, enteringOf, timerAfter, resetsAfter}
-use Rattle.answers.specs.Answers.{acceptedWith, acceptedOf, refusedOf, notThisBoardOf}
+use Rattle.state.specs.Change.{isDark, fromNominalToSafety, enteringOf, timerAfter}
+use Rattle.answers.specs.Answers.{acceptedWith, acceptedOf, refusedOf}
 use Rattle.commands.specs.Effects.{isNominal, switchedOf, groupOffOf, groupStateOf, runOf}
 use Rattle.commands.specs.Step.{isStartup, turnedDown, decodedOf, transferredOf, commandedOf}
-use Rattle.board.specs.Tick.{broughtBy, risenOf, changedOf, trippedOf, watchedIn, tickWith}
+use Rattle.board.specs.Tick.{risenOf, changedOf, trippedOf, watchedIn, tickWith}
 use Rattle.claims.specs.Boundary.{Row, set, rows, seen, expected, BoundaryTable}
 
 -- row by row
@@ -35,7 +35,7 @@ in-one [] none = refl
 in-one (r ∷ rs) (p and ps) = rw (p, in-one rs ps)
 
 each-row : Each rows
-unfolding set rows tickWith risenOf broughtBy olderOf dog.risenOf changedOf stepOf enteringOf isDark fromNominalToSafety leavesEmergency timerAfter resetsAfter allOff forcedOn commandEnabledOff whole has setOf listOf trippedOf overcurrentAt commandedOf transferredOf isStartup fewerThanFour decodedOf decodeOf decodeBy headerIs isIn baseCodes commandTable.table commandTable.find listed carried groupIn number bytesOf turnedDown runOf groupOffOf groupStateOf switchedOf isNominal groupOff groupState acceptedOf acceptedWith refusedOf notThisBoardOf shortReply replies.shown replies.written replies.replyOf replies.room replies.laidOut replies.replyCode watchedIn dog.watchedOf timeoutOf numberOf tables.parameterOf tables.rowOf tables.find tables.readWriteRows tables.readOnlyRows tables.lies setIn settingOf withNumber tables.same tables.clampOf tables.atLeast tables.atMost tables.lowOf tables.highOf defaultsOf defaultN tables.column tables.defaultOf freshOf watchdogResetOf loadedFrom emptyStore cleared
+unfolding set rows tickWith risenOf olderOf dog.risenOf changedOf stepOf enteringOf isDark fromNominalToSafety timerAfter whole has setOf trippedOf overcurrentAt commandedOf transferredOf isStartup fewerThanFour decodedOf decodeOf decodeBy headerIs isIn baseCodes commandTable.table commandTable.find listed carried groupIn number bytesOf turnedDown runOf groupOffOf groupStateOf switchedOf isNominal groupOff groupState acceptedOf acceptedWith refusedOf shortReply replies.shown replies.written replies.replyOf replies.room replies.laidOut replies.replyCode watchedIn dog.watchedOf timeoutOf numberOf tables.parameterOf tables.rowOf tables.find tables.readWriteRows tables.lies setIn settingOf withNumber tables.same tables.clampOf tables.atLeast tables.atMost tables.lowOf tables.highOf defaultsOf defaultN tables.column tables.defaultOf freshOf watchdogResetOf loadedFrom emptyStore
 each-row =
     refl  -- 1
     and refl  -- 2

@@ -1,8 +1,9 @@
 -- What the command step makes of every transfer: it accepts it and the timer is 0, or it hands the board on as it was, or it only answers, with the timer or without it. Assumes nothing.
 use Prim.Native.Nat.{ℕ, _≤_}
-use mathlib.Core.Path.{_≡_, refl}
+use mathlib.Core.Path.{_≡_, refl, sym, ap, _∙_}
 use mathlib.Core.Bool.{Bool, true, false, cond, not}
 use mathlib.Core.List.{List}
+use mathlib.Core.Option.{some}
 use native.Mathlib.Omega.{arith}
 use lib.IntN.{ℤ}
 use Rattle.modes.specs.Commands.{toSafety, toNominal}
@@ -18,13 +19,16 @@ use Rattle.memory.specs.Memory.{savedOf}
 use Rattle.state.specs.Parts.{modeOf}
 use Rattle.state.specs.Start.{freshOf, commandResetOf}
 use Rattle.state.specs.declared.parts.Board.{Board}
-use Rattle.answers.specs.Answers.{numberOf, headerOf, silentOf, acceptedWith, acceptedOf, refusedOf, notThisBoardOf}
+use Rattle.answers.specs.Answers.{numberOf, toldNumber, headerOf, silentOf, acceptedWith, acceptedOf, refusedOf, notThisBoardOf}
 use Rattle.answers.specs.declared.Answer.{Answer}
 use Rattle.answers.specs.declared.Answer.the-variants.{Accepted, FewerThanFourBytes, InStartup, CodeNotListed, TooShort, NotAvailable, Wrong}
 use Rattle.answers.specs.declared.Outcome.the-variants.{Answered}
 use Rattle.answers.specs.declared.Commanded.{Commanded}
 use Rattle.commands.specs.Effects.{isNominal, switchedOf, groupOnOf, groupOffOf, groupStateOf, channelOnOf, channelOffOf, cancelledOf, switchedModeOf, faultsOf, housekeepingOf, parameterOf, rememberedOf, savedIn, restartedOf, runOf}
-use Rattle.commands.specs.Step.{isStartup, turnedDown, decodedOf, transferredOf}
+use Rattle.commands.specs.Step.{isStartup, turnedDown, decodedOf, transferredOf, commandedOf}
+use Rattle.claims.specs.Conditions as claim
+use Rattle.claims.specs.Conditions.{Sent, obeyed}
+use Rattle.claims.proofs.Conditions.{same-number}
 
 pub data Result (code : ℕ) (b : Board) : Commanded → Type 0 where
   accepted : {c : Commanded} → c .outcome ≡ Answered Accepted → c .board .timer ≡ 0 → Result code b c
@@ -98,8 +102,49 @@ module _ (code : ℕ) (b : Board) where
   decoded rail limits (Refused refusal) = turned-down refusal
 
 -- of a transfer
-pub result : (rail : ℤ) (limits : Limits) (s : List ℕ) (b : Board) → Result (codeOf s) b (transferredOf rail limits s b)
+result : (rail : ℤ) (limits : Limits) (s : List ℕ) (b : Board) → Result (codeOf s) b (transferredOf rail limits s b)
 unfolding transferredOf
 result rail limits s b =
     either (codeOf s) b (fewerThanFour s) short
     (either (codeOf s) b (isStartup (modeOf b)) starting (decoded (codeOf s) b rail limits (decodeOf (headerOf (b .profile)) s)))
+
+pub step : (t : Sent) → Result (claim.code t) (t .board) (obeyed t)
+unfolding commandedOf
+step t = result (t .rail) (t .limits) (t .bytes) (t .board)
+
+-- ---- which result it is, by the number told
+told-0 : (c : Commanded) (n : ℕ) → c .outcome ≡ Answered Accepted → toldNumber (c .outcome) ≡ some n → n ≡ 0
+told-0 c n e q = same-number n 0 (sym q ∙ ap toldNumber e)
+
+module _ {code : ℕ} {b : Board} where
+  pub accepted-is : (c : Commanded) → Result code b c → toldNumber (c .outcome) ≡ some 0 → c .board .timer ≡ 0
+  unfolding notThisBoardOf refusedOf
+  accepted-is c (accepted e z) q = z
+  accepted-is c short q = absurd (omega (arith, same-number 1 0 q))
+  accepted-is c starting q = absurd (omega (arith, same-number 2 0 q))
+  accepted-is c elsewhere q = absurd (omega (arith, same-number 3 0 q))
+  accepted-is c (refused a k) q = absurd (omega (arith, k, same-number (numberOf a) 0 q))
+
+  pub silent-is : (c : Commanded) → Result code b c → (n : ℕ) → 1 ≤ n → n ≤ 2 → toldNumber (c .outcome) ≡ some n → (a : Answer) × (c ≡ silentOf (Answered a) b)
+  unfolding notThisBoardOf refusedOf
+  silent-is c (accepted e z) n l h q = absurd (omega (arith, told-0 c n e q))
+  silent-is c short n l h q = (FewerThanFourBytes, refl)
+  silent-is c starting n l h q = (InStartup, refl)
+  silent-is c elsewhere n l h q = absurd (omega (arith, same-number 3 n q))
+  silent-is c (refused a k) n l h q = absurd (omega (arith, k, same-number (numberOf a) n q))
+
+  pub elsewhere-is : (c : Commanded) → Result code b c → toldNumber (c .outcome) ≡ some 3 → c ≡ notThisBoardOf code b
+  unfolding notThisBoardOf refusedOf
+  elsewhere-is c (accepted e z) q = absurd (omega (arith, told-0 c 3 e q))
+  elsewhere-is c short q = absurd (omega (arith, same-number 1 3 q))
+  elsewhere-is c starting q = absurd (omega (arith, same-number 2 3 q))
+  elsewhere-is c elsewhere q = refl
+  elsewhere-is c (refused a k) q = absurd (omega (arith, k, same-number (numberOf a) 3 q))
+
+  pub refused-is : (c : Commanded) → Result code b c → (n : ℕ) → 4 ≤ n → toldNumber (c .outcome) ≡ some n → (a : Answer) × (numberOf a ≡ n) × (c ≡ refusedOf a code b)
+  unfolding notThisBoardOf refusedOf
+  refused-is c (accepted e z) n l q = absurd (omega (arith, told-0 c n e q))
+  refused-is c short n l q = absurd (omega (arith, same-number 1 n q))
+  refused-is c starting n l q = absurd (omega (arith, same-number 2 n q))
+  refused-is c elsewhere n l q = absurd (omega (arith, same-number 3 n q))
+  refused-is c (refused a k) n l q = (a, same-number (numberOf a) n q, refl)
