@@ -4,4 +4,5 @@ pub mod Answered
 pub mod Results
 pub mod Refused
 pub mod RefusedTicks
+pub mod RefusalExamples
 pub mod Untouched

@@ -101,7 +101,8 @@ infix 10 the-mode_
 infix 10 the-channels-on_
 infix 10 the-event_and-mode_
 -- ---- the tick of a row
--- linger, emergency period and safety low are the rows'; safety high is 7000, which row 7 and row 8 have their rail above
+-- linger, emergency period and safety low are the rows'. Of the thresholds that no row gives a number, safety high is 7000, so that 7001 is above it, and the emergency thresholds are
+-- 6000 and 6400, so that -20 is a low rail.
 abbrev pub limits : Limits
 limits =
     record {

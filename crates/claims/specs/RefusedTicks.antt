@@ -36,4 +36,5 @@ pub record RefusedTick : Type 0 where
   pub accepted-no-event : (m : Machine) (i : Sample) → tickAnswer m i ≡ some 0 → told m i .event ≡ NoEvent
   pub refused-no-event : (m : Machine) (i : Sample) (n : ℕ) → 4 ≤ n → n ≤ 7 → tickAnswer m i ≡ some n → told m i .event ≡ NoEvent
   -- 4 to 7: steps 1 to 3, and then only the reply and the timer
-  pub as-after-step-3 : (m : Machine) (i : Sample) (n : ℕ) → 4 ≤ n → n ≤ 7 → tickAnswer m i ≡ some n → told m i .machine ≡ replying (withReply (refusal n (metIn m i)) (withTimer 0 (settled m i)))
+  pub as-after-step-3 : (m : Machine) (i : Sample) (n : ℕ) → 4 ≤ n → n ≤ 7 → tickAnswer m i ≡ some n
+      → told m i .machine ≡ replying (withReply (refusal n (metIn m i)) (withTimer 0 (settled m i)))
