@@ -193,11 +193,11 @@ module _ (t : Sent) where
       (or-false (not (eqb (t at 4) 0xA6)) and refl and refl and refl and refl and refl and refl and refl and refl and refl and refl and refl and refl and refl and refl and refl and refl and refl and refl and none)
 
   -- 0x84 behind its id, where that can be set: the value's bytes count from the sixth on
-  long-enough : (type : ValueType) → 6 ≤ length s → ltb (length (drop 6 s)) (width type) ≡ ltb (length s) (6 + width type)
+  long-enough : (type : ValueType) → 6 ≤ length s → ltb (length (drop 6 s)) (width type) ≡ valueShort (ReadWrite type) t
   long-enough type h =
-      cases (ltb (length s) (6 + width type))
-      (λ e. lt-ltb (length (drop 6 s)) (width type) (omega (arith, length-drop 6 s, ltb-true (length s) (6 + width type) e)) ∙ sym e)
-      (λ e. le-ltb (length (drop 6 s)) (width type) (omega (arith, length-drop 6 s, ltb-false (length s) (6 + width type) e)) ∙ sym e)
+      cases (valueShort (ReadWrite type) t)
+      (λ e. lt-ltb (length (drop 6 s)) (width type) (omega (arith, ltb-true, length-drop 6 s)) ∙ sym e)
+      (λ e. le-ltb (length (drop 6 s)) (width type) (omega (arith, ltb-false, length-drop 6 s)) ∙ sym e)
 
   value-checked : (type : ValueType) → 6 ≤ length s
       → first (5 when checks.isTooShort (readOf type (valuePart s)) ∷ 7 when checks.isNaN (readOf type (valuePart s)) ∷ [])
@@ -205,7 +205,7 @@ module _ (t : Sent) where
   unfolding first readOf valuePart
   value-checked type h =
       let w = read-whole type (number (width type) (drop 6 s)) in
-      cases (ltb (length s) (6 + width type)) (λ e. rw (long-enough type h, e)) (λ e. rw (long-enough type h, e, w .0, w .1))
+      cases (valueShort (ReadWrite type) t) (λ e. rw (long-enough type h, e)) (λ e. rw (long-enough type h, e, w .0, w .1))
 
   -- 0x84 as a whole: its four checks are one 5 and one 7
   parameter-checked : (p : Parameter)
