@@ -1,5 +1,5 @@
 -- Document 01's boundary table, row by row, as one claim over a list: each row gives a board, what one tick brings to it and what is then seen, and the tick is the one that the
--- contract of `board::tick_with` cites. Times are in ticks and thresholds in millivolts, as the rows give them: linger 100, emergency period 300, safety low 6500. Where a row names no
+-- contract of `board::tick_with` cites. Times are ticks and thresholds millivolts, with the numbers of the rows: linger 100, emergency period 300, safety low 6500. Where a row names no
 -- rail, it stands twice, with a rail at safety low and with one below. `a ∷ b ∷ []` is a list of two. Assumes nothing: these are definitions and the statement of the claim.
 use Prim.Native.Nat.{ℕ, _+_, _-_, _/_, _^_}
 use mathlib.Core.Path.{_≡_}

@@ -1,5 +1,5 @@
 -- Demand 1, when a command is refused: to every transfer exactly one of the eight answers of document 01's command table is given, and it is the one that the machine tells. The table
--- stands below, row by row, as conditions on the bytes of the transfer, the mode, the profile, the rail and the settings; no decoder stands between, and a place in the bytes is a number.
+-- stands below, row by row, as conditions on the bytes of the transfer and on mode, profile, rail and settings; no decoder stands between, and a place in the bytes is a number.
 -- All boards and all bytes are meant, not only boards that can be reached. `7 when b` is a row with the number 7 and the condition b; `a ∷ b ∷ []` is a list of two; || is or, && is and.
 -- Assumes nothing: these are definitions and the statement of the claim.
 use Prim.Native.Nat.{ℕ, _+_, _≤_, _<_}
@@ -105,7 +105,7 @@ notAvailable t = order.unavailable (code t) (modeOf (t .board)) (t .rail) (t .li
 unfoldable pub keyWrong : ℕ → ℕ → Bool
 keyWrong c key = eqb c 0xAA && key differs-from 0xA6 || isIn c (0x90 ∷ 0x92 ∷ 0x94 ∷ []) && key differs-from 0xA7
 
--- 0x16, 0x18: an index above 31 or not fitted, and for 0x18 a force-enabled one
+-- 0x16, 0x18: there is no such channel or it is not fitted, and for 0x18 also a force-enabled one
 abbrev pub channelWrong : Sent → Bool
 channelWrong t = order.channelWrong (code t) (t .board .profile) (t at 4)
 

@@ -1,5 +1,5 @@
--- Demand 1, what a refused command leaves: the command step leaves every part of the board as it found it where the answer is 1 to 7, but the waiting reply (3 to 7) and the timer, which
--- is then 0 (4 to 7). All boards and all bytes are meant. `withReply r b` is the board b with the waiting reply r and all else as it was, `withTimer` likewise.
+-- Demand 1, what a refused command leaves. After 1 and 2 the board is the one that the step was given, whole. After 3 only its waiting reply is another. After 4 to 7 its timer is 0
+-- besides. This holds of all boards and all bytes. `withReply r b` is the board b with r waiting on it and all else as it was, `withTimer` likewise.
 -- Assumes nothing: these are definitions and the statement of the claim.
 use Prim.Native.Nat.{ℕ, _≤_, _<_}
 use mathlib.Core.Path.{_≡_}
@@ -28,7 +28,7 @@ unfoldable pub statIn : List Stat → ℕ → ℕ
 statIn [] n = 0
 statIn ((k has-stat stat) ∷ more) n = cond (eqb n k) stat (statIn more n)
 
--- with the board's own STID, IVID and BID and the command's code, of which `shortReply` sets the lowest bit
+-- in front of it stand what the board is called by (STID, IVID, BID) and the command's code, of which `shortReply` sets the lowest bit
 abbrev pub refusal : ℕ → Sent → Reply
 refusal n t = replyOf (shortReply (headerOf (t .board .profile)) (code t) (statIn stats n))
 

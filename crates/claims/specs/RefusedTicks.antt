@@ -1,6 +1,6 @@
--- Demand 1, what a tick with a refused command leaves. With answer 1 or 2 the machine and the watchdog's event are those of the tick without a transfer. With 3 they are too, but for the
--- waiting reply, and wholly where the watchdog resets. With 0 and with 4 to 7 no watchdog event comes in that tick; with 4 to 7 all but the reply and the timer is as after step 3.
--- All machines and all ticks are meant. Assumes nothing: these are definitions and the statement of the claim.
+-- Demand 1, what a tick leaves whose command is refused. 1 and 2: machine and event are what they would be had nothing been sent. 3: so are they, apart from the reply that now waits; a
+-- reset by the watchdog takes even that away. 4 to 7: the reply and a timer of 0 are put on what step 3 left, and the watchdog stays quiet; quiet it stays after an accepted command too.
+-- This holds of all machines and all ticks. Assumes nothing: these are definitions and the statement of the claim.
 use Prim.Native.Nat.{ℕ, _≤_}
 use mathlib.Core.Path.{_≡_}
 use mathlib.Core.Bool.{false}

@@ -35,7 +35,7 @@ pub record Eight : Type 0 where
   pub exactly : (there : Machine) (profile : Profile) (store : Store) → startNumber (begunOf there profile store .answer) ≡ cond (keepsTheRules profile store) 0 8
   pub leaves : (there : Machine) (profile : Profile) (store : Store) → keepsTheRules profile store ≡ false → begunOf there profile store .machine ≡ there
 
--- 9, of a tick: words that are neither 0 nor 122; the tick does not happen
+-- 9, of a tick: some words were lent, but not 122; nothing of the tick takes place
 pub record Nine : Type 0 where
   pub given : (m : Machine) (i : Sample) → allowedCount (length (i .words)) ≡ false → tickAnswer m i ≡ some 9
   pub only : (m : Machine) (i : Sample) → allowedCount (length (i .words)) ≡ true → tickAnswer m i ≡ some 9 → ⊥
