@@ -1,0 +1,8 @@
+pub mod Boundary
+pub mod Conditions
+pub mod Answered
+pub mod Results
+pub mod Refused
+pub mod RefusedTicks
+pub mod RefusalExamples
+pub mod Untouched

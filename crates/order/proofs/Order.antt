@@ -47,7 +47,7 @@ use Rattle.commands.specs.Step.{isStartup, turnedDown, decodedOf, transferredOf
 use Rattle.order.specs.Checks.{_is_, channelCodes, unavailable, channelWrong, checksumWrong, checksBy, checksOf}
 
 -- what holds at each of some codes holds at one that is among them
-at-code : (P : ℕ → Type 0) (k : ℕ) (cs : List ℕ) → isIn k cs ≡ true → Each P cs → P k
+pub at-code : (P : ℕ → Type 0) (k : ℕ) (cs : List ℕ) → isIn k cs ≡ true → Each P cs → P k
 at-code P k cs h each = by-code P k cs each (λ e. absurd (subst T (sym (sym e ∙ h)) tt))
 
 startup-is : (m : Mode) → isStartup m ≡ (m is Startup)

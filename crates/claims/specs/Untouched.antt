@@ -1,0 +1,72 @@
+-- Demand 1, refusals 8 to 14: when each is given, and that the state and every lent buffer then hold what they held. The facts are those of the crates whose contracts they are about; here
+-- they stand together, for every machine and every input. Words, transfers, received bytes and sheets are lent read-only and cannot change; a scratch buffer and an output buffer can.
+-- A session's output is the refusal's own text: docs/DECISIONS.md. Assumes nothing: these are definitions and the statement of the claim.
+use Prim.Native.Nat.{ℕ, _<_}
+use mathlib.Core.Path.{_≡_}
+use mathlib.Core.Bool.{true, false, cond}
+use mathlib.Core.List.{List}
+use mathlib.Core.Option.{some}
+use lib.ListN.{length}
+use Rattle.hex.specs.Hex.{laid}
+use Rattle.watchdog.specs.declared.Event.the-variants.{NoEvent}
+use Rattle.memory.specs.Memory.{emptyStore}
+use Rattle.memory.specs.declared.Store.{Store}
+use Rattle.state.specs.Start.{keepsTheRules, startNumber}
+use Rattle.state.specs.declared.parts.Profile.{Profile}
+use Rattle.board.specs.Tick.{allowedCount}
+use Rattle.text.specs.Answers.{lineNumber, framedNumber}
+use Rattle.text.specs.Framing.{framedOf}
+use Rattle.text.specs.Given.{GivenWhen}
+use Rattle.text.specs.Lines.{lineHeld}
+use Rattle.text.specs.declared.reading.Line.{Line}
+use Rattle.unit.specs.Machine.{begunOf, heardOf, dueOf}
+use Rattle.unit.specs.declared.Machine.{Machine}
+use Rattle.grammar.specs.Grammar.{fails, reads}
+use Rattle.sheet.specs.Form.{Sheet, sheetIn}
+use Rattle.script.specs.Printing.{page, typed}
+use Rattle.session.specs.Transcript.{refused8, refused14}
+use Rattle.session.specs.Sessions.{profileIn, opens, noSession, answerFrom, answerNumber, openedOf}
+use Rattle.session.specs.declared.running.Answer.the-variants.{ProfileBreaksARule, NotOfForm}
+use Rattle.claims.specs.Runs.{Sample, told}
+use Rattle.claims.specs.Conditions.{tickAnswer}
+
+-- 8, of a start: a profile that breaks a rule; the machine that was there stays
+pub record Eight : Type 0 where
+  pub exactly : (there : Machine) (profile : Profile) (store : Store) → startNumber (begunOf there profile store .answer) ≡ cond (keepsTheRules profile store) 0 8
+  pub leaves : (there : Machine) (profile : Profile) (store : Store) → keepsTheRules profile store ≡ false → begunOf there profile store .machine ≡ there
+
+-- 9, of a tick: some words were lent, but not 122; nothing of the tick takes place
+pub record Nine : Type 0 where
+  pub given : (m : Machine) (i : Sample) → allowedCount (length (i .words)) ≡ false → tickAnswer m i ≡ some 9
+  pub only : (m : Machine) (i : Sample) → allowedCount (length (i .words)) ≡ true → tickAnswer m i ≡ some 9 → ⊥
+  pub leaves : (m : Machine) (i : Sample) → allowedCount (length (i .words)) ≡ false → (told m i .machine ≡ m) × (told m i .event ≡ NoEvent)
+
+-- 10 to 13, of a read of the text line: each answer is given where `GivenWhen` says, and a refused read leaves the machine and the scratch buffer
+pub record Reads : Type 0 where
+  pub given : (m : Machine) (received scratch : List ℕ) → GivenWhen (m .board .form) received (length scratch) (heardOf received (length scratch) m .line)
+  pub only : (m : Machine) (received scratch : List ℕ) (line : Line) → GivenWhen (m .board .form) received (length scratch) line → heardOf received (length scratch) m .line ≡ line
+  pub leaves : (m : Machine) (received scratch : List ℕ) → (lineNumber (heardOf received (length scratch) m .line) ≡ 0 → ⊥)
+      → (heardOf received (length scratch) m .machine ≡ m) × (lineHeld (m .board .form) received scratch ≡ scratch)
+
+-- 13, of framing: an output that is too short for the frame; it stays, and the machine is not handed back at all
+pub record Frames : Type 0 where
+  pub given : (m : Machine) (out : List ℕ) → length out < length (dueOf m) → framedNumber (framedOf (dueOf m) (length out)) ≡ 13
+  pub only : (m : Machine) (out : List ℕ) → framedNumber (framedOf (dueOf m) (length out)) ≡ 13 → length out < length (dueOf m)
+  pub leaves : (m : Machine) (out : List ℕ) → length out < length (dueOf m) → laid (dueOf m) out ≡ out
+
+-- 14 and 8, of a sheet: one that is not of its form or too long, and else a bad profile; no machine is started, and only the refusal is printed
+pub record Sheets : Type 0 where
+  pub given-14 : (s : List ℕ) → sheetIn s ≡ fails → answerNumber (answerFrom (sheetIn s)) ≡ 14
+  pub only-14 : (s : List ℕ) → answerNumber (answerFrom (sheetIn s)) ≡ 14 → sheetIn s ≡ fails
+  pub starts-nothing-14 : (held s : List ℕ) → sheetIn s ≡ fails → openedOf held s ≡ opens noSession NotOfForm (typed (page held 0) refused14)
+  pub given-8 : (s : List ℕ) (sheet : Sheet) (i : ℕ) → sheetIn s ≡ reads sheet i → keepsTheRules (profileIn (sheet .top)) emptyStore ≡ false → answerNumber (answerFrom (sheetIn s)) ≡ 8
+  pub only-8 : (s : List ℕ) (sheet : Sheet) (i : ℕ) → sheetIn s ≡ reads sheet i → keepsTheRules (profileIn (sheet .top)) emptyStore ≡ true → answerNumber (answerFrom (sheetIn s)) ≡ 0
+  pub starts-nothing-8 : (held s : List ℕ) (sheet : Sheet) (i : ℕ) → sheetIn s ≡ reads sheet i → keepsTheRules (profileIn (sheet .top)) emptyStore ≡ false
+      → openedOf held s ≡ opens noSession ProfileBreaksARule (typed (page held 0) refused8)
+
+pub record OtherRefusals : Type 0 where
+  pub eight : Eight
+  pub nine : Nine
+  pub reading : Reads
+  pub framing : Frames
+  pub sheets : Sheets
