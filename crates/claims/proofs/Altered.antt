@@ -77,7 +77,7 @@ module _ (rail : ℤ) (limits : Limits) (s : List ℕ) (b : Board) where
       let no : (k : ℕ) → isIn k altering ≡ true → eqb (codeOf s) k ≡ false = λ k here. other (codeOf s) k altering out here in
       rw (no 0x10 refl, no 0x12 refl, no 0x14 refl, no 0x16 refl, no 0x18 refl, no 0x04 refl, no 0x32 refl, no 0xAA refl)
 
-  count-made : eqb (codeOf s) 0xAA ≡ false → (c : ℕ) (ch : Chan) → madeBy (sentences b s c) (codeOf s) ch .count ≡ ch .count
+  pub count-made : eqb (codeOf s) 0xAA ≡ false → (c : ℕ) (ch : Chan) → madeBy (sentences b s c) (codeOf s) ch .count ≡ ch .count
   unfolding sentences
   count-made e c ch =
       made-so (λ x. x .count ≡ ch .count) (codeOf s) ch (sentences b s c)

@@ -99,7 +99,7 @@ module _ (rail : ℤ) (limits : Limits) (s : List ℕ) (b : Board) where
     pub one-by-one : (c : ℕ) → c < 32 → chan (after .channels) c ≡ madeBy (sentences b s c) k (chan (b .channels) c)
     pub held : Held (b .channels) → Held (after .channels)
     pub profile : after .profile ≡ b .profile
-    pub no-reset : eqb k 0xAA ≡ false → after .phase .mode ≡ Startup → b .phase .mode ≡ Startup
+    pub no-reset : eqb k 0xAA ≡ false → after .phase .mode ≡ Startup → after .phase ≡ b .phase
     pub reset : eqb k 0xAA ≡ true → after ≡ commandResetOf b
 
   pub data Leaves (k : ℕ) (c : Commanded) : Type 0 where
@@ -139,7 +139,7 @@ module _ (rail : ℤ) (limits : Limits) (s : List ℕ) (b : Board) where
   switched k right channels e h n =
       either k (not (isNominal (modeOf b))) (unavailable k)
       (either k (not right) (wrong k)
-      (accepting refl (record { one-by-one = e; held = λ _. h; profile = refl; no-reset = λ _ m. m; reset = λ r. absurd (false≢true (sym n ∙ r)) })))
+      (accepting refl (record { one-by-one = e; held = λ _. h; profile = refl; no-reset = λ _ _. refl; reset = λ r. absurd (false≢true (sym n ∙ r)) })))
 
   abbrev fitted : ℕ
   fitted = b .profile .fitted
@@ -190,7 +190,7 @@ module _ (rail : ℤ) (limits : Limits) (s : List ℕ) (b : Board) where
         one-by-one = λ c h. done-at channel.command-enabled-off c h;
         held = λ _. done-held channel.command-enabled-off;
         profile = refl;
-        no-reset = λ _ m. m;
+        no-reset = λ _ _. refl;
         reset = λ r. absurd (false≢true r);
       })
 
@@ -198,7 +198,7 @@ module _ (rail : ℤ) (limits : Limits) (s : List ℕ) (b : Board) where
   abbrev NoSentence : ℕ → Type 0
   NoSentence k = (c : ℕ) → madeBy (sentences b s c) k (chan (b .channels) c) ≡ chan (b .channels) c
 
-  untouched : (k : ℕ) (after : Board) → after .channels ≡ b .channels → after .profile ≡ b .profile → (after .phase .mode ≡ Startup → b .phase .mode ≡ Startup) → NoSentence k → eqb k 0xAA ≡ false → Made k after
+  untouched : (k : ℕ) (after : Board) → after .channels ≡ b .channels → after .profile ≡ b .profile → (after .phase .mode ≡ Startup → after .phase ≡ b .phase) → NoSentence k → eqb k 0xAA ≡ false → Made k after
   untouched k after same-channels same-profile starts e n =
       record {
         one-by-one = λ c h. ap (λ (x : Channels). chan x c) same-channels ∙ sym (e c);
@@ -211,7 +211,7 @@ module _ (rail : ℤ) (limits : Limits) (s : List ℕ) (b : Board) where
   plainly : (k : ℕ) (c : Commanded) → toldNumber (c .outcome) ≡ some 0 → c .board .channels ≡ b .channels → c .board .profile ≡ b .profile → c .board .phase ≡ b .phase
       → NoSentence k → eqb k 0xAA ≡ false → Leaves k c
   plainly k c t same-channels same-profile same-phase e n =
-      accepting t (untouched k (c .board) same-channels same-profile (λ m. ap (λ (x : ModeAge). x .mode) (sym same-phase) ∙ m) e n)
+      accepting t (untouched k (c .board) same-channels same-profile (λ _. same-phase) e n)
 
   -- ---- 0x32 and 0x30
   to-safety : (m : Mode) → modeOf b ≡ m → Leaves 0x32 (switchedModeOf 0x32 (toSafetyFrom m (b .phase)) b)

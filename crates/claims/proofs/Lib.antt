@@ -1,3 +1,4 @@
 pub mod Groups
 pub mod Altered
 pub mod Unfitted
+pub mod Counts
