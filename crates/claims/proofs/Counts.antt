@@ -84,7 +84,7 @@ settled-counts m i c h =
 reset-counts : (c : ℕ) → c < 32 → getD (cleared .counts) c 0 ≡ 0
 reset-counts c h = ap (λ (x : Chan). x .count) (channel.cleared-each c h)
 
-not-accepted : (n : ℕ) → isAccepted (some (suc n)) ≡ false
+pub not-accepted : (n : ℕ) → isAccepted (some (suc n)) ≡ false
 not-accepted n = cases (eqb (suc n) 0) (λ e. absurd (omega (arith, eqb-true (suc n) 0 e))) (λ e. e)
 
 left-counts : (rail : ℤ) (limits : Limits) (s : List ℕ) (b : Board) (c : ℕ) → c < 32 → (x : Commanded) → Leaves rail limits s b (codeOf s) x
@@ -112,7 +112,7 @@ watched-counts x c h = go (dog.watchedOf (x .board .timer) (dog.secondsInTicks (
     go PeripheralReset = refl
     go WatchdogReset = reset-counts c h
 
-watched-tells : (x : Commanded) → watchedIn x .outcome ≡ x .outcome
+pub watched-tells : (x : Commanded) → watchedIn x .outcome ≡ x .outcome
 unfolding watchedIn
 watched-tells x = go (dog.watchedOf (x .board .timer) (dog.secondsInTicks (timeoutOf (x .board .memory))))
   where

@@ -2,3 +2,4 @@ pub mod Groups
 pub mod Altered
 pub mod Unfitted
 pub mod Counts
+pub mod Resets
