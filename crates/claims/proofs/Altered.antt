@@ -1,9 +1,8 @@
 -- Why the sentences come to that: by going through them, and for the single commands by the order of document 01's checks. Assumes nothing.
 use Prim.Native.Nat.{ℕ, suc, _<_}
 use mathlib.Core.Path.{_≡_, refl, sym, ap, _∙_, subst}
-use mathlib.Core.Bool.{Bool, true, false, cond, not, _&&_, _||_, and-true, and-false, or-true, or-false, false≢true}
+use mathlib.Core.Bool.{Bool, true, false, not, _&&_, _||_, and-false, false≢true}
 use mathlib.Core.List.{List, [], _∷_}
-use mathlib.Core.Option.{some}
 use lib.Dec.{eqb, ltb}
 use lib.IntN.{ℤ}
 use native.Mathlib.Omega.{arith}
@@ -18,13 +17,12 @@ use Rattle.command.specs.Codes.{isIn}
 use Rattle.command.specs.Decode.{codeOf, byteAfter}
 use Rattle.command.specs.Checks.{Check, _when_, first}
 use Rattle.state.specs.declared.parts.Board.{Board}
-use Rattle.answers.specs.Answers.{toldNumber}
-use Rattle.commands.specs.Step.{transferredOf, commandedOf}
+use Rattle.commands.specs.Step.{commandedOf}
 use Rattle.order.specs.Checks.{channelWrong, checksBy, checksOf}
 use Rattle.order.proofs.Order.{in-order}
-use Rattle.claims.specs.Groups.{isSpokenOf, isInTheMask, isFitted, isCommandEnabled, isForceEnabled, isTheOne, obeyed, Answers, Sentence, at_each_becomes_, sentences, madeBy, namedBy}
+use Rattle.claims.specs.Groups.{isFitted, isCommandEnabled, obeyed, Answers, Sentence, at_each_becomes_, sentences, madeBy, namedBy}
 use Rattle.claims.specs.Altered.{altering, before, afterwards, Altered}
-use Rattle.claims.proofs.Groups.{Kept, Made, Leaves, refusing, accepting, leaves, groups}
+use Rattle.claims.proofs.Groups.{Leaves, refusing, accepting, leaves, groups}
 
 -- a channel that no sentence names
 unnamed : (l : List Sentence) (code : ℕ) (ch : Chan) → namedBy l code ≡ false → madeBy l code ch ≡ ch

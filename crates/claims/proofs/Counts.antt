@@ -1,17 +1,17 @@
 -- Why the counts are what they are: step 3 raises one by 1, up to 65,535, and a reset clears them; nothing else of a tick touches one. Assumes nothing.
 use Prim.Native.Nat.{ℕ, suc, _+_, _<_, _≤_, min}
-use mathlib.Core.Path.{_≡_, refl, sym, ap, _∙_, subst}
-use mathlib.Core.Bool.{Bool, true, false, cond, not, _&&_, _||_, and-true, and-false, or-true, or-false, false≢true}
+use mathlib.Core.Path.{_≡_, refl, ap, _∙_}
+use mathlib.Core.Bool.{Bool, true, false, cond, _&&_, _||_, and-false}
 use mathlib.Core.List.{List, [], _∷_}
-use mathlib.Core.Option.{Option, some}
+use mathlib.Core.Option.{some}
 use native.Mathlib.Omega.{arith}
 use lib.Dec.{eqb}
 use lib.IntN.{ℤ}
-use lib.ListN.{length, getD}
+use lib.ListN.{getD}
 use borrow.Author.Tests.{eqb-true}
 use Rattle.modes.specs.declared.Mode.{Mode}
 use Rattle.modes.specs.declared.Limits.{Limits}
-use Rattle.channels.specs.Sets.{has, bit}
+use Rattle.channels.specs.Sets.{has}
 use Rattle.channels.specs.Chan.{Chan, chan}
 use Rattle.channels.specs.Operations.{cleared, commandEnabledOffOne}
 use Rattle.channels.specs.declared.Channels.{Channels}
@@ -28,20 +28,18 @@ use Rattle.state.specs.Start.{freshOf, watchdogResetOf, commandResetOf, keepsTh
 use Rattle.state.specs.declared.parts.Board.{Board}
 use Rattle.state.specs.declared.parts.Profile.{Profile}
 use Rattle.answers.specs.Answers.{toldNumber}
-use Rattle.answers.specs.declared.Outcome.{Outcome}
 use Rattle.answers.specs.declared.Commanded.{Commanded}
 use Rattle.commands.specs.Step.{commandedOf}
-use Rattle.board.specs.Tick.{risenOf, changedOf, trippedOf, watchedAs, watchedIn, tickWith, allowedCount, tickOf}
-use Rattle.board.specs.declared.Ticked.{Ticked}
+use Rattle.board.specs.Tick.{risenOf, changedOf, trippedOf, watchedAs, watchedIn, tickWith, tickOf}
 use Rattle.text.specs.Lines.{lineOf}
 use Rattle.text.specs.declared.reading.Line.{Line}
 use Rattle.text.specs.declared.reading.Line.the-variants.{Command, Switch, NoFrame, TooLong, NotOfForm, ScratchTooShort}
 use Rattle.unit.specs.Machine.{begunOf, toldOf, afterLine, heardOf}
 use Rattle.unit.specs.declared.Machine.{Machine}
-use Rattle.claims.specs.Runs.{Sample, told, Call, tick, line, afterCall, after}
-use Rattle.claims.specs.Groups.{at_each_becomes_, sentences, madeBy}
-use Rattle.claims.specs.Counts.{happens, afterStep2, takesOff, byWatchdog, isAccepted, tellsReset, hasReset, timesTakenOff, Counts}
-use Rattle.claims.proofs.Groups.{Kept, Made, Leaves, refusing, accepting, leaves}
+use Rattle.claims.specs.Runs.{Sample, told, Call, tick, line, after}
+use Rattle.claims.specs.Resets.{happens, afterStep2, isByWatchdog, isAccepted, tellsWatchdogReset, tellsCommandReset, tellsReset}
+use Rattle.claims.specs.Counts.{takesOff, hasReset, timesTakenOff, Counts}
+use Rattle.claims.proofs.Groups.{Leaves, refusing, accepting, leaves}
 use Rattle.claims.proofs.Altered.{count-made}
 
 -- the count of channel c
@@ -103,11 +101,11 @@ obeyed-counts rail limits false s b c h = refl
 obeyed-counts rail limits true s b c h = left-counts rail limits s b c h _ (leaves rail limits s b)
 
 -- ---- step 5
-watched-counts : (x : Commanded) (c : ℕ) → c < 32 → countIn c (watchedIn x .board) ≡ cond (byWatchdog (watchedIn x .event)) 0 (countIn c (x .board))
+watched-counts : (x : Commanded) (c : ℕ) → c < 32 → countIn c (watchedIn x .board) ≡ cond (isByWatchdog (watchedIn x .event)) 0 (countIn c (x .board))
 unfolding watchedIn watchdogResetOf freshOf
 watched-counts x c h = go (dog.watchedOf (x .board .timer) (dog.secondsInTicks (timeoutOf (x .board .memory))))
   where
-    go : (e : Event) → countIn c (watchedAs e x .board) ≡ cond (byWatchdog (watchedAs e x .event)) 0 (countIn c (x .board))
+    go : (e : Event) → countIn c (watchedAs e x .board) ≡ cond (isByWatchdog (watchedAs e x .event)) 0 (countIn c (x .board))
     go NoEvent = refl
     go PeripheralReset = refl
     go WatchdogReset = reset-counts c h
@@ -134,18 +132,18 @@ happened-counts : (m : Machine) (i : Sample) (c : ℕ) → c < 32 → (x : Comma
     → x ≡ commandedOf (i .rail) (limitsOf (m .board .memory)) (i .sent) (i .transfer) (trippedOf (i .named) (afterStep2 m i))
     → countIn c (watchedIn x .board)
     ≡ countNext
-    (byWatchdog (watchedIn x .event) || (isAccepted (toldNumber (watchedIn x .outcome)) && eqb (codeOf (i .transfer)) 0xAA))
+    (isByWatchdog (watchedIn x .event) || (isAccepted (toldNumber (watchedIn x .outcome)) && eqb (codeOf (i .transfer)) 0xAA))
     (has (i .named) c && has (afterStep2 m i .channels .on) c)
     (countIn c (m .board))
 happened-counts m i c h x e =
-    let w = byWatchdog (watchedIn x .event) in
+    let w = isByWatchdog (watchedIn x .event) in
     let a = isAccepted (toldNumber (x .outcome)) && eqb (codeOf (i .transfer)) 0xAA in
     let obeyed : countIn c (x .board) ≡ cond a 0 (countIn c (trippedOf (i .named) (afterStep2 m i))) = rw e (obeyed-counts (i .rail) (limitsOf (m .board .memory)) (i .sent) (i .transfer) _ c h) in
     rw (watched-tells x)
     (watched-counts x c h ∙ ap (λ (n : ℕ). cond w 0 n) obeyed ∙ either-reset w a _ ∙ ap (λ (n : ℕ). cond (w || a) 0 n) (settled-counts m i c h))
 
 ticked-counts : (m : Machine) (i : Sample) (c : ℕ) → c < 32 → countIn c (told m i .machine .board) ≡ countNext (tellsReset m i) (takesOff c m i) (countIn c (m .board))
-unfolding toldOf tellsReset tickOf tickWith
+unfolding toldOf tellsReset tellsWatchdogReset tellsCommandReset tickOf tickWith
 ticked-counts m i c h = cases (happens i) (λ e. rw e (happened-counts m i c h _ refl)) (λ e. rw e)
 
 -- ---- a read of the text line
@@ -162,17 +160,6 @@ unfolding heardOf
 line-counts c received room m = heard-counts c (lineOf (m .board .form) received room) m
 
 -- ---- a run: where it has no reset, the count that it starts with and the ticks that took the channel off; else those behind the last reset alone
-one-tick : (reset off later : Bool) (n t : ℕ) → n ≤ 65535
-    → min (cond later 0 (countNext reset off n) + t) 65535 ≡ min (cond (reset || later) 0 n + (bit (off && not (reset || later)) + t)) 65535
-one-tick true true true n t h = omega arith
-one-tick true true false n t h = omega arith
-one-tick true false true n t h = omega arith
-one-tick true false false n t h = omega arith
-one-tick false true true n t h = omega arith
-one-tick false true false n t h = omega arith
-one-tick false false true n t h = omega arith
-one-tick false false false n t h = omega arith
-
 at-most : (reset off : Bool) (n : ℕ) → n ≤ 65535 → countNext reset off n ≤ 65535
 at-most true off n h = omega arith
 at-most false true n h = omega arith
@@ -184,8 +171,14 @@ unfolding after hasReset timesTakenOff
 run-counts c h m [] b = omega arith
 run-counts c h m (tick i ∷ calls) b =
     let e = ticked-counts m i c h in
-    run-counts c h (told m i .machine) calls (rw e (at-most (tellsReset m i) (takesOff c m i) (countIn c (m .board)) b))
-    ∙ rw e (one-tick (tellsReset m i) (takesOff c m i) (hasReset (told m i .machine) calls) (countIn c (m .board)) (timesTakenOff c (told m i .machine) calls) b)
+    let next = told m i .machine in
+    let ih = rw e at (run-counts c h next calls (rw e (at-most (tellsReset m i) (takesOff c m i) (countIn c (m .board)) b))) in
+    cases (tellsReset m i)
+    (λ r. cases (hasReset next calls) (λ l. simp (r, and-false) (omega (arith, simp (r, l) at ih))) (λ l. simp (r, and-false) (omega (arith, simp (r, l) at ih))))
+    (λ r.
+    cases (hasReset next calls)
+    (λ l. simp (r, l, and-false) (omega (arith, simp l at ih)))
+    (λ l. cases (takesOff c m i) (λ o. simp (r, l, o) (omega (arith, simp (r, l, o) at ih))) (λ o. simp (r, l, o) (omega (arith, simp (r, l, o) at ih)))))
 run-counts c h m (line received room ∷ calls) b =
     let e = line-counts c received room m in
     run-counts c h (heardOf received room m .machine) calls (rw e b) ∙ rw e
@@ -201,9 +194,6 @@ counts there p store =
       counted = λ accepted calls c h.
           let m = begunOf there p store .machine in
           let z = started-counts there p store c h accepted in
-          run-counts c h m calls (omega arith) ∙ from-none (hasReset m calls) (countIn c (m .board)) (timesTakenOff c m calls) z;
+          let r = run-counts c h m calls (omega arith) in
+          cases (hasReset m calls) (λ l. omega (arith, rw l at r)) (λ l. omega (arith, rw l at r));
     }
-  where
-    from-none : (reset : Bool) (n t : ℕ) → n ≡ 0 → min (cond reset 0 n + t) 65535 ≡ min t 65535
-    from-none true n t e = omega arith
-    from-none false n t e = omega arith

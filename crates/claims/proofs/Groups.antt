@@ -2,29 +2,27 @@
 -- operation makes of one channel, and that is what the sentences say. Assumes nothing.
 use Prim.Native.Nat.{ℕ, suc, _-_, _^_, _<_}
 use mathlib.Core.Path.{_≡_, refl, sym, ap, _∙_, subst}
-use mathlib.Core.Bool.{Bool, true, false, cond, not, _&&_, _||_, and-true, and-false, or-true, or-false, false≢true}
-use mathlib.Core.List.{List, [], _∷_}
+use mathlib.Core.Bool.{Bool, true, false, cond, not, _&&_, and-true, or-true, false≢true}
+use mathlib.Core.List.{List}
 use mathlib.Core.Option.{some}
-use lib.Dec.{T, eqb, ltb}
+use lib.Dec.{eqb, ltb}
 use lib.IntN.{ℤ}
 use lib.ListN.{length}
 use native.Mathlib.Omega.{arith}
-use borrow.Author.Tests.{ltb-true, ltb-false, eqb-true}
+use borrow.Author.Tests.{ltb-true, ltb-false}
 use Rattle.value.specs.declared.Parsed.{Parsed}
 use Rattle.value.specs.Values.{readOf}
 use Rattle.settings.specs.Table.{parameterOf}
 use Rattle.settings.specs.declared.Parameter.{Parameter}
 use Rattle.settings.specs.declared.Parameter.the-variants.{ReadWrite, ReadOnly, Unknown}
-use Rattle.modes.specs.Table.{_at-least_, same, entered}
+use Rattle.modes.specs.Table.{_at-least_, same}
 use Rattle.modes.specs.Commands.{toSafetyFrom, toSafety, toNominalFrom, toNominal}
 use Rattle.modes.specs.declared.Mode.{Mode}
 use Rattle.modes.specs.declared.Mode.the-variants.{Startup, Nominal, Safety, Emergency}
-use Rattle.modes.specs.declared.ModeAge.{ModeAge}
 use Rattle.modes.specs.declared.Limits.{Limits}
-use Rattle.modes.specs.declared.Commanded as change
 use Rattle.channels.specs.Sets.{has}
 use Rattle.channels.specs.Chan.{Chan, chan}
-use Rattle.channels.specs.Operations.{onAndCleared, offAndCleared, groupStateOne, commandEnabled, forceEnabled, groupOn, groupOff, groupState, switchOn, switchOff, commandEnabledOff, wrongToSwitchOn, wrongToSwitchOff}
+use Rattle.channels.specs.Operations.{onAndCleared, offAndCleared, groupStateOne, commandEnabled, forceEnabled}
 use Rattle.channels.specs.declared.Channels.{Channels}
 use Rattle.channels.proofs.Sets.{has-not, has-none, has-out}
 use Rattle.channels.proofs.Cases.{cases}
@@ -35,23 +33,22 @@ use Rattle.command.specs.Codes.{isIn, baseCodes}
 use Rattle.command.specs.Decode.{fewerThanFour, headerIs, codeOf, byteAfter, idOf, valuePart, groupIn, getBy, getting, valued, setBy, setting, resetBy, resetting, carried, listed, decodeBy, decodeOf}
 use Rattle.command.specs.declared.Group.{Group}
 use Rattle.command.specs.declared.Decoded.{Decoded}
-use Rattle.command.specs.declared.Decoded.the-variants.{Run, Refused}
+use Rattle.command.specs.declared.Decoded.the-variants.{Refused}
 use Rattle.command.specs.declared.Refusal.{Refusal}
 use Rattle.command.specs.declared.Refusal.the-variants.{FewerThanFourBytes, NotThisBoard, CodeNotListed, TooShort, WrongKey, WrongParameter, NotANumber}
-use Rattle.command.proofs.Laws.{Each, none, _and_, by-code}
+use Rattle.command.proofs.Laws.{none, _and_, by-code}
 use Rattle.memory.specs.Memory.{savedOf}
 use Rattle.memory.specs.declared.Memory.{Memory}
 use Rattle.state.specs.Parts.{modeOf}
 use Rattle.state.specs.Start.{freshOf, commandResetOf}
 use Rattle.state.specs.Change.{isDark, fromNominalToSafety, enteringOf}
 use Rattle.state.specs.declared.parts.Board.{Board}
-use Rattle.answers.specs.Answers.{toldNumber, headerOf, silentOf, acceptedWith, acceptedOf, refusedOf, notThisBoardOf}
+use Rattle.answers.specs.Answers.{toldNumber, headerOf, acceptedWith, acceptedOf, refusedOf, notThisBoardOf}
 use Rattle.answers.specs.declared.Answer.{Answer}
-use Rattle.answers.specs.declared.Outcome.the-variants.{Answered}
 use Rattle.answers.specs.declared.Commanded.{Commanded}
 use Rattle.commands.specs.Effects.{isNominal, switchedOf, groupOnOf, groupOffOf, groupStateOf, channelOnOf, channelOffOf, cancelledOf, switchedModeOf, faultsOf, housekeepingOf, parameterOf as parameterRun, rememberedOf, savedIn, restartedOf, runOf}
 use Rattle.commands.specs.Step.{isStartup, turnedDown, decodedOf, transferredOf, commandedOf}
-use Rattle.claims.specs.Groups.{maskIn, isSpokenOf, Sentence, at_each_becomes_, sentences, madeBy, namedBy, Groups}
+use Rattle.claims.specs.Groups.{maskIn, isSpokenOf, sentences, madeBy, Groups}
 
 -- ---- the mask of a transfer, and the channels that it speaks of, are the decoder's
 mask-is : (s : List ℕ) → groupIn s .mask ≡ maskIn s
@@ -347,8 +344,9 @@ module _ (rail : ℤ) (limits : Limits) (s : List ℕ) (b : Board) where
 
 -- ---- the claim
 pub groups : (rail : ℤ) (limits : Limits) (s : List ℕ) (b : Board) → Groups rail limits s b
+unfolding commandedOf
 groups rail limits s b = go (leaves rail limits s b)
   where
     go : Leaves rail limits s b (codeOf s) (commandedOf rail limits true s b) → Groups rail limits s b
-    go (refusing n t kept) = record { accepted = λ a. absurd (let z : _≡_ {A = ℕ} 0 (suc n) = cc in omega arith); refused = λ m a. kept .channels }
-    go (accepting t made) = record { accepted = λ a. made .one-by-one; refused = λ m a. absurd (let z : _≡_ {A = ℕ} 0 (suc m) = cc in omega arith) }
+    go (refusing n t kept) = record { accepted = λ a. absurd (let z : _≡_ {A = ℕ} 0 (suc n) = cc in omega arith); refused = λ m a. kept .channels; no-transfer = refl }
+    go (accepting t made) = record { accepted = λ a. made .one-by-one; refused = λ m a. absurd (let z : _≡_ {A = ℕ} 0 (suc m) = cc in omega arith); no-transfer = refl }

@@ -1,13 +1,11 @@
 -- Why a channel that is not fitted stays off and unlatched: it is so at a start, and each step of a tick keeps it. Assumes nothing.
-use Prim.Native.Nat.{ℕ, _≤_, _<_}
-use mathlib.Core.Path.{_≡_, refl, sym, ap, _∙_, subst}
-use mathlib.Core.Bool.{Bool, true, false, cond, not, and-false, false≢true}
+use Prim.Native.Nat.{ℕ, _<_}
+use mathlib.Core.Path.{_≡_, refl, sym, _∙_, subst}
+use mathlib.Core.Bool.{Bool, true, false, cond, and-false}
 use mathlib.Core.List.{List, [], _∷_}
 use native.Mathlib.Omega.{arith}
-use lib.Dec.{eqb}
 use lib.IntN.{ℤ}
 use lib.ListN.{length}
-use Rattle.modes.specs.Table.{stepOf}
 use Rattle.modes.specs.declared.Mode.{Mode}
 use Rattle.modes.specs.declared.Limits.{Limits}
 use Rattle.channels.specs.Sets.{has}
@@ -19,13 +17,11 @@ use Rattle.channels.proofs.Cases.{cases}
 use Rattle.channels.proofs.Whole.{Held}
 use Rattle.channels.proofs.Laws.{Dark}
 use Rattle.channels.proofs.Laws as channel
-use Rattle.command.specs.Decode.{codeOf}
 use Rattle.watchdog.specs.Watchdog as dog
 use Rattle.watchdog.specs.declared.Event.{Event}
 use Rattle.watchdog.specs.declared.Event.the-variants.{NoEvent, PeripheralReset, WatchdogReset}
 use Rattle.memory.specs.Limits.{timeoutOf, limitsOf}
 use Rattle.memory.specs.declared.Store.{Store}
-use Rattle.state.specs.Parts.{modeOf}
 use Rattle.state.specs.Change.{isDark, fromNominalToSafety, enteringOf}
 use Rattle.state.specs.Start.{freshOf, watchdogResetOf, keepsTheRules, startOf}
 use Rattle.state.specs.declared.parts.Board.{Board}
@@ -38,11 +34,11 @@ use Rattle.text.specs.declared.reading.Line.{Line}
 use Rattle.text.specs.declared.reading.Line.the-variants.{Command, Switch, NoFrame, TooLong, NotOfForm, ScratchTooShort}
 use Rattle.unit.specs.Machine.{begunOf, toldOf, afterLine, heardOf}
 use Rattle.unit.specs.declared.Machine.{Machine}
-use Rattle.claims.specs.Runs.{Sample, told, Call, tick, line, afterCall, after, Reached}
-use Rattle.claims.specs.Groups.{Sentence, at_each_becomes_, sentences, madeBy}
-use Rattle.claims.specs.Unfitted.{OffAndUnlatched, Unfitted}
-use Rattle.claims.proofs.Groups.{Kept, Made, Leaves, refusing, accepting, leaves}
-use Rattle.claims.proofs.Altered.{Makes, none, _and_, made-so, failed}
+use Rattle.claims.specs.Runs.{Call, tick, line, afterCall, after, Reached}
+use Rattle.claims.specs.Groups.{sentences, madeBy}
+use Rattle.claims.specs.Unfitted.{Unfitted}
+use Rattle.claims.proofs.Groups.{Leaves, refusing, accepting, leaves}
+use Rattle.claims.proofs.Altered.{none, _and_, made-so, failed}
 
 -- ---- what every step keeps: sets of 32 channels with 32 counts, and the channels that p does not have off and unlatched
 pub record Sound (p : Profile) (ch : Channels) : Type 0 where
@@ -165,6 +161,6 @@ unfitted m r =
     let u = reached m r in
     record {
       not-fitted = λ c h f. let d = u .sound .dark c h (rw (u .profile) at f) in record { off = d .off; unlatched = d .unlatched };
-      not-there = λ c h. record { off = has-out 32 _ c (u .sound .held .on) h; unlatched = has-out 32 _ c (u .sound .held .latched) h };
+      not-there = λ c h. record { off = has-out 32 _ c (u .sound .held .on) (omega arith); unlatched = has-out 32 _ c (u .sound .held .latched) (omega arith) };
       same-profile = u .profile;
     }

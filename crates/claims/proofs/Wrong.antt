@@ -1,9 +1,8 @@
 -- Why each wrong program is caught: its run and the machine's are worked out, from a board that has just come into nominal. Assumes nothing.
-use Prim.Native.Nat.{ℕ, suc}
-use mathlib.Core.Path.{_≡_, refl, sym, _∙_}
-use mathlib.Core.Bool.{true}
-use mathlib.Core.List.{List, [], _∷_}
-use mathlib.Core.Option.{Option, some}
+use Prim.Native.Nat.{ℕ}
+use mathlib.Core.Path.{_≡_, refl}
+use mathlib.Core.List.{List, []}
+use mathlib.Core.Option.{some}
 use lib.ListN.{replicate}
 use native.Mathlib.Omega.{arith}
 use Rattle.wire.specs.Numbers.{bytesOf, number}
@@ -12,8 +11,7 @@ use Rattle.settings.specs.Table.{lies, rowOf, find, readWriteRows, readOnlyRows
 use Rattle.settings.specs.Values.{numberOf as settingOf, defaultsOf, defaultN}
 use Rattle.modes.specs.Table.{entered, stepOf, olderOf}
 use Rattle.modes.specs.Commands.{toNominal}
-use Rattle.modes.specs.declared.Mode.{Mode}
-use Rattle.modes.specs.declared.Mode.the-variants.{Nominal, Safety}
+use Rattle.modes.specs.declared.Mode.the-variants.{Nominal}
 use Rattle.channels.specs.Sets.{has, setOf, listOf, isWithin, allBelow}
 use Rattle.channels.specs.Chan.{whole}
 use Rattle.channels.specs.Operations.{cleared, forcedOn, allOff, overcurrentAt, commandEnabledOff, groupOn}
@@ -39,8 +37,8 @@ use Rattle.text.specs.declared.framing.Due.the-variants.{Nothing}
 use Rattle.unit.specs.Machine.{noMachine, begunOf, toldOf}
 use Rattle.unit.specs.declared.Machine.{Machine}
 use Rattle.unit.specs.declared.Told.{Told}
-use Rattle.claims.specs.Runs.{Sample, told, Call, tick, after, Reached}
-use Rattle.claims.specs.Wrong.{Program, document01, stateAfter, lastTold, Caught, tickedWith, toldWith, refusing, refusesAll, replyingNoop, answersNoop, stayingInSafety, staysInSafety, unchanged, changesNothing, repeatsTheFirst, countingAllNamed, makesUpCounts, profile, begun, quiet, sending, noop, reply, mode, on, replyByte, answer, AllCaught}
+use Rattle.claims.specs.Runs.{Sample, told, tick, after, Reached}
+use Rattle.claims.specs.Wrong.{Program, document01, stateAfter, lastTold, Caught, tickedWith, toldWith, refusing, refusesAll, replyingNoop, stayingInSafety, unchanged, countingAllNamed, profile, quiet, sending, noop, answer, AllCaught}
 
 -- the tick with document 01's own steps 3 and 4 in it is document 01's
 pub same-tick : (m : Machine) (i : Sample) → toldWith trippedOf commandedOf m i ≡ told m i
@@ -69,16 +67,6 @@ no-zero WrongKey e = let z : _≡_ {A = ℕ} 0 7 = cc in omega arith
 no-zero WrongParameter e = let z : _≡_ {A = ℕ} 0 7 = cc in omega arith
 no-zero NotANumber e = let z : _≡_ {A = ℕ} 0 7 = cc in omega arith
 
-refused : (r : Refusal) → answer (lastTold (refusesAll r) woken [] (sending 15000 noop)) ≡ some (numberOf r)
-unfolding stateAfter tickedWith refusing replyingNoop stayingInSafety unchanged countingAllNamed countAll groupOn groupIn number bytesOf shown written replyOf room laidOut replyCode shortReply faultsReply channelWords commands.table commands.find isIn baseCodes fewerThanFour headerIs carried listed decodeBy decodeOf acceptedWith acceptedOf refusedOf notThisBoardOf isNominal switchedOf groupOnOf switchedModeOf faultsOf runOf isStartup turnedDown decodedOf transferredOf toNominal has setOf listOf whole cleared forcedOn allOff overcurrentAt commandEnabledOff freshOf loadedFrom emptyStore toldOf tickOf tickWith allowedCount broughtBy risenOf changedOf trippedOf watchedIn commandedOf olderOf stepOf dog.risenOf dog.watchedOf isDark fromNominalToSafety enteringOf timerAfter resetsAfter leavesEmergency limitsOf safetyLow safetyHigh timeoutOf settingOf parameterOf rowOf find readWriteRows readOnlyRows lies defaultsOf defaultN column defaultOf clampOf atLeast atMost lowOf highOf
-refused FewerThanFourBytes = refl
-refused NotThisBoard = refl
-refused CodeNotListed = refl
-refused TooShort = refl
-refused WrongKey = refl
-refused WrongParameter = refl
-refused NotANumber = refl
-
 pub all-caught : AllCaught
 unfolding stateAfter tickedWith refusing replyingNoop stayingInSafety unchanged countingAllNamed countAll groupOn groupIn number bytesOf shown written replyOf room laidOut replyCode shortReply faultsReply channelWords commands.table commands.find isIn baseCodes fewerThanFour headerIs carried listed decodeBy decodeOf acceptedWith acceptedOf refusedOf notThisBoardOf isNominal switchedOf groupOnOf switchedModeOf faultsOf runOf isStartup turnedDown decodedOf transferredOf toNominal has setOf listOf whole cleared forcedOn allOff overcurrentAt commandEnabledOff freshOf loadedFrom emptyStore toldOf tickOf tickWith allowedCount broughtBy risenOf changedOf trippedOf watchedIn commandedOf olderOf stepOf dog.risenOf dog.watchedOf isDark fromNominalToSafety enteringOf timerAfter resetsAfter leavesEmergency limitsOf safetyLow safetyHigh timeoutOf settingOf parameterOf rowOf find readWriteRows readOnlyRows lies defaultsOf defaultN column defaultOf clampOf atLeast atMost lowOf highOf
 all-caught =
@@ -90,3 +78,12 @@ all-caught =
       repeats-the-first = caught refl refl (λ e. let z : _≡_ {A = ℕ} 0x11 0x03 = cc in omega arith);
       makes-up-counts = caught refl refl (λ e. omega arith);
     }
+  where
+    refused : (r : Refusal) → answer (lastTold (refusesAll r) woken [] (sending 15000 noop)) ≡ some (numberOf r)
+    refused FewerThanFourBytes = refl
+    refused NotThisBoard = refl
+    refused CodeNotListed = refl
+    refused TooShort = refl
+    refused WrongKey = refl
+    refused WrongParameter = refl
+    refused NotANumber = refl

@@ -7,11 +7,10 @@ use mathlib.Core.Bool.{true, false}
 use mathlib.Core.List.{List, [], _∷_}
 use lib.Dec.{eqb}
 use lib.IntN.{ℤ}
-use lib.ListN.{getD}
 use Rattle.modes.specs.declared.Limits.{Limits}
 use Rattle.channels.specs.Sets.{has}
 use Rattle.channels.specs.Chan.{Chan, chan}
-use Rattle.channels.specs.Operations.{onAndCleared, offAndCleared, commandEnabled}
+use Rattle.channels.specs.Operations.{onAndCleared, offAndCleared}
 use Rattle.command.specs.Codes.{isIn}
 use Rattle.command.specs.Decode.{codeOf, byteAfter}
 use Rattle.state.specs.declared.parts.Board.{Board}

@@ -4,7 +4,7 @@
 -- Assumes nothing: these are definitions.
 use Prim.Native.Nat.{ℕ, suc, _<_}
 use mathlib.Core.Path.{_≡_}
-use mathlib.Core.Bool.{Bool, true, cond, not, _&&_, _||_}
+use mathlib.Core.Bool.{Bool, true, false, cond, not, _&&_, _||_}
 use mathlib.Core.List.{List, [], _∷_}
 use mathlib.Core.Option.{some}
 use lib.Dec.{eqb, ltb}
@@ -81,7 +81,7 @@ madeBy (at k each named becomes f ∷ rest) code ch = cond (eqb code k && named)
 
 -- whether one of them names it
 unfoldable pub namedBy : List Sentence → ℕ → Bool
-namedBy [] code = Bool.false
+namedBy [] code = false
 namedBy (at k each named becomes f ∷ rest) code = eqb code k && named || namedBy rest code
 
 -- ---- the claim, for a transfer
@@ -92,7 +92,8 @@ module _ (rail : ℤ) (limits : Limits) (s : List ℕ) (board : Board) where
   abbrev pub Answers : ℕ → Type 0
   Answers n = toldNumber (obeyed .outcome) ≡ some n
 
-  -- accepted, each channel is what the sentences make of it; refused, all channels are what they were
+  -- accepted, each channel is what the sentences make of it; refused, all channels are what they were, and so they are without a transfer
   pub record Groups : Type 0 where
     pub accepted : Answers 0 → (c : ℕ) → c < 32 → chan (obeyed .board .channels) c ≡ madeBy (sentences board s c) (codeOf s) (chan (board .channels) c)
     pub refused : (n : ℕ) → Answers (suc n) → obeyed .board .channels ≡ board .channels
+    pub no-transfer : commandedOf rail limits false s board .board ≡ board

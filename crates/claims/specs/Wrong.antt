@@ -1,7 +1,7 @@
 -- The wrong programs that document 01 names where it says how tight the contracts are. Each is as near to the machine as its description lets it be, and is caught on a
 -- run of a tick or two that begins on a machine which can be reached: document 01's machine then shows one thing and the program another. Assumes nothing: these are
 -- definitions.
-use Prim.Native.Nat.{ℕ, _^_}
+use Prim.Native.Nat.{ℕ}
 use mathlib.Core.Path.{_≡_}
 use mathlib.Core.Bool.{Bool, true, false, cond, not}
 use mathlib.Core.List.{List, [], _∷_}
@@ -34,7 +34,7 @@ use Rattle.unit.specs.Machine.{noMachine, begunOf, toldBy}
 use Rattle.unit.specs.declared.Machine.{Machine}
 use Rattle.unit.specs.declared.Told.{Told}
 use Rattle.claims.specs.Runs.{Sample, told, Reached}
-use Rattle.claims.specs.Counts.{isAccepted}
+use Rattle.claims.specs.Resets.{isAccepted}
 
 -- ---- programs
 -- a program has a state of its own, which it makes of the machine in whose place it is put; by each tick it tells something, the machine that it shows included
