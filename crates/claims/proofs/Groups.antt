@@ -1,15 +1,15 @@
 -- Why a command alters the channels that document 01 names for it and no others. Each command of the base list is run on any board; the laws of `channels` say what its
 -- operation makes of one channel, and that is what the sentences say. Assumes nothing.
-use Prim.Native.Nat.{ℕ, suc, _-_, _^_, _<_}
+use Prim.Native.Nat.{ℕ, suc, _<_}
 use mathlib.Core.Path.{_≡_, refl, sym, ap, _∙_, subst}
-use mathlib.Core.Bool.{Bool, true, false, cond, not, _&&_, and-true, or-true, false≢true}
+use mathlib.Core.Bool.{Bool, true, false, cond, not, _&&_, and-true, false≢true}
 use mathlib.Core.List.{List}
 use mathlib.Core.Option.{some}
 use lib.Dec.{eqb, ltb}
 use lib.IntN.{ℤ}
-use lib.ListN.{length}
+use lib.ListN.{length, replicate}
 use native.Mathlib.Omega.{arith}
-use borrow.Author.Tests.{ltb-true, ltb-false}
+use Rattle.wire.specs.Numbers.{number}
 use Rattle.value.specs.declared.Parsed.{Parsed}
 use Rattle.value.specs.Values.{readOf}
 use Rattle.settings.specs.Table.{parameterOf}
@@ -20,11 +20,11 @@ use Rattle.modes.specs.Commands.{toSafetyFrom, toSafety, toNominalFrom, toNomin
 use Rattle.modes.specs.declared.Mode.{Mode}
 use Rattle.modes.specs.declared.Mode.the-variants.{Startup, Nominal, Safety, Emergency}
 use Rattle.modes.specs.declared.Limits.{Limits}
-use Rattle.channels.specs.Sets.{has}
+use Rattle.channels.specs.Sets.{has, bit, allBelow}
 use Rattle.channels.specs.Chan.{Chan, chan}
 use Rattle.channels.specs.Operations.{onAndCleared, offAndCleared, groupStateOne, commandEnabled, forceEnabled}
 use Rattle.channels.specs.declared.Channels.{Channels}
-use Rattle.channels.proofs.Sets.{has-not, has-none, has-out}
+use Rattle.channels.proofs.Sets.{allBelow-each}
 use Rattle.channels.proofs.Cases.{cases}
 use Rattle.channels.proofs.Whole.{Held}
 use Rattle.channels.proofs.Laws as channel
@@ -55,20 +55,31 @@ mask-is : (s : List ℕ) → groupIn s .mask ≡ maskIn s
 unfolding groupIn
 mask-is s = cases (ltb (length s) 8) (λ e. rw e) (λ e. rw e)
 
--- the first n channels
-has-first : (n c : ℕ) → 0 < 2 ^ n → c < n → has (2 ^ n - 1 - 0) c ≡ true
-has-first n c p h = has-not n 0 c p h ∙ ap not (has-none c)
+same-bit : (x y : Bool) → eqb (bit x) (bit y) ≡ true → x ≡ y
+same-bit true true e = refl
+same-bit true false e = absurd (false≢true e)
+same-bit false true e = absurd (false≢true e)
+same-bit false false e = refl
 
+-- a transfer of six bytes and one of eight, worked out for each channel
+abbrev AgreeOn : List ℕ → Type 0
+AgreeOn s = allBelow 32 (λ c. eqb (bit (has (groupIn s .spoken) c)) (bit (isSpokenOf s c))) ≡ true
+
+agree-on-six : AgreeOn (replicate 6 0)
+unfolding allBelow has groupIn number
+agree-on-six = refl
+
+agree-on-eight : AgreeOn (replicate 8 0)
+unfolding allBelow has groupIn number
+agree-on-eight = refl
+
+-- and every transfer speaks of what one of those two does
 spoken-is : (s : List ℕ) (c : ℕ) → c < 32 → has (groupIn s .spoken) c ≡ isSpokenOf s c
 unfolding groupIn
 spoken-is s c h =
     cases (ltb (length s) 8)
-    (λ e.
-    rw e
-    (cases (ltb c 16)
-    (λ low. rw low (has-first 16 c (omega arith) (omega (arith, ltb-true))))
-    (λ high. rw high (has-out 16 (2 ^ 16 - 1) c (omega arith) (omega (arith, ltb-false))))))
-    (λ e. rw e (has-first 32 c (omega arith) h ∙ sym (or-true (ltb c 16))))
+    (λ short. rw short (same-bit _ _ (allBelow-each 32 _ agree-on-six c h)))
+    (λ long. rw long (same-bit _ _ (allBelow-each 32 _ agree-on-eight c h)))
 
 -- what 0x14 makes of a channel is what its three sentences make of it
 state-is : (f g s m : Bool) (ch : Chan)
