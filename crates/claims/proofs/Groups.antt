@@ -359,5 +359,5 @@ unfolding commandedOf
 groups rail limits s b = go (leaves rail limits s b)
   where
     go : Leaves rail limits s b (codeOf s) (commandedOf rail limits true s b) → Groups rail limits s b
-    go (refusing n t kept) = record { accepted = λ a. absurd (let z : _≡_ {A = ℕ} 0 (suc n) = cc in omega arith); refused = λ m a. kept .channels; no-transfer = refl }
-    go (accepting t made) = record { accepted = λ a. made .one-by-one; refused = λ m a. absurd (let z : _≡_ {A = ℕ} 0 (suc m) = cc in omega arith); no-transfer = refl }
+    go (refusing n t kept) = record { answered = (suc n, t); accepted = λ a. absurd (let z : _≡_ {A = ℕ} 0 (suc n) = cc in omega arith); refused = λ m a. kept .channels; no-transfer = refl }
+    go (accepting t made) = record { answered = (0, t); accepted = λ a. made .one-by-one; refused = λ m a. absurd (let z : _≡_ {A = ℕ} 0 (suc m) = cc in omega arith); no-transfer = refl }

@@ -4,3 +4,4 @@ pub mod Unfitted
 pub mod Counts
 pub mod Resets
 pub mod Wrong
+pub mod CountRuns

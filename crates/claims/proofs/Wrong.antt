@@ -46,10 +46,10 @@ unfolding tickedWith toldOf tickOf tickWith
 same-tick m i = refl
 
 -- the board after 50 quiet ticks: nominal just entered, and the forced channel on
-abbrev woken : Machine
+abbrev pub woken : Machine
 woken = record { board = withPhase (entered Nominal) (withChannels (forcedOn 0b1111 0b0001 cleared) (freshOf profile emptyStore neverReset)); due = Nothing }
 
-woken-reached : Reached woken
+pub woken-reached : Reached woken
 unfolding after begunOf startOf keepsTheRules isWithin allBelow has setOf listOf whole cleared forcedOn allOff overcurrentAt freshOf loadedFrom emptyStore toldOf tickOf tickWith allowedCount broughtBy risenOf changedOf trippedOf watchedIn commandedOf olderOf stepOf dog.risenOf dog.watchedOf isDark fromNominalToSafety enteringOf timerAfter resetsAfter leavesEmergency limitsOf safetyLow safetyHigh timeoutOf settingOf parameterOf rowOf find readWriteRows readOnlyRows lies defaultsOf defaultN column defaultOf clampOf atLeast atMost lowOf highOf
 woken-reached =
     record { there = noMachine; profile = profile; store = emptyStore; accepted = refl; past = replicate 50 (tick (quiet 15000)); is = refl }

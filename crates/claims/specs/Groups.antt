@@ -1,6 +1,7 @@
 -- Demand 2, groups: a command alters no channel but those that document 01 names for it, and each of those becomes what it says, for every mask, fitted set and forced
 -- set; a refused command alters none. This holds of every board, reachable or not, at every rail and every limits. `board` is the board as the command finds it, `s` the
--- bytes of the transfer, `has set c` says that channel c is in the set, and `chan channels c` is channel c: whether it is on, whether it is latched, and its count.
+-- bytes of the transfer, `has set c` says that channel c is in the set, and `chan channels c` is channel c: whether it is on, whether it is latched, and its count. A channel
+-- that becomes `onAndCleared` is on, `offAndCleared` off, both with no latch; `offAndLatchKept` is off with its latch as it was; and all three keep the count.
 -- Assumes nothing: these are definitions.
 use Prim.Native.Nat.{ℕ, suc, _<_}
 use mathlib.Core.Path.{_≡_}
@@ -43,8 +44,9 @@ pub data Sentence : Type 0 where
 abbrev pub asAfterAReset : Chan → Chan
 asAfterAReset ch = clearOne
 
--- Document 01's sentences, for channel c.
+-- document 01's sentences, for channel c
 module _ (board : Board) (s : List ℕ) (c : ℕ) where
+  -- by the profile: a fitted channel is force-enabled or command-enabled
   abbrev pub isFitted : Bool
   isFitted = has (board .profile .fitted) c
 
@@ -54,12 +56,14 @@ module _ (board : Board) (s : List ℕ) (c : ℕ) where
   abbrev pub isCommandEnabled : Bool
   isCommandEnabled = commandEnabled isFitted (has (board .profile .forced) c)
 
+  -- by the transfer: bit c of the mask, and the one channel whose index stands at byte 4
   abbrev pub isInTheMask : Bool
   isInTheMask = has (maskIn s) c
 
   abbrev pub isTheOne : Bool
   isTheOne = eqb c (byteAfter s)
 
+  -- 0x10 group on, 0x12 group off, 0x14 group state, 0x16 one on, 0x18 one off, 0x04 all command-enabled off, 0x32 from nominal into safety, 0xAA reset
   unfoldable pub sentences : List Sentence
   sentences =
       at 0x10 each (isFitted && isSpokenOf s c && isInTheMask) becomes onAndCleared
@@ -92,8 +96,9 @@ module _ (rail : ℤ) (limits : Limits) (s : List ℕ) (board : Board) where
   abbrev pub Answers : ℕ → Type 0
   Answers n = toldNumber (obeyed .outcome) ≡ some n
 
-  -- accepted, each channel is what the sentences make of it; refused, all channels are what they were, and so they are without a transfer
+  -- a transfer is answered; accepted, each channel is what the sentences make of it; refused, all channels are what they were; and without a transfer nothing changes
   pub record Groups : Type 0 where
+    pub answered : (n : ℕ) × Answers n
     pub accepted : Answers 0 → (c : ℕ) → c < 32 → chan (obeyed .board .channels) c ≡ madeBy (sentences board s c) (codeOf s) (chan (board .channels) c)
     pub refused : (n : ℕ) → Answers (suc n) → obeyed .board .channels ≡ board .channels
     pub no-transfer : commandedOf rail limits false s board .board ≡ board
