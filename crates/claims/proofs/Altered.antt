@@ -7,6 +7,8 @@ use lib.Dec.{eqb, ltb}
 use lib.IntN.{ℤ}
 use native.Mathlib.Omega.{arith}
 use borrow.Author.Tests.{ltb-false, eqb-true, eq-eqb}
+use Rattle.modes.specs.Table.{same}
+use Rattle.modes.specs.declared.Mode.the-variants.{Nominal}
 use Rattle.modes.specs.declared.Limits.{Limits}
 use Rattle.channels.specs.Sets.{has}
 use Rattle.channels.specs.Chan.{Chan, chan}
@@ -16,6 +18,7 @@ use Rattle.channels.proofs.Cases.{cases}
 use Rattle.command.specs.Codes.{isIn}
 use Rattle.command.specs.Decode.{codeOf, byteAfter}
 use Rattle.command.specs.Checks.{Check, _when_, first}
+use Rattle.state.specs.Parts.{modeOf}
 use Rattle.state.specs.declared.parts.Board.{Board}
 use Rattle.commands.specs.Step.{commandedOf}
 use Rattle.order.specs.Checks.{channelWrong, checksBy, checksOf}
@@ -74,6 +77,10 @@ module _ (rail : ℤ) (limits : Limits) (s : List ℕ) (b : Board) where
   no-sentence out c =
       let no : (k : ℕ) → isIn k altering ≡ true → eqb (codeOf s) k ≡ false = λ k here. other (codeOf s) k altering out here in
       rw (no 0x10 refl, no 0x12 refl, no 0x14 refl, no 0x16 refl, no 0x18 refl, no 0x04 refl, no 0x32 refl, no 0xAA refl)
+
+  not-in-nominal : codeOf s ≡ 0x32 → same (modeOf b) Nominal ≡ false → (c : ℕ) → namedBy (sentences b s c) (codeOf s) ≡ false
+  unfolding namedBy sentences
+  not-in-nominal e n c = rw (e, n)
 
   pub count-made : eqb (codeOf s) 0xAA ≡ false → (c : ℕ) (ch : Chan) → madeBy (sentences b s c) (codeOf s) ch .count ≡ ch .count
   unfolding sentences
@@ -152,6 +159,7 @@ module _ (rail : ℤ) (limits : Limits) (s : List ℕ) (b : Board) where
       record {
         only-named = λ a c h e. g .accepted a c h ∙ unnamed (sentences b s c) (codeOf s) (chan (b .channels) c) e;
         no-other-command = λ a out c h. g .accepted a c h ∙ unnamed (sentences b s c) (codeOf s) (chan (b .channels) c) (no-sentence out c);
+        no-effect-in-safety = λ a e n c h. g .accepted a c h ∙ unnamed (sentences b s c) (codeOf s) (chan (b .channels) c) (not-in-nominal e n c);
         counts-stay = λ e c h.
             after-refusal (λ x. x .count ≡ before rail limits s b c .count) c (leaves rail limits s b) refl
             (λ a. ap (λ (x : Chan). x .count) (g .accepted a c h) ∙ count-made e c (chan (b .channels) c));

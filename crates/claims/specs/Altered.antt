@@ -7,12 +7,15 @@ use mathlib.Core.Bool.{true, false}
 use mathlib.Core.List.{List, [], _∷_}
 use lib.Dec.{eqb}
 use lib.IntN.{ℤ}
+use Rattle.modes.specs.Table.{same}
+use Rattle.modes.specs.declared.Mode.the-variants.{Nominal}
 use Rattle.modes.specs.declared.Limits.{Limits}
 use Rattle.channels.specs.Sets.{has}
 use Rattle.channels.specs.Chan.{Chan, chan}
 use Rattle.channels.specs.Operations.{onAndCleared, offAndCleared}
 use Rattle.command.specs.Codes.{isIn}
 use Rattle.command.specs.Decode.{codeOf, byteAfter}
+use Rattle.state.specs.Parts.{modeOf}
 use Rattle.state.specs.declared.parts.Board.{Board}
 use Rattle.claims.specs.Groups.{obeyed, Answers, sentences, namedBy, isCommandEnabled, isFitted}
 
@@ -33,6 +36,8 @@ module _ (rail : ℤ) (limits : Limits) (s : List ℕ) (board : Board) where
     pub only-named : Answers rail limits s board 0 → (c : ℕ) → c < 32 → namedBy (sentences board s c) (codeOf s) ≡ false → afterwards c ≡ before c
     -- so every channel does at a command that is not among the eight
     pub no-other-command : Answers rail limits s board 0 → isIn (codeOf s) altering ≡ false → (c : ℕ) → c < 32 → afterwards c ≡ before c
+    -- and 0x32 alters none but in nominal
+    pub no-effect-in-safety : Answers rail limits s board 0 → codeOf s ≡ 0x32 → same (modeOf board) Nominal ≡ false → (c : ℕ) → c < 32 → afterwards c ≡ before c
     -- whatever is answered, a count stays and a force-enabled channel that is on stays on, but at 0xAA
     pub counts-stay : eqb (codeOf s) 0xAA ≡ false → (c : ℕ) → c < 32 → afterwards c .count ≡ before c .count
     pub forced-stay-on : eqb (codeOf s) 0xAA ≡ false → (c : ℕ) → c < 32 → has (board .profile .forced) c ≡ true → before c .on ≡ true → afterwards c .on ≡ true

@@ -1,6 +1,6 @@
--- Demand 2, the overcurrent counts: after any run from an accepted start, the count of a channel is the number of ticks since the last reset in which step 3 took that
--- channel off, up to 65,535. A tick that refusal 9 turned away did not happen and counts nothing, nor does a read of the text line. `m` is the machine before the call,
--- `bit` of true is 1 and of false 0. Assumes nothing: these are definitions.
+-- Demand 2, the overcurrent counts: start a machine from an accepted profile and run it as you like. The count of a channel then says how often step 3 turned it off since the
+-- machine was last reset, as far as 65,535 reaches. A tick refused with 9 did not happen and counts nothing, nor does a read of the text line. `m` is the machine before the
+-- call, `bit` of true is 1 and of false 0. Assumes nothing: these are definitions.
 use Prim.Native.Nat.{ℕ, _+_, _<_, min}
 use mathlib.Core.Path.{_≡_}
 use mathlib.Core.Bool.{Bool, true, false, not, _&&_, _||_}

@@ -1,8 +1,8 @@
--- Demand 2, groups: a command alters no channel but those that document 01 names for it, and each of those becomes what it says, for every mask, fitted set and forced
--- set; a refused command alters none. This holds of every board, reachable or not, at every rail and every limits. `board` is the board as the command finds it, `s` the
--- bytes of the transfer, `has set c` says that channel c is in the set, and `chan channels c` is channel c: whether it is on, whether it is latched, and its count. A channel
--- that becomes `onAndCleared` is on, `offAndCleared` off, both with no latch; `offAndLatchKept` is off with its latch as it was; and all three keep the count.
--- Assumes nothing: these are definitions.
+-- Demand 2, groups: what a command does to the channels. Document 01 has, for each command, the channels that it is about and what becomes of them; every other channel stays as
+-- it is, and so do all where the command is refused. Mask, fitted and forced channels may be any, the board need not be one that can be reached, and rail and limits are any.
+-- `board` is the board as the command finds it, `s` the bytes of the transfer, `has set c` says that channel c is in the set, and `chan channels c` is channel c: whether it is
+-- on, whether it is latched, and its count. A channel that becomes `onAndCleared` is on, `offAndCleared` off, both with no latch; `offAndLatchKept` is off with its latch as it
+-- was; and all three keep the count. Assumes nothing: these are definitions.
 use Prim.Native.Nat.{ℕ, suc, _<_}
 use mathlib.Core.Path.{_≡_}
 use mathlib.Core.Bool.{Bool, true, false, cond, not, _&&_, _||_}

@@ -1,6 +1,6 @@
 -- When a tick resets the machine, by what it tells: by a watchdog reset as its event, or by a command 0xAA that it accepted; and that this is so. Of every machine, reachable or
--- not, a tick that happens leaves the board in startup at age 0 exactly where it tells of a reset, and the board is then the one that document 01 says. A tick that refusal 9
--- turned away resets nothing. `m` is the machine before the tick. Assumes nothing: these are definitions.
+-- not, a tick that happens leaves the board in startup at age 0 exactly where it tells of a reset, and the board is then the one that document 01 says. A tick refused with 9
+-- resets nothing. `m` is the machine before the tick. Assumes nothing: these are definitions.
 use Prim.Native.Nat.{ℕ}
 use mathlib.Core.Path.{_≡_}
 use mathlib.Core.Bool.{Bool, true, false, _&&_, _||_}

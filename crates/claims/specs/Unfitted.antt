@@ -1,5 +1,5 @@
--- Demand 2, the channels that are not there: on every machine that can be reached, from an accepted profile by any calls, no channel that is not fitted is on or latched, and
--- the two sets hold no number above 31. The profile is then still the one that the machine was started with. Assumes nothing: these are definitions.
+-- Demand 2, the channels that a board does not have: whatever was done with a machine since its accepted start, such a channel is neither on nor latched, and the two sets hold
+-- no number above 31. The profile is then still the one that the machine was started with. Assumes nothing: these are definitions.
 use Prim.Native.Nat.{ℕ, _≤_, _<_}
 use mathlib.Core.Path.{_≡_}
 use mathlib.Core.Bool.{false}

@@ -1,5 +1,5 @@
--- The wrong programs that document 01 names where it says how tight the contracts are. Each is as near to the machine as its description lets it be, and is caught on a
--- run of a tick or two that begins on a machine which can be reached: document 01's machine then shows one thing and the program another. Assumes nothing: these are
+-- The six programs that document 01 wants caught, where it says how tight the contracts are. Each differs from the machine no more than what is said of it asks, and is caught on
+-- a run of a tick or two that begins on a machine which can be reached: document 01's machine then shows one thing and the program another. Assumes nothing: these are
 -- definitions.
 use Prim.Native.Nat.{ℕ}
 use mathlib.Core.Path.{_≡_}
@@ -89,7 +89,7 @@ refusing r rail limits sent s b =
 abbrev pub refusesAll : Refusal → Program
 refusesAll r = showing (toldWith trippedOf (refusing r))
 
--- 2. answers every command with the NOOP reply: each command does what it should, and where it makes a reply, that is the reply of an accepted 0x02
+-- 2. has the NOOP reply for every command: each command does what it should, and where it makes a reply, that is the reply of an accepted 0x02
 abbrev pub noopFor : Commanded → Board → Commanded
 noopFor c b = record { board = withReply (shortTo 0x02 Accepted b) (c .board); outcome = c .outcome; replied = true }
 
@@ -122,7 +122,7 @@ unchanged m i = record { machine = m; outcome = told m i .outcome; event = told 
 abbrev pub changesNothing : Program
 changesNothing = showing unchanged
 
--- 5. obeys the first tick, and then only repeats what it told
+-- 5. obeys one tick, the first, and tells at each later one what it told there
 pub data Once : Type 0 where
   fresh : Machine → Once
   done : Told → Once
