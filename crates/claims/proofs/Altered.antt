@@ -43,6 +43,7 @@ pub data Makes (P : Chan → Type 0) (code : ℕ) (ch : Chan) : List Sentence �
   none : Makes P code ch []
   _and_ : {k : ℕ} {named : Bool} {f : Chan → Chan} {rest : List Sentence} → ((eqb code k && named) ≡ true → P (f ch)) → Makes P code ch rest → Makes P code ch (at k each named becomes f ∷ rest)
 
+-- by going through the sentences
 pub made-so : (P : Chan → Type 0) (code : ℕ) (ch : Chan) (l : List Sentence) → Makes P code ch l → P ch → P (madeBy l code ch)
 unfolding madeBy
 made-so P code ch [] none p = p
@@ -58,30 +59,36 @@ unfolding first
 past n true rest e = absurd (omega arith)
 past n false rest e = e
 
+-- nor does the first of them
 none-here : (n : ℕ) (t : Bool) (rest : List Check) → first (suc n when t ∷ rest) ≡ 0 → t ≡ false
 unfolding first
 none-here n true rest e = absurd (omega arith)
 none-here n false rest e = refl
 
+-- a disjunction that fails fails on both sides
 neither : (x y : Bool) → (x || y) ≡ false → (x ≡ false) × (y ≡ false)
 neither true y e = absurd (false≢true (sym e))
 neither false y e = (refl, e)
 
+-- what is not false is true
 not-false : (x : Bool) → not x ≡ false → x ≡ true
 not-false true e = refl
 not-false false e = absurd (false≢true (sym e))
 
 module _ (rail : ℤ) (limits : Limits) (s : List ℕ) (b : Board) where
+  -- no sentence has a code outside the eight
   no-sentence : isIn (codeOf s) altering ≡ false → (c : ℕ) → namedBy (sentences b s c) (codeOf s) ≡ false
   unfolding isIn altering namedBy sentences
   no-sentence out c =
       let no : (k : ℕ) → isIn k altering ≡ true → eqb (codeOf s) k ≡ false = λ k here. other (codeOf s) k altering out here in
       rw (no 0x10 refl, no 0x12 refl, no 0x14 refl, no 0x16 refl, no 0x18 refl, no 0x04 refl, no 0x32 refl, no 0xAA refl)
 
+  -- the sentence of 0x32 asks for nominal
   not-in-nominal : codeOf s ≡ 0x32 → same (modeOf b) Nominal ≡ false → (c : ℕ) → namedBy (sentences b s c) (codeOf s) ≡ false
   unfolding namedBy sentences
   not-in-nominal e n c = rw (e, n)
 
+  -- no sentence but that of 0xAA alters a count
   pub count-made : eqb (codeOf s) 0xAA ≡ false → (c : ℕ) (ch : Chan) → madeBy (sentences b s c) (codeOf s) ch .count ≡ ch .count
   unfolding sentences
   count-made e c ch =
@@ -89,6 +96,7 @@ module _ (rail : ℤ) (limits : Limits) (s : List ℕ) (b : Board) where
       ((λ _. refl) and (λ _. refl) and (λ _. refl) and (λ _. refl) and (λ _. refl) and (λ _. refl) and (λ _. refl) and (λ _. refl) and (λ _. refl) and (λ t. failed (rw e at t)) and none)
       refl
 
+  -- no sentence but that of 0xAA turns a forced channel off: the others that turn off ask for command-enabled
   on-made : eqb (codeOf s) 0xAA ≡ false → (c : ℕ) (ch : Chan) → has (b .profile .forced) c ≡ true → ch .on ≡ true → madeBy (sentences b s c) (codeOf s) ch .on ≡ true
   unfolding sentences
   on-made e c ch g o =
@@ -106,6 +114,7 @@ module _ (rail : ℤ) (limits : Limits) (s : List ℕ) (b : Board) where
       and none)
       o
 
+  -- an accepted command has passed the check of its channel
   channel-right : Answers rail limits s b 0 → channelWrong (codeOf s) (b .profile) (byteAfter s) ≡ false
   unfolding commandedOf checksOf checksBy
   channel-right a =
@@ -119,20 +128,24 @@ module _ (rail : ℤ) (limits : Limits) (s : List ℕ) (b : Board) where
       let n = neither (ltb 31 (byteAfter s)) (not (has (b .profile .fitted) (byteAfter s))) w in
       (omega (arith, ltb-false 31 (byteAfter s) (n .0)), not-false (has (b .profile .fitted) (byteAfter s)) (n .1))
 
+  -- as above, with the forced channels wrong too
   right-off : wrongToSwitchOff (b .profile .fitted) (b .profile .forced) (byteAfter s) ≡ false → (byteAfter s < 32) × (isCommandEnabled b s (byteAfter s) ≡ true)
   right-off w =
       let n = neither (wrongToSwitchOn (b .profile .fitted) (byteAfter s)) (has (b .profile .forced) (byteAfter s)) w in
       let r = right-on (n .0) in
       (r .0, rw (r .1, n .1))
 
+  -- what 0x16 makes of its channel
   made-on : (code : ℕ) (ch : Chan) → code ≡ 0x16 → isFitted b s (byteAfter s) ≡ true → madeBy (sentences b s (byteAfter s)) code ch ≡ onAndCleared ch
   unfolding madeBy sentences
   made-on code ch e f = rw (e, f, eq-eqb (byteAfter s) (byteAfter s) refl)
 
+  -- what 0x18 makes of its channel
   made-off : (code : ℕ) (ch : Chan) → code ≡ 0x18 → isCommandEnabled b s (byteAfter s) ≡ true → madeBy (sentences b s (byteAfter s)) code ch ≡ offAndCleared ch
   unfolding madeBy sentences
   made-off code ch e f = rw (e, f, eq-eqb (byteAfter s) (byteAfter s) refl)
 
+  -- so an accepted 0x16 turns its channel on
   switched-on : Answers rail limits s b 0 → codeOf s ≡ 0x16
       → (byteAfter s < 32) × (isFitted b s (byteAfter s) ≡ true) × (afterwards rail limits s b (byteAfter s) ≡ onAndCleared (before rail limits s b (byteAfter s)))
   unfolding channelWrong
@@ -140,6 +153,7 @@ module _ (rail : ℤ) (limits : Limits) (s : List ℕ) (b : Board) where
       let r = right-on (rw e at (channel-right a)) in
       (r .0, r .1, groups rail limits s b .accepted a (byteAfter s) (r .0) ∙ made-on (codeOf s) _ e (r .1))
 
+  -- and an accepted 0x18 turns its channel off
   switched-off : Answers rail limits s b 0 → codeOf s ≡ 0x18
       → (byteAfter s < 32) × (isCommandEnabled b s (byteAfter s) ≡ true) × (afterwards rail limits s b (byteAfter s) ≡ offAndCleared (before rail limits s b (byteAfter s)))
   unfolding channelWrong
@@ -153,6 +167,7 @@ module _ (rail : ℤ) (limits : Limits) (s : List ℕ) (b : Board) where
   after-refusal P c (refusing n t kept) p q = subst (λ (x : Channels). P (chan x c)) (sym (kept .channels)) p
   after-refusal P c (accepting t made) p q = q t
 
+  -- the claim
   pub altered : Altered rail limits s b
   altered =
       let g = groups rail limits s b in

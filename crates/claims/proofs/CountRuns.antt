@@ -30,9 +30,11 @@ use Rattle.claims.specs.Counts.{hasReset, timesTakenOff}
 use Rattle.claims.specs.Wrong.{sending, reporting, noop, groupOn}
 use Rattle.claims.proofs.Wrong.{woken}
 
+-- overcurrent is reported of channel 0
 abbrev report : Call
 report = tick (reporting 0b0001 noop)
 
+-- 0x10 for channels 0 to 3
 abbrev bringBack : Call
 bringBack = tick (sending 15000 groupOn)
 
@@ -40,6 +42,7 @@ bringBack = tick (sending 15000 groupOn)
 abbrev resetCommand : List ℕ
 resetCommand = 0x11 ∷ 0x07 ∷ 0xAA ∷ 0x01 ∷ 0xA6 ∷ []
 
+-- the runs, in the order of the sentence above
 abbrev runs : List (List Call)
 runs =
     (report ∷ [])
@@ -49,6 +52,7 @@ runs =
     ∷ (tick (reporting 0b0001 resetCommand) ∷ [])
     ∷ []
 
+-- the number at the end of each
 pub worked-out : map (timesTakenOff 0 woken) runs ≡ 1 ∷ 1 ∷ 2 ∷ 0 ∷ 0 ∷ []
 unfolding timesTakenOff hasReset tellsReset tellsWatchdogReset tellsCommandReset toldOf tickOf tickWith allowedCount broughtBy risenOf changedOf trippedOf watchedIn commandedOf transferredOf decodedOf isStartup fewerThanFour headerIs groupIn number carried listed decodeBy decodeOf commands.table commands.find isIn baseCodes runOf groupOnOf switchedOf isNominal restartedOf commandResetOf acceptedOf acceptedWith channels.groupOn cleared forcedOn overcurrentAt has setOf listOf whole freshOf loadedFrom emptyStore olderOf stepOf dog.risenOf dog.watchedOf isDark fromNominalToSafety enteringOf timerAfter resetsAfter leavesEmergency limitsOf safetyLow safetyHigh timeoutOf numberOf parameterOf rowOf find readWriteRows readOnlyRows lies defaultsOf defaultN column defaultOf clampOf atLeast atMost lowOf highOf
 worked-out = refl

@@ -51,11 +51,13 @@ either : (c n : ℕ) (t : Bool) (x y : Channels) → chan x c .count ≡ n → c
 either c n true x y p q = p
 either c n false x y p q = q
 
+-- a command-enabled channel that goes off keeps its count
 off-count : (f g : Bool) (ch : Chan) → commandEnabledOffOne f g ch .count ≡ ch .count
 off-count true true ch = refl
 off-count true false ch = refl
 off-count false g ch = refl
 
+-- a change of mode, whichever it is, leaves each count
 entering-counts : (before next : Mode) (p : Profile) (ch : Channels) (c : ℕ) → c < 32 → chan (enteringOf before next p ch) c .count ≡ chan ch c .count
 unfolding enteringOf
 entering-counts before next p ch c h =
@@ -71,6 +73,7 @@ changed-counts : (m : Machine) (i : Sample) (c : ℕ) → c < 32 → countIn c (
 unfolding changedOf risenOf
 changed-counts m i c h = entering-counts _ _ (m .board .profile) (m .board .channels) c h
 
+-- step 3 counts a channel that is named and on
 settled-counts : (m : Machine) (i : Sample) (c : ℕ) → c < 32
     → countIn c (trippedOf (i .named) (afterStep2 m i)) ≡ cond (has (i .named) c && has (afterStep2 m i .channels .on) c) (min (countIn c (m .board) + 1) 65535) (countIn c (m .board))
 unfolding trippedOf
@@ -82,9 +85,11 @@ settled-counts m i c h =
 reset-counts : (c : ℕ) → c < 32 → getD (cleared .counts) c 0 ≡ 0
 reset-counts c h = ap (λ (x : Chan). x .count) (channel.cleared-each c h)
 
+-- a number above 0 is no acceptance
 pub not-accepted : (n : ℕ) → isAccepted (some (suc n)) ≡ false
 not-accepted n = cases (eqb (suc n) 0) (λ e. absurd (omega (arith, eqb-true (suc n) 0 e))) (λ e. e)
 
+-- a command leaves each count but where it is an accepted 0xAA
 left-counts : (rail : ℤ) (limits : Limits) (s : List ℕ) (b : Board) (c : ℕ) → c < 32 → (x : Commanded) → Leaves rail limits s b (codeOf s) x
     → countIn c (x .board) ≡ cond (isAccepted (toldNumber (x .outcome)) && eqb (codeOf s) 0xAA) 0 (countIn c b)
 unfolding commandResetOf freshOf
@@ -94,6 +99,7 @@ left-counts rail limits s b c h x (accepting t made) =
     (λ e. rw (t, e) (ap (λ (y : Board). countIn c y) (made .reset e) ∙ reset-counts c h))
     (λ e. rw (t, e) (ap (λ (y : Chan). y .count) (made .one-by-one c h) ∙ count-made rail limits s b e c (chan (b .channels) c)))
 
+-- and so does a tick's command, if it has one
 obeyed-counts : (rail : ℤ) (limits : Limits) (sent : Bool) (s : List ℕ) (b : Board) (c : ℕ) → c < 32
     → countIn c (commandedOf rail limits sent s b .board) ≡ cond (isAccepted (toldNumber (commandedOf rail limits sent s b .outcome)) && eqb (codeOf s) 0xAA) 0 (countIn c b)
 unfolding commandedOf
@@ -110,6 +116,7 @@ watched-counts x c h = go (dog.watchedOf (x .board .timer) (dog.secondsInTicks (
     go PeripheralReset = refl
     go WatchdogReset = reset-counts c h
 
+-- step 5 leaves what the command was answered
 pub watched-tells : (x : Commanded) → watchedIn x .outcome ≡ x .outcome
 unfolding watchedIn
 watched-tells x = go (dog.watchedOf (x .board .timer) (dog.secondsInTicks (timeoutOf (x .board .memory))))
@@ -124,10 +131,12 @@ watched-tells x = go (dog.watchedOf (x .board .timer) (dog.secondsInTicks (timeo
 abbrev countNext : Bool → Bool → ℕ → ℕ
 countNext reset off n = cond reset 0 (cond off (min (n + 1) 65535) n)
 
+-- a reset in step 5, or before it in step 4
 either-reset : (x y : Bool) (n : ℕ) → cond x 0 (cond y 0 n) ≡ cond (x || y) 0 n
 either-reset true y n = refl
 either-reset false y n = refl
 
+-- a tick that happens, step by step
 happened-counts : (m : Machine) (i : Sample) (c : ℕ) → c < 32 → (x : Commanded)
     → x ≡ commandedOf (i .rail) (limitsOf (m .board .memory)) (i .sent) (i .transfer) (trippedOf (i .named) (afterStep2 m i))
     → countIn c (watchedIn x .board)
@@ -142,6 +151,7 @@ happened-counts m i c h x e =
     rw (watched-tells x)
     (watched-counts x c h ∙ ap (λ (n : ℕ). cond w 0 n) obeyed ∙ either-reset w a _ ∙ ap (λ (n : ℕ). cond (w || a) 0 n) (settled-counts m i c h))
 
+-- any tick: one that does not happen leaves the count
 ticked-counts : (m : Machine) (i : Sample) (c : ℕ) → c < 32 → countIn c (told m i .machine .board) ≡ countNext (tellsReset m i) (takesOff c m i) (countIn c (m .board))
 unfolding toldOf tellsReset tellsWatchdogReset tellsCommandReset tickOf tickWith
 ticked-counts m i c h = cases (happens i) (λ e. rw e (happened-counts m i c h _ refl)) (λ e. rw e)
@@ -155,6 +165,7 @@ heard-counts c (TooLong behind) m = refl
 heard-counts c (NotOfForm behind) m = refl
 heard-counts c (ScratchTooShort behind) m = refl
 
+-- a read leaves each count, as a switch touches the form alone
 line-counts : (c : ℕ) (received : List ℕ) (room : ℕ) (m : Machine) → countIn c (heardOf received room m .machine .board) ≡ countIn c (m .board)
 unfolding heardOf
 line-counts c received room m = heard-counts c (lineOf (m .board .form) received room) m
@@ -165,6 +176,7 @@ at-most true off n h = omega arith
 at-most false true n h = omega arith
 at-most false false n h = h
 
+-- by the calls of the run, one after the other
 run-counts : (c : ℕ) → c < 32 → (m : Machine) (calls : List Call) → countIn c (m .board) ≤ 65535
     → countIn c (after m calls .board) ≡ min (cond (hasReset m calls) 0 (countIn c (m .board)) + timesTakenOff c m calls) 65535
 unfolding after hasReset timesTakenOff
@@ -188,6 +200,7 @@ started-counts : (there : Machine) (p : Profile) (store : Store) (c : ℕ) → c
 unfolding begunOf startOf freshOf
 started-counts there p store c h e = rw e (reset-counts c h)
 
+-- so the number is all that is left
 pub counts : (there : Machine) (p : Profile) (store : Store) → Counts there p store
 counts there p store =
     record {

@@ -55,6 +55,7 @@ mask-is : (s : List ℕ) → groupIn s .mask ≡ maskIn s
 unfolding groupIn
 mask-is s = cases (ltb (length s) 8) (λ e. rw e) (λ e. rw e)
 
+-- tests with the same bit are the same
 same-bit : (x y : Bool) → eqb (bit x) (bit y) ≡ true → x ≡ y
 same-bit true true e = refl
 same-bit true false e = absurd (false≢true e)
@@ -65,10 +66,12 @@ same-bit false false e = refl
 abbrev AgreeOn : List ℕ → Type 0
 AgreeOn s = allBelow 32 (λ c. eqb (bit (has (groupIn s .spoken) c)) (bit (isSpokenOf s c))) ≡ true
 
+-- two bytes of mask
 agree-on-six : AgreeOn (replicate 6 0)
 unfolding allBelow has groupIn number
 agree-on-six = refl
 
+-- four bytes of mask
 agree-on-eight : AgreeOn (replicate 8 0)
 unfolding allBelow has groupIn number
 agree-on-eight = refl
@@ -130,6 +133,7 @@ module _ (rail : ℤ) (limits : Limits) (s : List ℕ) (b : Board) where
   unfolding refusedOf
   unavailable k = refusing 5 refl (record { channels = refl; profile = refl; phase = refl })
 
+  -- 7, for a channel or a checksum
   wrong : (k : ℕ) → Leaves k (refusedOf Answer.Wrong k b)
   unfolding refusedOf
   wrong k = refusing 6 refl (record { channels = refl; profile = refl; phase = refl })
@@ -149,9 +153,11 @@ module _ (rail : ℤ) (limits : Limits) (s : List ℕ) (b : Board) where
       (either k (not right) (wrong k)
       (accepting refl (record { one-by-one = e; held = λ _. h; profile = refl; no-reset = λ _ _. refl; reset = λ r. absurd (false≢true (sym n ∙ r)) })))
 
+  -- the profile's two sets
   abbrev fitted : ℕ
   fitted = b .profile .fitted
 
+  -- those that are force-enabled
   abbrev forced : ℕ
   forced = b .profile .forced
 
@@ -159,20 +165,25 @@ module _ (rail : ℤ) (limits : Limits) (s : List ℕ) (b : Board) where
   abbrev done : channel.Command → Channels
   done o = channel.obeyed fitted forced o (b .channels)
 
+  -- they are 32
   done-held : (o : channel.Command) → Held (done o)
   done-held o = channel.after-held fitted forced (channel.commanded o) (b .channels)
 
+  -- and each is what the law of that command says
   done-at : (o : channel.Command) (c : ℕ) → c < 32 → chan (done o) c ≡ channel.obeyedOne fitted forced o c (chan (b .channels) c)
   done-at o c h = channel.each fitted forced (channel.commanded o) (b .channels) c h
 
+  -- 0x10
   group-on : (g : Group) → g ≡ groupIn s → Leaves 0x10 (groupOnOf 0x10 g b)
   unfolding groupOnOf madeBy sentences
   group-on g e = switched 0x10 true _ (λ c h. done-at (channel.group-on (g .spoken) (g .mask)) c h ∙ rw (e, spoken-is s c h, mask-is s)) (done-held (channel.group-on (g .spoken) (g .mask))) refl
 
+  -- 0x12
   group-off : (g : Group) → g ≡ groupIn s → Leaves 0x12 (groupOffOf 0x12 g b)
   unfolding groupOffOf madeBy sentences
   group-off g e = switched 0x12 true _ (λ c h. done-at (channel.group-off (g .spoken) (g .mask)) c h ∙ rw (e, spoken-is s c h, mask-is s)) (done-held (channel.group-off (g .spoken) (g .mask))) refl
 
+  -- 0x14
   group-state : (g : Group) → g ≡ groupIn s → Leaves 0x14 (groupStateOf 0x14 g b)
   unfolding groupStateOf madeBy sentences
   group-state g e =
@@ -181,10 +192,12 @@ module _ (rail : ℤ) (limits : Limits) (s : List ℕ) (b : Board) where
       (done-held (channel.group-state (g .spoken) (g .mask)))
       refl
 
+  -- 0x16
   channel-on : Leaves 0x16 (channelOnOf 0x16 (byteAfter s) b)
   unfolding channelOnOf madeBy sentences
   channel-on = switched 0x16 _ _ (λ c h. done-at (channel.switch-on (byteAfter s)) c h ∙ rw and-true) (done-held (channel.switch-on (byteAfter s))) refl
 
+  -- 0x18
   channel-off : Leaves 0x18 (channelOffOf 0x18 (byteAfter s) b)
   unfolding channelOffOf madeBy sentences
   channel-off = switched 0x18 _ _ (λ c h. done-at (channel.switch-off (byteAfter s)) c h ∙ rw and-true) (done-held (channel.switch-off (byteAfter s))) refl
@@ -206,6 +219,7 @@ module _ (rail : ℤ) (limits : Limits) (s : List ℕ) (b : Board) where
   abbrev NoSentence : ℕ → Type 0
   NoSentence k = (c : ℕ) → madeBy (sentences b s c) k (chan (b .channels) c) ≡ chan (b .channels) c
 
+  -- channels that stay, for a command that no sentence is about
   untouched : (k : ℕ) (after : Board) → after .channels ≡ b .channels → after .profile ≡ b .profile → (after .phase .mode ≡ Startup → after .phase ≡ b .phase) → NoSentence k → eqb k 0xAA ≡ false → Made k after
   untouched k after same-channels same-profile starts e n =
       record {
@@ -216,6 +230,7 @@ module _ (rail : ℤ) (limits : Limits) (s : List ℕ) (b : Board) where
         reset = λ r. absurd (false≢true (sym n ∙ r));
       }
 
+  -- the same where the mode stays too
   plainly : (k : ℕ) (c : Commanded) → toldNumber (c .outcome) ≡ some 0 → c .board .channels ≡ b .channels → c .board .profile ≡ b .profile → c .board .phase ≡ b .phase
       → NoSentence k → eqb k 0xAA ≡ false → Leaves k c
   plainly k c t same-channels same-profile same-phase e n =
@@ -237,6 +252,7 @@ module _ (rail : ℤ) (limits : Limits) (s : List ℕ) (b : Board) where
   to-safety Safety e = plainly 0x32 _ refl (rw e) refl refl (λ c. rw e) refl
   to-safety Emergency e = unavailable 0x32
 
+  -- 0x30 alters no channel, in whichever mode
   to-nominal : (m : Mode) → modeOf b ≡ m → Leaves 0x30 (switchedModeOf 0x30 (toNominalFrom m (b .phase) rail limits) b)
   unfolding switchedModeOf acceptedOf acceptedWith enteringOf isDark fromNominalToSafety madeBy sentences
   to-nominal Startup e = unavailable 0x30
@@ -252,14 +268,17 @@ module _ (rail : ℤ) (limits : Limits) (s : List ℕ) (b : Board) where
   unfolding parameterRun acceptedWith
   parameter k id p e n = plainly k _ refl refl refl refl e n
 
+  -- 0x90, 0x92
   remembered : (k : ℕ) (p : Memory) → NoSentence k → eqb k 0xAA ≡ false → Leaves k (rememberedOf k p b)
   unfolding rememberedOf acceptedOf acceptedWith
   remembered k p e n = plainly k _ refl refl refl refl e n
 
+  -- 0x94, which refuses a wrong checksum
   saved : (given : ℕ) → Leaves 0x94 (savedIn 0x94 given b)
   unfolding savedIn madeBy sentences
   saved given = either 0x94 (not (savedOf given (b .memory) .right)) (wrong 0x94) (remembered 0x94 _ (λ c. refl) refl)
 
+  -- 0xAA
   restarted : Leaves 0xAA (restartedOf b)
   unfolding restartedOf commandResetOf freshOf madeBy sentences
   restarted =
@@ -282,36 +301,43 @@ module _ (rail : ℤ) (limits : Limits) (s : List ℕ) (b : Board) where
   behind k true r d p = turned-down k r
   behind k false r d p = p
 
+  -- 0x82
   got : (id : ℕ) (p : Parameter) → Run-leaves 0x82 (getBy id p)
   unfolding decodedOf runOf madeBy sentences
   got id (ReadWrite t) = parameter 0x82 id _ (λ c. refl) refl
   got id (ReadOnly t) = parameter 0x82 id _ (λ c. refl) refl
   got id Unknown = turned-down 0x82 WrongParameter
 
+  -- 0x84, once its id is known
   value-set : (id : ℕ) (v : Parsed) → Run-leaves 0x84 (valued id v)
   unfolding decodedOf runOf valued madeBy sentences
   value-set id (Parsed.Value v) = parameter 0x84 id _ (λ c. refl) refl
   value-set id Parsed.TooShort = turned-down 0x84 TooShort
   value-set id Parsed.NotANumber = turned-down 0x84 NotANumber
 
+  -- 0x84
   set : (id : ℕ) (p : Parameter) (value : List ℕ) → Run-leaves 0x84 (setBy id p value)
   unfolding decodedOf
   set id (ReadWrite t) value = value-set id (readOf t value)
   set id (ReadOnly t) value = turned-down 0x84 WrongParameter
   set id Unknown value = turned-down 0x84 WrongParameter
 
+  -- 0x86
   reset-one : (id : ℕ) (p : Parameter) → Run-leaves 0x86 (resetBy id p)
   unfolding decodedOf runOf madeBy sentences
   reset-one id (ReadWrite t) = parameter 0x86 id _ (λ c. refl) refl
   reset-one id (ReadOnly t) = turned-down 0x86 WrongParameter
   reset-one id Unknown = turned-down 0x86 WrongParameter
 
+  -- a command that may be too short
   plain : (k needed : ℕ) (d : Decoded) → Run-leaves k d → Run-leaves k (cond (ltb (length s) needed) (Refused TooShort) d)
   plain k needed d p = behind k (ltb (length s) needed) TooShort d p
 
+  -- a command that may be too short, or have a wrong key
   keyed : (k needed key : ℕ) (d : Decoded) → Run-leaves k d → Run-leaves k (cond (ltb (length s) needed) (Refused TooShort) (cond (not (eqb (byteAfter s) key)) (Refused WrongKey) d))
   keyed k needed key d p = plain k needed _ (behind k (not (eqb (byteAfter s) key)) WrongKey d p)
 
+  -- by the base list, code by code
   in-list : (code : ℕ) → isIn code baseCodes ≡ true → Run-leaves code (listed (find table code) s)
   unfolding listed find table baseCodes carried getting setting resetting decodedOf runOf acceptedOf acceptedWith faultsOf housekeepingOf toSafety toNominal madeBy sentences
   in-list code h =
@@ -346,6 +372,7 @@ module _ (rail : ℤ) (limits : Limits) (s : List ℕ) (b : Board) where
       (behind (codeOf s) (not (headerIs (headerOf (b .profile)) s)) NotThisBoard _
       (cases (isIn (codeOf s) baseCodes) (λ here. rw here (in-list (codeOf s) here)) (λ other. rw other (turned-down (codeOf s) CodeNotListed))))
 
+  -- checks 1 and 2, and then the decoder's
   pub leaves : Leaves (codeOf s) (commandedOf rail limits true s b)
   unfolding commandedOf transferredOf
   leaves =

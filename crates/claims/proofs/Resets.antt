@@ -45,10 +45,12 @@ by-row : (t : Bool) (n : Mode) (rest : ModeAge) → same n Startup ≡ false →
 by-row true n rest e p = rw e
 by-row false n rest e p = p
 
+-- startup is left for nominal or safety
 nominal-or-safety : (t : Bool) → same (cond t Nominal Safety) Startup ≡ false
 nominal-or-safety true = refl
 nominal-or-safety false = refl
 
+-- an age above 0 is no new start
 old-goes-on : (s : ModeAge) → 0 < s .age → isOver s ≡ false
 old-goes-on s h = rw (ne-eqb (s .age) 0 (omega arith)) (and-false (same (s .mode) Startup))
 
@@ -57,10 +59,12 @@ abbrev Elsewhere : List Row → Type 0
 Elsewhere [] = Unit {0}
 Elsewhere ((from m when b to n) ∷ rows) = (same n Startup ≡ false) × Elsewhere rows
 
+-- so no row starts the board over
 by-rows : (rows : List Row) (s : ModeAge) → Elsewhere rows → isOver s ≡ false → isOver (first rows s) ≡ false
 by-rows [] s t o = o
 by-rows ((from m when b to n) ∷ rows) s t o = by-row (same m (s .mode) && b) n (first rows s) (t .0) (by-rows rows s (t .1) o)
 
+-- nor does the table
 step-goes-on : (s : ModeAge) (rail : ℤ) (limits : Limits) → 0 < s .age → isOver (stepOf s rail limits) ≡ false
 unfolding stepOf
 step-goes-on s rail limits h =
@@ -68,10 +72,12 @@ step-goes-on s rail limits h =
     (nominal-or-safety (rail at-least limits .«safety_low»), (refl, (refl, (refl, (refl, tt)))))
     (old-goes-on s h)
 
+-- step 1 makes an age at least 1
 older : (s : ModeAge) → 0 < olderOf s .age
 unfolding olderOf
 older s = omega arith
 
+-- so no board starts over before its command
 settled-goes-on : (m : Machine) (i : Sample) → isOver (afterStep3 m i .phase) ≡ false
 unfolding trippedOf changedOf risenOf
 settled-goes-on m i = step-goes-on (olderOf (m .board .phase)) (i .rail) (limitsOf (m .board .memory)) (older (m .board .phase))
@@ -87,6 +93,7 @@ is-startup Emergency e = absurd (false≢true e)
 goes-on : (p q : ModeAge) → (q .mode ≡ Startup → q ≡ p) → isOver p ≡ false → isOver q ≡ false
 goes-on p q e o = cases (same (q .mode) Startup) (λ s. ap isOver (e (is-startup (q .mode) s)) ∙ o) (λ s. rw s)
 
+-- by a command a board starts over where that is an accepted 0xAA, and nowhere else
 left-over : (rail : ℤ) (limits : Limits) (s : List ℕ) (b : Board) → isOver (b .phase) ≡ false → (x : Commanded) → Leaves rail limits s b (codeOf s) x
     → isOver (x .board .phase) ≡ (isAccepted (toldNumber (x .outcome)) && eqb (codeOf s) 0xAA)
 unfolding commandResetOf freshOf
@@ -96,6 +103,7 @@ left-over rail limits s b o x (accepting t made) =
     (λ e. rw (t, e) (ap (λ (y : Board). isOver (y .phase)) (made .reset e)))
     (λ e. rw (t, e) (goes-on (b .phase) (x .board .phase) (made .no-reset e) o))
 
+-- the same for a tick's command, if it has one
 obeyed-over : (rail : ℤ) (limits : Limits) (sent : Bool) (s : List ℕ) (b : Board) → isOver (b .phase) ≡ false
     → isOver (commandedOf rail limits sent s b .board .phase) ≡ (isAccepted (toldNumber (commandedOf rail limits sent s b .outcome)) && eqb (codeOf s) 0xAA)
 unfolding commandedOf
@@ -134,6 +142,7 @@ watchdog-resets x = go (dog.watchedOf (x .board .timer) (dog.secondsInTicks (tim
 timer-at-0 : (w : ℕ) → dog.watchedOf 0 w ≡ NoEvent
 timer-at-0 w = ⊎-elim (λ (h : 0 < w). early 0 w h h (omega arith)) (λ (h : w ≤ 0). disabled 0 w (omega arith)) (lt-or-le 0 w)
 
+-- a reset sets the timer to 0
 reset-timer : (b : Board) → commandResetOf b .timer ≡ 0
 unfolding commandResetOf freshOf
 reset-timer b = refl
@@ -146,23 +155,27 @@ command-resets x b e =
     let t : x .board .timer ≡ 0 = ap (λ (y : Board). y .timer) e ∙ reset-timer b in
     ap (λ (n : ℕ). watchedAs (dog.watchedOf n w) x .board) t ∙ ap (λ (v : Event). watchedAs v x .board) (timer-at-0 w) ∙ e
 
+-- an accepted 0xAA leaves the board of its reset
 left-reset : (rail : ℤ) (limits : Limits) (s : List ℕ) (b : Board) (x : Commanded) → Leaves rail limits s b (codeOf s) x
     → (isAccepted (toldNumber (x .outcome)) && eqb (codeOf s) 0xAA) ≡ true → x .board ≡ commandResetOf b
 left-reset rail limits s b x (refusing n t kept) e = failed (rw (t, not-accepted n) at e)
 left-reset rail limits s b x (accepting t made) e = cases (eqb (codeOf s) 0xAA) (λ k. made .reset k) (λ k. failed (rw (t, k) at e))
 
+-- the same for a tick's command, if it has one
 obeyed-reset : (rail : ℤ) (limits : Limits) (sent : Bool) (s : List ℕ) (b : Board)
     → (isAccepted (toldNumber (commandedOf rail limits sent s b .outcome)) && eqb (codeOf s) 0xAA) ≡ true → commandedOf rail limits sent s b .board ≡ commandResetOf b
 unfolding commandedOf
 obeyed-reset rail limits false s b e = failed e
 obeyed-reset rail limits true s b e = left-reset rail limits s b _ (leaves rail limits s b) e
 
+-- and so does the tick
 commanded-reset : (m : Machine) (i : Sample) (x : Commanded) → x ≡ commandedOf (i .rail) (limitsOf (m .board .memory)) (i .sent) (i .transfer) (afterStep3 m i)
     → (isAccepted (toldNumber (watchedIn x .outcome)) && eqb (codeOf (i .transfer)) 0xAA) ≡ true → watchedIn x .board ≡ commandResetOf (afterStep3 m i)
 commanded-reset m i x q e =
     command-resets x (afterStep3 m i)
     (rw q (obeyed-reset (i .rail) (limitsOf (m .board .memory)) (i .sent) (i .transfer) (afterStep3 m i) (rw (watched-tells x, q) at e)))
 
+-- any tick: one that does not happen tells of no reset
 pub reset-is-told : (m : Machine) (i : Sample) → ResetIsTold m i
 unfolding toldOf tellsReset tellsWatchdogReset tellsCommandReset tickOf tickWith
 reset-is-told m i =

@@ -50,14 +50,17 @@ pub record Stands (p : Profile) (b : Board) : Type 0 where
   pub profile : b .profile ≡ p
   pub sound : Sound p (b .channels)
 
+-- whatever the laws of the channels speak of keeps it
 by-event : (p : Profile) (e : channel.Event) (ch : Channels) → Sound p ch → Sound p (channel.after (p .fitted) (p .forced) e ch)
 by-event p e ch s =
     record { held = channel.after-held (p .fitted) (p .forced) e ch; dark = λ c h f. channel.stays-dark (p .fitted) (p .forced) e ch c h f (s .dark c h f) }
 
+-- a choice between two
 either : (p : Profile) (t : Bool) {x y : Channels} → Sound p x → Sound p y → Sound p (cond t x y)
 either p true s u = s
 either p false s u = u
 
+-- a reset has all channels off and unlatched
 pub after-reset : (p : Profile) → Sound p cleared
 after-reset p =
     record { held = channel.cleared-held; dark = λ c h f. rw (channel.cleared-each c h) (record { off = refl; unlatched = refl }) }
@@ -94,6 +97,7 @@ made-dark s b code c ch f d =
     and none)
     d
 
+-- a refused command alters no channel, and no sentence names one that is not fitted, but that of 0xAA, which turns it off
 pub commanded : (rail : ℤ) (limits : Limits) (sent : Bool) (s : List ℕ) (p : Profile) (b : Board) → Stands p b → Stands p (commandedOf rail limits sent s b .board)
 unfolding commandedOf
 commanded rail limits false s p b u = u
@@ -130,6 +134,7 @@ ticked rail named words sent s p b u =
     (λ allowed. rw allowed (watched p (commandedOf rail limits sent s found) (commanded rail limits sent s p found (settled rail limits named words p b u))))
     (λ not-allowed. rw not-allowed u)
 
+-- a read of the text line touches no channel
 heard : (p : Profile) (l : Line) (m : Machine) → Stands p (m .board) → Stands p (afterLine l m .board)
 heard p (Switch form behind) m u = record { profile = u .profile; sound = u .sound }
 heard p (Command start end behind) m u = u
@@ -138,20 +143,24 @@ heard p (TooLong behind) m u = u
 heard p (NotOfForm behind) m u = u
 heard p (ScratchTooShort behind) m u = u
 
+-- any call
 called : (p : Profile) (m : Machine) (call : Call) → Stands p (m .board) → Stands p (afterCall m call .board)
 unfolding toldOf heardOf
 called p m (tick i) u = ticked (i .rail) (i .named) (i .words) (i .sent) (i .transfer) p (m .board) u
 called p m (line received room) u = heard p (lineOf (m .board .form) received room) m u
 
+-- any calls, one after the other
 pub run : (p : Profile) (m : Machine) (calls : List Call) → Stands p (m .board) → Stands p (after m calls .board)
 unfolding after
 run p m [] u = u
 run p m (call ∷ calls) u = run p (afterCall m call) calls (called p m call u)
 
+-- an accepted start
 pub started : (there : Machine) (p : Profile) (store : Store) → keepsTheRules p store ≡ true → Stands p (begunOf there p store .machine .board)
 unfolding begunOf startOf freshOf
 started there p store e = rw e (record { profile = refl; sound = after-reset p })
 
+-- so every reached machine stands so
 pub reached : (m : Machine) (r : Reached m) → Stands (r .profile) (m .board)
 reached m r = subst (λ (x : Machine). Stands (r .profile) (x .board)) (sym (r .is)) (run (r .profile) _ (r .past) (started (r .there) (r .profile) (r .store) (r .accepted)))
 

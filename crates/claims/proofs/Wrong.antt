@@ -49,15 +49,18 @@ same-tick m i = refl
 abbrev pub woken : Machine
 woken = record { board = withPhase (entered Nominal) (withChannels (forcedOn 0b1111 0b0001 cleared) (freshOf profile emptyStore neverReset)); due = Nothing }
 
+-- it can be reached: the 50 ticks are worked out
 pub woken-reached : Reached woken
 unfolding after begunOf startOf keepsTheRules isWithin allBelow has setOf listOf whole cleared forcedOn allOff overcurrentAt freshOf loadedFrom emptyStore toldOf tickOf tickWith allowedCount broughtBy risenOf changedOf trippedOf watchedIn commandedOf olderOf stepOf dog.risenOf dog.watchedOf isDark fromNominalToSafety enteringOf timerAfter resetsAfter leavesEmergency limitsOf safetyLow safetyHigh timeoutOf settingOf parameterOf rowOf find readWriteRows readOnlyRows lies defaultsOf defaultN column defaultOf clampOf atLeast atMost lowOf highOf
 woken-reached =
     record { there = noMachine; profile = profile; store = emptyStore; accepted = refl; past = replicate 50 (tick (quiet 15000)); is = refl }
 
+-- a program is caught on that board by what the two then show
 caught : {A : Type 0} {p : Program} {sees : Told → A} {before : List Sample} {last : Sample} {right wrong : A}
     → sees (lastTold document01 woken before last) ≡ right → sees (lastTold p woken before last) ≡ wrong → (right ≡ wrong → ⊥) → Caught p sees before last right wrong
 caught r w d = record { m = woken; reached = woken-reached; machine-shows = r; program-shows = w; differ = d }
 
+-- no refusal has the number 0
 no-zero : (r : Refusal) → some 0 ≡ some (numberOf r) → ⊥
 no-zero FewerThanFourBytes e = let z : _≡_ {A = ℕ} 0 1 = cc in omega arith
 no-zero NotThisBoard e = let z : _≡_ {A = ℕ} 0 3 = cc in omega arith
@@ -67,6 +70,7 @@ no-zero WrongKey e = let z : _≡_ {A = ℕ} 0 7 = cc in omega arith
 no-zero WrongParameter e = let z : _≡_ {A = ℕ} 0 7 = cc in omega arith
 no-zero NotANumber e = let z : _≡_ {A = ℕ} 0 7 = cc in omega arith
 
+-- each run, worked out
 pub all-caught : AllCaught
 unfolding stateAfter tickedWith refusing replyingNoop stayingInSafety unchanged countingAllNamed countAll groupOn groupIn number bytesOf shown written replyOf room laidOut replyCode shortReply faultsReply channelWords commands.table commands.find isIn baseCodes fewerThanFour headerIs carried listed decodeBy decodeOf acceptedWith acceptedOf refusedOf notThisBoardOf isNominal switchedOf groupOnOf switchedModeOf faultsOf runOf isStartup turnedDown decodedOf transferredOf toNominal has setOf listOf whole cleared forcedOn allOff overcurrentAt commandEnabledOff freshOf loadedFrom emptyStore toldOf tickOf tickWith allowedCount broughtBy risenOf changedOf trippedOf watchedIn commandedOf olderOf stepOf dog.risenOf dog.watchedOf isDark fromNominalToSafety enteringOf timerAfter resetsAfter leavesEmergency limitsOf safetyLow safetyHigh timeoutOf settingOf parameterOf rowOf find readWriteRows readOnlyRows lies defaultsOf defaultN column defaultOf clampOf atLeast atMost lowOf highOf
 all-caught =
