@@ -2,7 +2,7 @@
 -- operation makes of one channel, and that is what the sentences say. Assumes nothing.
 use Prim.Native.Nat.{ℕ, suc, _<_}
 use mathlib.Core.Path.{_≡_, refl, sym, ap, _∙_, subst}
-use mathlib.Core.Bool.{Bool, true, false, cond, not, _&&_, and-true, false≢true}
+use mathlib.Core.Bool.{Bool, true, false, cond, not, _&&_, and-true, and-false, false≢true}
 use mathlib.Core.List.{List}
 use mathlib.Core.Option.{some}
 use lib.Dec.{eqb, ltb}
@@ -181,7 +181,11 @@ module _ (rail : ℤ) (limits : Limits) (s : List ℕ) (b : Board) where
   -- 0x12
   group-off : (g : Group) → g ≡ groupIn s → Leaves 0x12 (groupOffOf 0x12 g b)
   unfolding groupOffOf madeBy sentences
-  group-off g e = switched 0x12 true _ (λ c h. done-at (channel.group-off (g .spoken) (g .mask)) c h ∙ rw (e, spoken-is s c h, mask-is s)) (done-held (channel.group-off (g .spoken) (g .mask))) refl
+  group-off g e =
+      switched 0x12 true _
+      (λ c h. done-at (channel.group-off (g .spoken) (g .mask)) c h ∙ rw (e, spoken-is s c h, mask-is s) (cases (has forced c) (λ f. simp (f, and-false)) (λ f. simp f)))
+      (done-held (channel.group-off (g .spoken) (g .mask)))
+      refl
 
   -- 0x14
   group-state : (g : Group) → g ≡ groupIn s → Leaves 0x14 (groupStateOf 0x14 g b)
