@@ -1,7 +1,7 @@
 -- The number of times that channel 0 was taken off, worked out on short runs of a board in nominal, where that channel is forced and on: once by a report; not once more while it
 -- is off; twice where 0x10 brought it back between two reports; and not at all where a reset came behind the report or in the same tick. Assumes nothing.
 use Prim.Native.Nat.{ℕ}
-use mathlib.Core.Path.{_≡_, refl}
+use mathlib.Core.Path.{_≡_, refl, ap, _∙_}
 use mathlib.Core.List.{List, [], _∷_, map}
 use Rattle.wire.specs.Numbers.{number}
 use Rattle.settings.specs.Table.{lies, rowOf, find, readWriteRows, readOnlyRows, parameterOf, column, defaultOf, clampOf, atLeast, atMost, lowOf, highOf}
@@ -24,11 +24,12 @@ use Rattle.commands.specs.Effects.{isNominal, switchedOf, groupOnOf, restartedO
 use Rattle.commands.specs.Step.{isStartup, decodedOf, transferredOf, commandedOf}
 use Rattle.board.specs.Tick.{broughtBy, risenOf, changedOf, trippedOf, watchedIn, tickWith, allowedCount, tickOf}
 use Rattle.unit.specs.Machine.{toldOf}
+use Rattle.unit.specs.declared.Machine.{Machine}
 use Rattle.claims.specs.Runs.{Call, tick}
 use Rattle.claims.specs.Resets.{tellsWatchdogReset, tellsCommandReset, tellsReset}
 use Rattle.claims.specs.Counts.{hasReset, timesTakenOff}
-use Rattle.claims.specs.Wrong.{sending, reporting, noop, groupOn}
-use Rattle.claims.proofs.Wrong.{woken}
+use Rattle.claims.specs.Wrong.{awake, sending, reporting, noop, groupOn}
+use Rattle.claims.proofs.Wrong.{woken, awake-is}
 
 -- overcurrent is reported of channel 0
 abbrev report : Call
@@ -52,7 +53,11 @@ runs =
     ∷ (tick (reporting 0b0001 resetCommand) ∷ [])
     ∷ []
 
--- the number at the end of each
-pub worked-out : map (timesTakenOff 0 woken) runs ≡ 1 ∷ 1 ∷ 2 ∷ 0 ∷ 0 ∷ []
+-- on the board as it then is
+on-woken : map (timesTakenOff 0 woken) runs ≡ 1 ∷ 1 ∷ 2 ∷ 0 ∷ 0 ∷ []
 unfolding timesTakenOff hasReset tellsReset tellsWatchdogReset tellsCommandReset toldOf tickOf tickWith allowedCount broughtBy risenOf changedOf trippedOf watchedIn commandedOf transferredOf decodedOf isStartup fewerThanFour headerIs groupIn number carried listed decodeBy decodeOf commands.table commands.find isIn baseCodes runOf groupOnOf switchedOf isNominal restartedOf commandResetOf acceptedOf acceptedWith channels.groupOn cleared forcedOn overcurrentAt has setOf listOf whole freshOf loadedFrom emptyStore olderOf stepOf dog.risenOf dog.watchedOf isDark fromNominalToSafety enteringOf timerAfter resetsAfter leavesEmergency limitsOf safetyLow safetyHigh timeoutOf numberOf parameterOf rowOf find readWriteRows readOnlyRows lies defaultsOf defaultN column defaultOf clampOf atLeast atMost lowOf highOf
-worked-out = refl
+on-woken = refl
+
+-- the number at the end of each run
+pub worked-out : map (timesTakenOff 0 awake) runs ≡ 1 ∷ 1 ∷ 2 ∷ 0 ∷ 0 ∷ []
+worked-out = ap (λ (m : Machine). map (timesTakenOff 0 m) runs) awake-is ∙ on-woken

@@ -1,6 +1,6 @@
 -- Why each wrong program is caught: its run and the machine's are worked out, from a board that has just come into nominal. Assumes nothing.
 use Prim.Native.Nat.{ℕ}
-use mathlib.Core.Path.{_≡_, refl}
+use mathlib.Core.Path.{_≡_, refl, ap, _∙_}
 use mathlib.Core.List.{List, []}
 use mathlib.Core.Option.{some}
 use lib.ListN.{replicate}
@@ -38,7 +38,7 @@ use Rattle.unit.specs.Machine.{noMachine, begunOf, toldOf}
 use Rattle.unit.specs.declared.Machine.{Machine}
 use Rattle.unit.specs.declared.Told.{Told}
 use Rattle.claims.specs.Runs.{Sample, told, tick, after, Reached}
-use Rattle.claims.specs.Wrong.{Program, document01, stateAfter, lastTold, Caught, tickedWith, toldWith, refusing, refusesAll, replyingNoop, stayingInSafety, unchanged, countingAllNamed, profile, quiet, sending, noop, answer, AllCaught}
+use Rattle.claims.specs.Wrong.{awake, Program, document01, stateAfter, lastTold, Caught, tickedWith, toldWith, refusing, refusesAll, replyingNoop, stayingInSafety, unchanged, countingAllNamed, profile, quiet, sending, noop, answer, AllCaught}
 
 -- the tick with document 01's own steps 3 and 4 in it is document 01's
 pub same-tick : (m : Machine) (i : Sample) → toldWith trippedOf commandedOf m i ≡ told m i
@@ -49,16 +49,25 @@ same-tick m i = refl
 abbrev pub woken : Machine
 woken = record { board = withPhase (entered Nominal) (withChannels (forcedOn 0b1111 0b0001 cleared) (freshOf profile emptyStore neverReset)); due = Nothing }
 
--- it can be reached: the 50 ticks are worked out
-pub woken-reached : Reached woken
+-- those 50 ticks, worked out
+pub awake-is : awake ≡ woken
 unfolding after begunOf startOf keepsTheRules isWithin allBelow has setOf listOf whole cleared forcedOn allOff overcurrentAt freshOf loadedFrom emptyStore toldOf tickOf tickWith allowedCount broughtBy risenOf changedOf trippedOf watchedIn commandedOf olderOf stepOf dog.risenOf dog.watchedOf isDark fromNominalToSafety enteringOf timerAfter resetsAfter leavesEmergency limitsOf safetyLow safetyHigh timeoutOf settingOf parameterOf rowOf find readWriteRows readOnlyRows lies defaultsOf defaultN column defaultOf clampOf atLeast atMost lowOf highOf
-woken-reached =
-    record { there = noMachine; profile = profile; store = emptyStore; accepted = refl; past = replicate 50 (tick (quiet 15000)); is = refl }
+awake-is = refl
 
--- a program is caught on that board by what the two then show
+-- the profile keeps document 01's rules, so the machine is one that can be reached
+pub awake-reached : Reached awake
+unfolding keepsTheRules isWithin allBelow has emptyStore
+awake-reached = record { there = noMachine; profile = profile; store = emptyStore; accepted = refl; past = replicate 50 (tick (quiet 15000)); is = refl }
+
+-- a program is caught by what the two then show
 caught : {A : Type 0} {p : Program} {sees : Told → A} {before : List Sample} {last : Sample} {right wrong : A}
     → sees (lastTold document01 woken before last) ≡ right → sees (lastTold p woken before last) ≡ wrong → (right ≡ wrong → ⊥) → Caught p sees before last right wrong
-caught r w d = record { m = woken; reached = woken-reached; machine-shows = r; program-shows = w; differ = d }
+caught {p} {sees} {before} {last} r w d =
+    record {
+      machine-shows = ap (λ (m : Machine). sees (lastTold document01 m before last)) awake-is ∙ r;
+      program-shows = ap (λ (m : Machine). sees (lastTold p m before last)) awake-is ∙ w;
+      differ = d;
+    }
 
 -- no refusal has the number 0
 no-zero : (r : Refusal) → some 0 ≡ some (numberOf r) → ⊥

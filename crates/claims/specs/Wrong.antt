@@ -1,5 +1,5 @@
 -- The six programs that document 01 wants caught, where it says how tight the contracts are. Each differs from the machine no more than what is said of it asks, and is caught on
--- a run of a tick or two that begins on a machine which can be reached: document 01's machine then shows one thing and the program another. Assumes nothing: these are
+-- a run of a tick or two on a board that was started and came into nominal: document 01's machine then shows one thing and the program another. Assumes nothing: these are
 -- definitions.
 use Prim.Native.Nat.{ℕ}
 use mathlib.Core.Path.{_≡_}
@@ -7,7 +7,7 @@ use mathlib.Core.Bool.{Bool, true, false, cond, not}
 use mathlib.Core.List.{List, [], _∷_}
 use mathlib.Core.Option.{Option, some}
 use lib.IntN.{ℤ, pos}
-use lib.ListN.{length, getD}
+use lib.ListN.{length, getD, replicate}
 use Rattle.wire.specs.Replies.{shown}
 use Rattle.modes.specs.Table.{same, olderOf}
 use Rattle.modes.specs.declared.Mode.{Mode}
@@ -33,7 +33,7 @@ use Rattle.board.specs.declared.Ticked.{Ticked}
 use Rattle.unit.specs.Machine.{noMachine, begunOf, toldBy}
 use Rattle.unit.specs.declared.Machine.{Machine}
 use Rattle.unit.specs.declared.Told.{Told}
-use Rattle.claims.specs.Runs.{Sample, told, Reached}
+use Rattle.claims.specs.Runs.{Sample, told, tick, after}
 use Rattle.claims.specs.Resets.{isAccepted}
 
 -- ---- programs
@@ -59,14 +59,6 @@ stateAfter p s (i ∷ is) = stateAfter p (p .next s i) is
 
 abbrev pub lastTold : Program → Machine → List Sample → Sample → Told
 lastTold p m before last = p .tells (stateAfter p (p .start m) before) last
-
--- A program is caught: there is a machine that can be reached and a run from it, at whose last tick document 01's machine shows one thing and the program another.
-pub record Caught {A : Type 0} (p : Program) (sees : Told → A) (before : List Sample) (last : Sample) (right wrong : A) : Type 0 where
-  pub m : Machine
-  pub reached : Reached m
-  pub machine-shows : sees (lastTold document01 m before last) ≡ right
-  pub program-shows : sees (lastTold p m before last) ≡ wrong
-  pub differ : right ≡ wrong → ⊥
 
 -- ---- the tick of document 01 with another step 3 or step 4 in it
 module _ (three : ℕ → Board → Board) (four : ℤ → Limits → Bool → List ℕ → Board → Commanded) where
@@ -152,7 +144,7 @@ profile = record { fitted = 0b1111; forced = 0b0001; bid = 1 }
 abbrev pub begun : Machine
 begun = begunOf noMachine profile emptyStore .machine
 
--- a tick at a rail in millivolts, without or with a transfer, or with overcurrent reported besides
+-- a tick at a rail in millivolts, without a transfer or with one, and one with overcurrent reported besides
 abbrev pub quiet : ℕ → Sample
 quiet rail = record { rail = pos rail; named = 0; words = []; sent = false; transfer = [] }
 
@@ -175,6 +167,10 @@ toNominal = 0x11 ∷ 0x07 ∷ 0x30 ∷ 0x01 ∷ []
 abbrev pub faults : List ℕ
 faults = 0x11 ∷ 0x07 ∷ 0x42 ∷ 0x01 ∷ []
 
+-- the machine on which the runs begin: 50 quiet ticks after its start it has come into nominal, with channel 0 on
+abbrev pub awake : Machine
+awake = after begun (replicate 50 (tick (quiet 15000)))
+
 -- what is looked at
 abbrev pub reply : Told → List ℕ
 reply t = shown (t .machine .board .reply)
@@ -192,6 +188,12 @@ abbrev pub answer : Told → Option ℕ
 answer t = toldNumber (t .outcome)
 
 -- ---- the claim
+-- a program is caught: put in the place of that machine and run, it shows one thing at the last tick, and document 01's machine another
+pub record Caught {A : Type 0} (p : Program) (sees : Told → A) (before : List Sample) (last : Sample) (right wrong : A) : Type 0 where
+  pub machine-shows : sees (lastTold document01 awake before last) ≡ right
+  pub program-shows : sees (lastTold p awake before last) ≡ wrong
+  pub differ : right ≡ wrong → ⊥
+
 pub record AllCaught : Type 0 where
   -- a NOOP is answered 0, and by the first program with its refusal, whichever that is
   pub refuses-all : (r : Refusal) → Caught (refusesAll r) answer [] (sending 15000 noop) (some 0) (some (numberOf r))
