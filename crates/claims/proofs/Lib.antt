@@ -6,3 +6,10 @@ pub mod Refused
 pub mod RefusedTicks
 pub mod RefusalExamples
 pub mod Untouched
+pub mod Groups
+pub mod Altered
+pub mod Unfitted
+pub mod Counts
+pub mod Resets
+pub mod Wrong
+pub mod CountRuns

@@ -1,0 +1,187 @@
+-- Why a tick tells of a reset exactly where the board starts over: step 1 makes every age at least 1, no row of the table and no command but 0xAA leads into startup, and both
+-- kinds of reset do so at age 0. Assumes nothing.
+use Prim.Native.Nat.{ℕ, _<_, _≤_}
+use mathlib.Core.Path.{_≡_, refl, sym, ap, _∙_}
+use mathlib.Core.Bool.{Bool, true, false, cond, _&&_, _||_, and-false, false≢true}
+use mathlib.Core.List.{List, [], _∷_}
+use mathlib.Core.Logic.{⊎-elim}
+use native.Mathlib.Omega.{arith}
+use lib.Dec.{eqb}
+use lib.IntN.{ℤ}
+use borrow.Author.Tests.{ne-eqb}
+use Rattle.modes.specs.Table.{_at-least_, same, entered, Row, from_when_to_, table, first, stepOf, olderOf}
+use Rattle.modes.specs.declared.Mode.{Mode}
+use Rattle.modes.specs.declared.Mode.the-variants.{Startup, Nominal, Safety, Emergency}
+use Rattle.modes.specs.declared.ModeAge.{ModeAge}
+use Rattle.modes.specs.declared.Limits.{Limits}
+use Rattle.channels.proofs.Cases.{cases}
+use Rattle.command.specs.Decode.{codeOf}
+use Rattle.laws.proofs.Lists.{lt-or-le}
+use Rattle.watchdog.specs.Watchdog as dog
+use Rattle.watchdog.proofs.Laws.{early, disabled}
+use Rattle.watchdog.specs.declared.Event.{Event}
+use Rattle.watchdog.specs.declared.Event.the-variants.{NoEvent, PeripheralReset, WatchdogReset}
+use Rattle.memory.specs.Limits.{timeoutOf, limitsOf}
+use Rattle.state.specs.Start.{freshOf, watchdogResetOf, commandResetOf}
+use Rattle.state.specs.declared.parts.Board.{Board}
+use Rattle.answers.specs.Answers.{toldNumber}
+use Rattle.answers.specs.declared.Commanded.{Commanded}
+use Rattle.commands.specs.Step.{commandedOf}
+use Rattle.board.specs.Tick.{risenOf, changedOf, trippedOf, watchedAs, watchedIn, tickWith, tickOf}
+use Rattle.unit.specs.Machine.{toldOf}
+use Rattle.unit.specs.declared.Machine.{Machine}
+use Rattle.claims.specs.Runs.{Sample}
+use Rattle.claims.specs.Resets.{happens, afterStep3, isByWatchdog, isAccepted, tellsWatchdogReset, tellsCommandReset, tellsReset, ResetIsTold}
+use Rattle.claims.proofs.Groups.{Leaves, refusing, accepting, leaves}
+use Rattle.claims.proofs.Altered.{failed}
+use Rattle.claims.proofs.Counts.{not-accepted, watched-tells}
+
+-- startup at age 0
+abbrev isOver : ModeAge → Bool
+isOver p = same (p .mode) Startup && eqb (p .age) 0
+
+-- ---- steps 1 to 3
+by-row : (t : Bool) (n : Mode) (rest : ModeAge) → same n Startup ≡ false → isOver rest ≡ false → isOver (cond t (entered n) rest) ≡ false
+by-row true n rest e p = rw e
+by-row false n rest e p = p
+
+-- startup is left for nominal or safety
+nominal-or-safety : (t : Bool) → same (cond t Nominal Safety) Startup ≡ false
+nominal-or-safety true = refl
+nominal-or-safety false = refl
+
+-- an age above 0 is no new start
+old-goes-on : (s : ModeAge) → 0 < s .age → isOver s ≡ false
+old-goes-on s h = rw (ne-eqb (s .age) 0 (omega arith)) (and-false (same (s .mode) Startup))
+
+-- no row of the table leads into startup
+abbrev Elsewhere : List Row → Type 0
+Elsewhere [] = Unit {0}
+Elsewhere ((from m when b to n) ∷ rows) = (same n Startup ≡ false) × Elsewhere rows
+
+-- so no row starts the board over
+by-rows : (rows : List Row) (s : ModeAge) → Elsewhere rows → isOver s ≡ false → isOver (first rows s) ≡ false
+by-rows [] s t o = o
+by-rows ((from m when b to n) ∷ rows) s t o = by-row (same m (s .mode) && b) n (first rows s) (t .0) (by-rows rows s (t .1) o)
+
+-- nor does the table
+step-goes-on : (s : ModeAge) (rail : ℤ) (limits : Limits) → 0 < s .age → isOver (stepOf s rail limits) ≡ false
+unfolding stepOf
+step-goes-on s rail limits h =
+    by-rows (table (s .age) rail limits) s
+    (nominal-or-safety (rail at-least limits .«safety_low»), (refl, (refl, (refl, (refl, tt)))))
+    (old-goes-on s h)
+
+-- step 1 makes an age at least 1
+older : (s : ModeAge) → 0 < olderOf s .age
+unfolding olderOf
+older s = omega arith
+
+-- so no board starts over before its command
+settled-goes-on : (m : Machine) (i : Sample) → isOver (afterStep3 m i .phase) ≡ false
+unfolding trippedOf changedOf risenOf
+settled-goes-on m i = step-goes-on (olderOf (m .board .phase)) (i .rail) (limitsOf (m .board .memory)) (older (m .board .phase))
+
+-- ---- step 4
+is-startup : (m : Mode) → same m Startup ≡ true → m ≡ Startup
+is-startup Startup e = refl
+is-startup Nominal e = absurd (false≢true e)
+is-startup Safety e = absurd (false≢true e)
+is-startup Emergency e = absurd (false≢true e)
+
+-- a phase that is another only where it is not startup
+goes-on : (p q : ModeAge) → (q .mode ≡ Startup → q ≡ p) → isOver p ≡ false → isOver q ≡ false
+goes-on p q e o = cases (same (q .mode) Startup) (λ s. ap isOver (e (is-startup (q .mode) s)) ∙ o) (λ s. rw s)
+
+-- by a command a board starts over where that is an accepted 0xAA, and nowhere else
+left-over : (rail : ℤ) (limits : Limits) (s : List ℕ) (b : Board) → isOver (b .phase) ≡ false → (x : Commanded) → Leaves rail limits s b (codeOf s) x
+    → isOver (x .board .phase) ≡ (isAccepted (toldNumber (x .outcome)) && eqb (codeOf s) 0xAA)
+unfolding commandResetOf freshOf
+left-over rail limits s b o x (refusing n t kept) = rw (t, not-accepted n, kept .phase) o
+left-over rail limits s b o x (accepting t made) =
+    cases (eqb (codeOf s) 0xAA)
+    (λ e. rw (t, e) (ap (λ (y : Board). isOver (y .phase)) (made .reset e)))
+    (λ e. rw (t, e) (goes-on (b .phase) (x .board .phase) (made .no-reset e) o))
+
+-- the same for a tick's command, if it has one
+obeyed-over : (rail : ℤ) (limits : Limits) (sent : Bool) (s : List ℕ) (b : Board) → isOver (b .phase) ≡ false
+    → isOver (commandedOf rail limits sent s b .board .phase) ≡ (isAccepted (toldNumber (commandedOf rail limits sent s b .outcome)) && eqb (codeOf s) 0xAA)
+unfolding commandedOf
+obeyed-over rail limits false s b o = o
+obeyed-over rail limits true s b o = left-over rail limits s b o _ (leaves rail limits s b)
+
+-- ---- step 5
+watched-over : (x : Commanded) → (isByWatchdog (watchedIn x .event) || isOver (x .board .phase)) ≡ isOver (watchedIn x .board .phase)
+unfolding watchedIn watchdogResetOf freshOf
+watched-over x = go (dog.watchedOf (x .board .timer) (dog.secondsInTicks (timeoutOf (x .board .memory))))
+  where
+    go : (e : Event) → (isByWatchdog (watchedAs e x .event) || isOver (x .board .phase)) ≡ isOver (watchedAs e x .board .phase)
+    go NoEvent = refl
+    go PeripheralReset = refl
+    go WatchdogReset = refl
+
+-- ---- the claim
+happened : (m : Machine) (i : Sample) (x : Commanded) → x ≡ commandedOf (i .rail) (limitsOf (m .board .memory)) (i .sent) (i .transfer) (afterStep3 m i)
+    → (isByWatchdog (watchedIn x .event) || (isAccepted (toldNumber (watchedIn x .outcome)) && eqb (codeOf (i .transfer)) 0xAA)) ≡ isOver (watchedIn x .board .phase)
+happened m i x e =
+    let o : isOver (x .board .phase) ≡ (isAccepted (toldNumber (x .outcome)) && eqb (codeOf (i .transfer)) 0xAA) =
+    rw e (obeyed-over (i .rail) (limitsOf (m .board .memory)) (i .sent) (i .transfer) _ (settled-goes-on m i)) in
+    rw (watched-tells x) (ap (λ (y : Bool). isByWatchdog (watchedIn x .event) || y) (sym o) ∙ watched-over x)
+
+-- the board of a tick that happens and whose event is a reset
+watchdog-resets : (x : Commanded) → isByWatchdog (watchedIn x .event) ≡ true → watchedIn x .board ≡ watchdogResetOf (x .board)
+unfolding watchedIn
+watchdog-resets x = go (dog.watchedOf (x .board .timer) (dog.secondsInTicks (timeoutOf (x .board .memory))))
+  where
+    go : (e : Event) → isByWatchdog (watchedAs e x .event) ≡ true → watchedAs e x .board ≡ watchdogResetOf (x .board)
+    go NoEvent e = failed e
+    go PeripheralReset e = failed e
+    go WatchdogReset e = refl
+
+-- a timer at 0 brings no event
+timer-at-0 : (w : ℕ) → dog.watchedOf 0 w ≡ NoEvent
+timer-at-0 w = ⊎-elim (λ (h : 0 < w). early 0 w h h (omega arith)) (λ (h : w ≤ 0). disabled 0 w (omega arith)) (lt-or-le 0 w)
+
+-- a reset sets the timer to 0
+reset-timer : (b : Board) → commandResetOf b .timer ≡ 0
+unfolding commandResetOf freshOf
+reset-timer b = refl
+
+-- so a reset by command is what the tick leaves
+command-resets : (x : Commanded) (b : Board) → x .board ≡ commandResetOf b → watchedIn x .board ≡ commandResetOf b
+unfolding watchedIn
+command-resets x b e =
+    let w = dog.secondsInTicks (timeoutOf (x .board .memory)) in
+    let t : x .board .timer ≡ 0 = ap (λ (y : Board). y .timer) e ∙ reset-timer b in
+    ap (λ (n : ℕ). watchedAs (dog.watchedOf n w) x .board) t ∙ ap (λ (v : Event). watchedAs v x .board) (timer-at-0 w) ∙ e
+
+-- an accepted 0xAA leaves the board of its reset
+left-reset : (rail : ℤ) (limits : Limits) (s : List ℕ) (b : Board) (x : Commanded) → Leaves rail limits s b (codeOf s) x
+    → (isAccepted (toldNumber (x .outcome)) && eqb (codeOf s) 0xAA) ≡ true → x .board ≡ commandResetOf b
+left-reset rail limits s b x (refusing n t kept) e = failed (rw (t, not-accepted n) at e)
+left-reset rail limits s b x (accepting t made) e = cases (eqb (codeOf s) 0xAA) (λ k. made .reset k) (λ k. failed (rw (t, k) at e))
+
+-- the same for a tick's command, if it has one
+obeyed-reset : (rail : ℤ) (limits : Limits) (sent : Bool) (s : List ℕ) (b : Board)
+    → (isAccepted (toldNumber (commandedOf rail limits sent s b .outcome)) && eqb (codeOf s) 0xAA) ≡ true → commandedOf rail limits sent s b .board ≡ commandResetOf b
+unfolding commandedOf
+obeyed-reset rail limits false s b e = failed e
+obeyed-reset rail limits true s b e = left-reset rail limits s b _ (leaves rail limits s b) e
+
+-- and so does the tick
+commanded-reset : (m : Machine) (i : Sample) (x : Commanded) → x ≡ commandedOf (i .rail) (limitsOf (m .board .memory)) (i .sent) (i .transfer) (afterStep3 m i)
+    → (isAccepted (toldNumber (watchedIn x .outcome)) && eqb (codeOf (i .transfer)) 0xAA) ≡ true → watchedIn x .board ≡ commandResetOf (afterStep3 m i)
+commanded-reset m i x q e =
+    command-resets x (afterStep3 m i)
+    (rw q (obeyed-reset (i .rail) (limitsOf (m .board .memory)) (i .sent) (i .transfer) (afterStep3 m i) (rw (watched-tells x, q) at e)))
+
+-- any tick: one that does not happen tells of no reset
+pub reset-is-told : (m : Machine) (i : Sample) → ResetIsTold m i
+unfolding toldOf tellsReset tellsWatchdogReset tellsCommandReset tickOf tickWith
+reset-is-told m i =
+    record {
+      exactly = λ e. rw e (happened m i _ refl);
+      by-watchdog = λ e. cases (happens i) (λ a. rw a (watchdog-resets _ (rw a at e))) (λ a. failed (rw a at e));
+      by-command = λ e. cases (happens i) (λ a. rw a (commanded-reset m i _ refl (rw a at e))) (λ a. failed (rw a at e));
+      not-happened = λ e. rw e;
+    }

@@ -1,0 +1,102 @@
+-- Why each wrong program is caught: its run and the machine's are worked out, from a board that has just come into nominal. Assumes nothing.
+use Prim.Native.Nat.{ℕ}
+use mathlib.Core.Path.{_≡_, refl, ap, _∙_}
+use mathlib.Core.List.{List, []}
+use mathlib.Core.Option.{some}
+use lib.ListN.{replicate}
+use native.Mathlib.Omega.{arith}
+use Rattle.wire.specs.Numbers.{bytesOf, number}
+use Rattle.wire.specs.Replies.{shown, written, replyOf, room, laidOut, replyCode}
+use Rattle.settings.specs.Table.{lies, rowOf, find, readWriteRows, readOnlyRows, parameterOf, column, defaultOf, clampOf, atLeast, atMost, lowOf, highOf}
+use Rattle.settings.specs.Values.{numberOf as settingOf, defaultsOf, defaultN}
+use Rattle.modes.specs.Table.{entered, stepOf, olderOf}
+use Rattle.modes.specs.Commands.{toNominal}
+use Rattle.modes.specs.declared.Mode.the-variants.{Nominal}
+use Rattle.channels.specs.Sets.{has, setOf, listOf, isWithin, allBelow}
+use Rattle.channels.specs.Chan.{whole}
+use Rattle.channels.specs.Operations.{cleared, forcedOn, allOff, overcurrentAt, commandEnabledOff, groupOn}
+use Rattle.channels.specs.Counting.{countAll}
+use Rattle.command.specs.Table as commands
+use Rattle.command.specs.Codes.{isIn, baseCodes}
+use Rattle.command.specs.Decode.{fewerThanFour, headerIs, groupIn, carried, listed, decodeBy, decodeOf}
+use Rattle.command.specs.Answers.{numberOf}
+use Rattle.command.specs.declared.Refusal.{Refusal}
+use Rattle.command.specs.declared.Refusal.the-variants.{FewerThanFourBytes, NotThisBoard, CodeNotListed, TooShort, WrongKey, WrongParameter, NotANumber}
+use Rattle.watchdog.specs.Watchdog as dog
+use Rattle.memory.specs.Limits.{limitsOf, safetyLow, safetyHigh, timeoutOf}
+use Rattle.memory.specs.Memory.{emptyStore, loadedFrom}
+use Rattle.replies.specs.Layouts.{shortReply, faultsReply, channelWords}
+use Rattle.state.specs.Parts.{withPhase, withChannels}
+use Rattle.state.specs.Start.{freshOf, keepsTheRules, startOf, neverReset}
+use Rattle.state.specs.Change.{isDark, fromNominalToSafety, enteringOf, timerAfter, resetsAfter, leavesEmergency}
+use Rattle.answers.specs.Answers.{acceptedWith, acceptedOf, refusedOf, notThisBoardOf}
+use Rattle.commands.specs.Effects.{isNominal, switchedOf, groupOnOf, switchedModeOf, faultsOf, runOf}
+use Rattle.commands.specs.Step.{isStartup, turnedDown, decodedOf, transferredOf, commandedOf}
+use Rattle.board.specs.Tick.{broughtBy, risenOf, changedOf, trippedOf, watchedIn, tickWith, allowedCount, tickOf}
+use Rattle.text.specs.declared.framing.Due.the-variants.{Nothing}
+use Rattle.unit.specs.Machine.{noMachine, begunOf, toldOf}
+use Rattle.unit.specs.declared.Machine.{Machine}
+use Rattle.unit.specs.declared.Told.{Told}
+use Rattle.claims.specs.Runs.{Sample, told, tick, after, Reached}
+use Rattle.claims.specs.Wrong.{awake, Program, document01, stateAfter, lastTold, Caught, tickedWith, toldWith, refusing, refusesAll, replyingNoop, stayingInSafety, unchanged, countingAllNamed, profile, quiet, sending, noop, answer, AllCaught}
+
+-- the tick with document 01's own steps 3 and 4 in it is document 01's
+pub same-tick : (m : Machine) (i : Sample) → toldWith trippedOf commandedOf m i ≡ told m i
+unfolding tickedWith toldOf tickOf tickWith
+same-tick m i = refl
+
+-- the board after 50 quiet ticks: nominal just entered, and the forced channel on
+abbrev pub woken : Machine
+woken = record { board = withPhase (entered Nominal) (withChannels (forcedOn 0b1111 0b0001 cleared) (freshOf profile emptyStore neverReset)); due = Nothing }
+
+-- those 50 ticks, worked out
+pub awake-is : awake ≡ woken
+unfolding after begunOf startOf keepsTheRules isWithin allBelow has setOf listOf whole cleared forcedOn allOff overcurrentAt freshOf loadedFrom emptyStore toldOf tickOf tickWith allowedCount broughtBy risenOf changedOf trippedOf watchedIn commandedOf olderOf stepOf dog.risenOf dog.watchedOf isDark fromNominalToSafety enteringOf timerAfter resetsAfter leavesEmergency limitsOf safetyLow safetyHigh timeoutOf settingOf parameterOf rowOf find readWriteRows readOnlyRows lies defaultsOf defaultN column defaultOf clampOf atLeast atMost lowOf highOf
+awake-is = refl
+
+-- the profile keeps document 01's rules, so the machine is one that can be reached
+pub awake-reached : Reached awake
+unfolding keepsTheRules isWithin allBelow has emptyStore
+awake-reached = record { there = noMachine; profile = profile; store = emptyStore; accepted = refl; past = replicate 50 (tick (quiet 15000)); is = refl }
+
+-- a program is caught by what the two then show
+caught : {A : Type 0} {p : Program} {sees : Told → A} {before : List Sample} {last : Sample} {right wrong : A}
+    → sees (lastTold document01 woken before last) ≡ right → sees (lastTold p woken before last) ≡ wrong → (right ≡ wrong → ⊥) → Caught p sees before last right wrong
+caught {p} {sees} {before} {last} r w d =
+    record {
+      machine-shows = ap (λ (m : Machine). sees (lastTold document01 m before last)) awake-is ∙ r;
+      program-shows = ap (λ (m : Machine). sees (lastTold p m before last)) awake-is ∙ w;
+      differ = d;
+    }
+
+-- no refusal has the number 0
+no-zero : (r : Refusal) → some 0 ≡ some (numberOf r) → ⊥
+no-zero FewerThanFourBytes e = let z : _≡_ {A = ℕ} 0 1 = cc in omega arith
+no-zero NotThisBoard e = let z : _≡_ {A = ℕ} 0 3 = cc in omega arith
+no-zero CodeNotListed e = let z : _≡_ {A = ℕ} 0 4 = cc in omega arith
+no-zero TooShort e = let z : _≡_ {A = ℕ} 0 5 = cc in omega arith
+no-zero WrongKey e = let z : _≡_ {A = ℕ} 0 7 = cc in omega arith
+no-zero WrongParameter e = let z : _≡_ {A = ℕ} 0 7 = cc in omega arith
+no-zero NotANumber e = let z : _≡_ {A = ℕ} 0 7 = cc in omega arith
+
+-- each run, worked out
+pub all-caught : AllCaught
+unfolding stateAfter tickedWith refusing replyingNoop stayingInSafety unchanged countingAllNamed countAll groupOn groupIn number bytesOf shown written replyOf room laidOut replyCode shortReply faultsReply channelWords commands.table commands.find isIn baseCodes fewerThanFour headerIs carried listed decodeBy decodeOf acceptedWith acceptedOf refusedOf notThisBoardOf isNominal switchedOf groupOnOf switchedModeOf faultsOf runOf isStartup turnedDown decodedOf transferredOf toNominal has setOf listOf whole cleared forcedOn allOff overcurrentAt commandEnabledOff freshOf loadedFrom emptyStore toldOf tickOf tickWith allowedCount broughtBy risenOf changedOf trippedOf watchedIn commandedOf olderOf stepOf dog.risenOf dog.watchedOf isDark fromNominalToSafety enteringOf timerAfter resetsAfter leavesEmergency limitsOf safetyLow safetyHigh timeoutOf settingOf parameterOf rowOf find readWriteRows readOnlyRows lies defaultsOf defaultN column defaultOf clampOf atLeast atMost lowOf highOf
+all-caught =
+    record {
+      refuses-all = λ r. caught refl (refused r) (no-zero r);
+      answers-noop = caught refl refl (λ e. let z : _≡_ {A = ℕ} 0x11 0x03 = cc in omega arith);
+      stays-in-safety = caught refl refl (λ e. let z : _≡_ {A = ℕ} 0 1 = cc in omega arith);
+      changes-nothing = caught refl refl (λ e. omega arith);
+      repeats-the-first = caught refl refl (λ e. let z : _≡_ {A = ℕ} 0x11 0x03 = cc in omega arith);
+      makes-up-counts = caught refl refl (λ e. omega arith);
+    }
+  where
+    refused : (r : Refusal) → answer (lastTold (refusesAll r) woken [] (sending 15000 noop)) ≡ some (numberOf r)
+    refused FewerThanFourBytes = refl
+    refused NotThisBoard = refl
+    refused CodeNotListed = refl
+    refused TooShort = refl
+    refused WrongKey = refl
+    refused WrongParameter = refl
+    refused NotANumber = refl

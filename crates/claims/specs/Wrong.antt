@@ -1,0 +1,209 @@
+-- The six programs that document 01 wants caught, where it says how tight the contracts are. Each differs from the machine no more than what is said of it asks, and is caught on
+-- a run of a tick or two on a board that was started and came into nominal: document 01's machine then shows one thing and the program another. Assumes nothing: these are
+-- definitions.
+use Prim.Native.Nat.{ℕ}
+use mathlib.Core.Path.{_≡_}
+use mathlib.Core.Bool.{Bool, true, false, cond, not}
+use mathlib.Core.List.{List, [], _∷_}
+use mathlib.Core.Option.{Option, some}
+use lib.IntN.{ℤ, pos}
+use lib.ListN.{length, getD, replicate}
+use Rattle.wire.specs.Replies.{shown}
+use Rattle.modes.specs.Table.{same, olderOf}
+use Rattle.modes.specs.declared.Mode.{Mode}
+use Rattle.modes.specs.declared.Mode.the-variants.{Nominal, Safety}
+use Rattle.modes.specs.declared.Limits.{Limits}
+use Rattle.channels.specs.Operations.{overcurrentAt}
+use Rattle.channels.specs.Counting.{countAll}
+use Rattle.channels.specs.declared.Channels.{Channels}
+use Rattle.command.specs.Decode.{codeOf}
+use Rattle.command.specs.Answers.{numberOf}
+use Rattle.command.specs.declared.Refusal.{Refusal}
+use Rattle.memory.specs.Limits.{limitsOf}
+use Rattle.memory.specs.Memory.{emptyStore}
+use Rattle.state.specs.Parts.{modeOf, withPhase, withChannels, withReply}
+use Rattle.state.specs.declared.parts.Board.{Board}
+use Rattle.state.specs.declared.parts.Profile.{Profile}
+use Rattle.answers.specs.Answers.{toldNumber, shortTo}
+use Rattle.answers.specs.declared.Answer.the-variants.{Accepted}
+use Rattle.answers.specs.declared.Commanded.{Commanded}
+use Rattle.commands.specs.Step.{turnedDown, commandedOf}
+use Rattle.board.specs.Tick.{risenOf, changedOf, trippedOf, watchedIn, allowedCount, notHappened}
+use Rattle.board.specs.declared.Ticked.{Ticked}
+use Rattle.unit.specs.Machine.{noMachine, begunOf, toldBy}
+use Rattle.unit.specs.declared.Machine.{Machine}
+use Rattle.unit.specs.declared.Told.{Told}
+use Rattle.claims.specs.Runs.{Sample, told, tick, after}
+use Rattle.claims.specs.Resets.{isAccepted}
+
+-- ---- programs
+-- a program has a state of its own, which it makes of the machine in whose place it is put; by each tick it tells something, the machine that it shows included
+pub record Program : Type 1 where
+  pub State : Type 0
+  pub start : Machine → State
+  pub tells : State → Sample → Told
+  pub next : State → Sample → State
+
+-- a program whose state is the machine that it shows
+abbrev pub showing : (Machine → Sample → Told) → Program
+showing tells = record { State = Machine; start = λ m. m; tells = tells; next = λ m i. tells m i .machine }
+
+-- document 01's machine
+abbrev pub document01 : Program
+document01 = showing told
+
+-- what a program in the place of m tells at the last tick of a run
+unfoldable pub stateAfter : (p : Program) → p .State → List Sample → p .State
+stateAfter p s [] = s
+stateAfter p s (i ∷ is) = stateAfter p (p .next s i) is
+
+abbrev pub lastTold : Program → Machine → List Sample → Sample → Told
+lastTold p m before last = p .tells (stateAfter p (p .start m) before) last
+
+-- ---- the tick of document 01 with another step 3 or step 4 in it
+module _ (three : ℕ → Board → Board) (four : ℤ → Limits → Bool → List ℕ → Board → Commanded) where
+  unfoldable pub tickedWith : Sample → Board → Ticked
+  tickedWith i b =
+      let limits = limitsOf (b .memory) in
+      let changed = changedOf (i .rail) limits (risenOf (i .words) b) in
+      cond (not (allowedCount (length (i .words)))) (notHappened b)
+      (watchedIn (four (i .rail) limits (i .sent) (i .transfer) (three (i .named) changed)))
+
+  abbrev pub toldWith : Machine → Sample → Told
+  toldWith m i = toldBy (tickedWith i (m .board)) (m .due)
+
+-- ---- the six
+-- 1. refuses all: what the machine accepts is refused, with a refusal r; all else is the machine's
+unfoldable pub refusing : Refusal → ℤ → Limits → Bool → List ℕ → Board → Commanded
+refusing r rail limits sent s b =
+    cond (isAccepted (toldNumber (commandedOf rail limits sent s b .outcome))) (turnedDown (codeOf s) r b) (commandedOf rail limits sent s b)
+
+abbrev pub refusesAll : Refusal → Program
+refusesAll r = showing (toldWith trippedOf (refusing r))
+
+-- 2. has the NOOP reply for every command: each command does what it should, and where it makes a reply, that is the reply of an accepted 0x02
+abbrev pub noopFor : Commanded → Board → Commanded
+noopFor c b = record { board = withReply (shortTo 0x02 Accepted b) (c .board); outcome = c .outcome; replied = true }
+
+unfoldable pub replyingNoop : ℤ → Limits → Bool → List ℕ → Board → Commanded
+replyingNoop rail limits sent s b = cond (commandedOf rail limits sent s b .replied) (noopFor (commandedOf rail limits sent s b) b) (commandedOf rail limits sent s b)
+
+abbrev pub answersNoop : Program
+answersNoop = showing (toldWith trippedOf replyingNoop)
+
+-- 3. stays in safety: once there, it shows safety, one tick older, whatever the tick did besides
+abbrev pub inPhaseOf : Board → Told → Told
+inPhaseOf b t =
+    record {
+      machine = record { board = withPhase (olderOf (b .phase)) (t .machine .board); due = t .machine .due };
+      outcome = t .outcome;
+      event = t .event;
+      replied = t .replied;
+    }
+
+unfoldable pub stayingInSafety : Machine → Sample → Told
+stayingInSafety m i = cond (same (modeOf (m .board)) Safety) (inPhaseOf (m .board) (told m i)) (told m i)
+
+abbrev pub staysInSafety : Program
+staysInSafety = showing stayingInSafety
+
+-- 4. a tick that changes nothing: it tells what the machine tells, and shows the machine as it was
+unfoldable pub unchanged : Machine → Sample → Told
+unchanged m i = record { machine = m; outcome = told m i .outcome; event = told m i .event; replied = told m i .replied }
+
+abbrev pub changesNothing : Program
+changesNothing = showing unchanged
+
+-- 5. obeys one tick, the first, and tells at each later one what it told there
+pub data Once : Type 0 where
+  fresh : Machine → Once
+  done : Told → Once
+
+abbrev pub firstTold : Once → Sample → Told
+firstTold (fresh m) i = told m i
+firstTold (done t) i = t
+
+abbrev pub repeatsTheFirst : Program
+repeatsTheFirst = record { State = Once; start = fresh; tells = firstTold; next = λ s i. done (firstTold s i) }
+
+-- 6. makes up overcurrent counts: step 3 counts every channel that is named, on or not; on and latched are the machine's
+abbrev pub withCounts : List ℕ → Channels → Channels
+withCounts counts ch = record { on = ch .on; latched = ch .latched; counts = counts }
+
+unfoldable pub countingAllNamed : ℕ → Board → Board
+countingAllNamed named b = withChannels (withCounts (countAll named (b .channels .counts)) (overcurrentAt named (b .channels))) b
+
+abbrev pub makesUpCounts : Program
+makesUpCounts = showing (toldWith countingAllNamed commandedOf)
+
+-- ---- the runs
+-- board 1 has channels 0 to 3, of which 0 is forced
+abbrev pub profile : Profile
+profile = record { fitted = 0b1111; forced = 0b0001; bid = 1 }
+
+abbrev pub begun : Machine
+begun = begunOf noMachine profile emptyStore .machine
+
+-- a tick at a rail in millivolts, without a transfer or with one, and one with overcurrent reported besides
+abbrev pub quiet : ℕ → Sample
+quiet rail = record { rail = pos rail; named = 0; words = []; sent = false; transfer = [] }
+
+abbrev pub sending : ℕ → List ℕ → Sample
+sending rail s = record { rail = pos rail; named = 0; words = []; sent = true; transfer = s }
+
+abbrev pub reporting : ℕ → List ℕ → Sample
+reporting set s = record { rail = pos 15000; named = set; words = []; sent = true; transfer = s }
+
+abbrev pub noop : List ℕ
+noop = 0x11 ∷ 0x07 ∷ 0x02 ∷ 0x01 ∷ []
+
+-- 0x10 for channels 0 to 3
+abbrev pub groupOn : List ℕ
+groupOn = 0x11 ∷ 0x07 ∷ 0x10 ∷ 0x01 ∷ 0x0F ∷ 0x00 ∷ []
+
+abbrev pub toNominal : List ℕ
+toNominal = 0x11 ∷ 0x07 ∷ 0x30 ∷ 0x01 ∷ []
+
+abbrev pub faults : List ℕ
+faults = 0x11 ∷ 0x07 ∷ 0x42 ∷ 0x01 ∷ []
+
+-- the machine on which the runs begin: 50 quiet ticks after its start it has come into nominal, with channel 0 on
+abbrev pub awake : Machine
+awake = after begun (replicate 50 (tick (quiet 15000)))
+
+-- what is looked at
+abbrev pub reply : Told → List ℕ
+reply t = shown (t .machine .board .reply)
+
+abbrev pub mode : Told → Mode
+mode t = modeOf (t .machine .board)
+
+abbrev pub on : Told → ℕ
+on t = t .machine .board .channels .on
+
+abbrev pub replyByte : ℕ → Told → ℕ
+replyByte place t = getD (reply t) place 0
+
+abbrev pub answer : Told → Option ℕ
+answer t = toldNumber (t .outcome)
+
+-- ---- the claim
+-- a program is caught: put in the place of that machine and run, it shows one thing at the last tick, and document 01's machine another
+pub record Caught {A : Type 0} (p : Program) (sees : Told → A) (before : List Sample) (last : Sample) (right wrong : A) : Type 0 where
+  pub machine-shows : sees (lastTold document01 awake before last) ≡ right
+  pub program-shows : sees (lastTold p awake before last) ≡ wrong
+  pub differ : right ≡ wrong → ⊥
+
+pub record AllCaught : Type 0 where
+  -- a NOOP is answered 0, and by the first program with its refusal, whichever that is
+  pub refuses-all : (r : Refusal) → Caught (refusesAll r) answer [] (sending 15000 noop) (some 0) (some (numberOf r))
+  -- the reply to 0x10 has the code 0x11, and that of the second program 0x03
+  pub answers-noop : Caught answersNoop reply [] (sending 15000 groupOn) (0x11 ∷ 0x07 ∷ 0x11 ∷ 0x01 ∷ 0x80 ∷ []) (0x11 ∷ 0x07 ∷ 0x03 ∷ 0x01 ∷ 0x80 ∷ [])
+  -- a rail of 0 mV leads into safety, and 0x30 at a good rail out of it
+  pub stays-in-safety : Caught staysInSafety mode (quiet 0 ∷ []) (sending 15000 toNominal) Nominal Safety
+  -- 0x10 turns channels 1 to 3 on
+  pub changes-nothing : Caught changesNothing on [] (sending 15000 groupOn) 0b1111 0b0001
+  -- a NOOP, and then 0x10, which has a reply of its own
+  pub repeats-the-first : Caught repeatsTheFirst reply (sending 15000 noop ∷ []) (sending 15000 groupOn) (0x11 ∷ 0x07 ∷ 0x11 ∷ 0x01 ∷ 0x80 ∷ []) (0x11 ∷ 0x07 ∷ 0x03 ∷ 0x01 ∷ 0x80 ∷ [])
+  -- overcurrent is reported of channel 1, which is off, and 0x42 asks for the counts: that of channel 1 stands at byte 14 + 2
+  pub makes-up-counts : Caught makesUpCounts (replyByte 16) [] (reporting 0b0010 faults) 0 1
