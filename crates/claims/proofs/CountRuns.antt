@@ -25,9 +25,9 @@ use Rattle.commands.specs.Step.{isStartup, decodedOf, transferredOf, commandedO
 use Rattle.board.specs.Tick.{broughtBy, risenOf, changedOf, trippedOf, watchedIn, tickWith, allowedCount, tickOf}
 use Rattle.unit.specs.Machine.{toldOf}
 use Rattle.unit.specs.declared.Machine.{Machine}
-use Rattle.claims.specs.Runs.{Call, tick}
-use Rattle.claims.specs.Resets.{tellsWatchdogReset, tellsCommandReset, tellsReset}
-use Rattle.claims.specs.Counts.{hasReset, timesTakenOff}
+use Rattle.unit.specs.Runs.{Call, tick}
+use Rattle.groups.specs.Resets.{tellsWatchdogReset, tellsCommandReset, tellsReset}
+use Rattle.groups.specs.Counts.{hasReset, timesTakenOff}
 use Rattle.claims.specs.Wrong.{awake, sending, reporting, noop, groupOn}
 use Rattle.claims.proofs.Wrong.{woken, awake-is}
 

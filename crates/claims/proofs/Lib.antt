@@ -1,15 +1,4 @@
 pub mod Boundary
-pub mod Conditions
-pub mod Answered
-pub mod Results
-pub mod Refused
-pub mod RefusedTicks
-pub mod RefusalExamples
-pub mod Untouched
-pub mod Groups
-pub mod Altered
-pub mod Unfitted
-pub mod Counts
-pub mod Resets
 pub mod Wrong
 pub mod CountRuns
+pub mod RefusalExamples

@@ -22,9 +22,9 @@ use Rattle.board.specs.Tick.{risenOf, changedOf, trippedOf, watchedIn, tickWith
 use Rattle.text.specs.declared.framing.Due.the-variants.{Nothing}
 use Rattle.unit.specs.Machine.{toldOf}
 use Rattle.unit.specs.declared.Machine.{Machine}
-use Rattle.claims.specs.Runs.{Sample, told}
+use Rattle.unit.specs.Runs.{Sample, told}
 use Rattle.claims.specs.Boundary.{+_, set, someBoard, withTimeout}
-use Rattle.claims.specs.Conditions.{tickAnswer}
+use Rattle.refusals.specs.Conditions.{tickAnswer}
 
 -- board 1 in nominal with a timeout of 1000 ticks, whose timer the next tick brings to some value
 abbrev waiting : ℕ → Machine

@@ -37,7 +37,7 @@ use Rattle.text.specs.declared.framing.Due.the-variants.{Nothing}
 use Rattle.unit.specs.Machine.{noMachine, begunOf, toldOf}
 use Rattle.unit.specs.declared.Machine.{Machine}
 use Rattle.unit.specs.declared.Told.{Told}
-use Rattle.claims.specs.Runs.{Sample, told, tick, after, Reached}
+use Rattle.unit.specs.Runs.{Sample, told, tick, after, Reached}
 use Rattle.claims.specs.Wrong.{awake, Program, document01, stateAfter, lastTold, Caught, tickedWith, toldWith, refusing, refusesAll, replyingNoop, stayingInSafety, unchanged, countingAllNamed, profile, quiet, sending, noop, answer, AllCaught}
 
 -- the tick with document 01's own steps 3 and 4 in it is document 01's

@@ -33,8 +33,8 @@ use Rattle.board.specs.declared.Ticked.{Ticked}
 use Rattle.unit.specs.Machine.{noMachine, begunOf, toldBy}
 use Rattle.unit.specs.declared.Machine.{Machine}
 use Rattle.unit.specs.declared.Told.{Told}
-use Rattle.claims.specs.Runs.{Sample, told, tick, after}
-use Rattle.claims.specs.Resets.{isAccepted}
+use Rattle.unit.specs.Runs.{Sample, told, tick, after}
+use Rattle.groups.specs.Resets.{isAccepted}
 
 -- ---- programs
 -- a program has a state of its own, which it makes of the machine in whose place it is put; by each tick it tells something, the machine that it shows included

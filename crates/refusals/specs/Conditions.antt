@@ -33,7 +33,7 @@ use Rattle.order.specs.Checks as order
 use Rattle.order.specs.Checks.{_is_}
 use Rattle.board.specs.Tick.{risenOf, changedOf, trippedOf, allowedCount}
 use Rattle.unit.specs.declared.Machine.{Machine}
-use Rattle.claims.specs.Runs.{Sample, told}
+use Rattle.unit.specs.Runs.{Sample, told}
 
 -- ---- a transfer, and what it meets: the board as the command step finds it, the rail of the tick and the limits in force
 pub record Sent : Type 0 where

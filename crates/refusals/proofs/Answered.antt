@@ -19,10 +19,10 @@ use Rattle.text.specs.declared.framing.Due.{Due}
 use Rattle.unit.specs.Machine.{toldBy, toldOf}
 use Rattle.unit.specs.declared.Machine.{Machine}
 use Rattle.unit.specs.declared.Told.{Told}
-use Rattle.claims.specs.Runs.{Sample, told}
-use Rattle.claims.specs.Conditions.{Given, answer, settled, metIn, tickAnswer, ExactlyWhen}
-use Rattle.claims.proofs.Conditions as conditions
-use Rattle.claims.proofs.Conditions.{same-number}
+use Rattle.unit.specs.Runs.{Sample, told}
+use Rattle.refusals.specs.Conditions.{Given, answer, settled, metIn, tickAnswer, ExactlyWhen}
+use Rattle.refusals.proofs.Conditions as conditions
+use Rattle.refusals.proofs.Conditions.{same-number}
 
 -- ---- a tick that happens is its command step and then the watchdog
 abbrev pub happening : Commanded → Event

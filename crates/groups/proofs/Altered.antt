@@ -23,9 +23,9 @@ use Rattle.state.specs.declared.parts.Board.{Board}
 use Rattle.commands.specs.Step.{commandedOf}
 use Rattle.order.specs.Checks.{channelWrong, checksBy, checksOf}
 use Rattle.order.proofs.Order.{in-order}
-use Rattle.claims.specs.Groups.{isFitted, isCommandEnabled, obeyed, Answers, Sentence, at_each_becomes_, sentences, madeBy, namedBy}
-use Rattle.claims.specs.Altered.{altering, before, afterwards, Altered}
-use Rattle.claims.proofs.Groups.{Leaves, refusing, accepting, leaves, groups}
+use Rattle.groups.specs.Groups.{isFitted, isCommandEnabled, obeyed, Answers, Sentence, at_each_becomes_, sentences, madeBy, namedBy}
+use Rattle.groups.specs.Altered.{altering, before, afterwards, Altered}
+use Rattle.groups.proofs.Groups.{Leaves, refusing, accepting, leaves, groups}
 
 -- a channel that no sentence names
 unnamed : (l : List Sentence) (code : ℕ) (ch : Chan) → namedBy l code ≡ false → madeBy l code ch ≡ ch

@@ -26,9 +26,9 @@ use Rattle.answers.specs.declared.Outcome.the-variants.{Answered}
 use Rattle.answers.specs.declared.Commanded.{Commanded}
 use Rattle.commands.specs.Effects.{isNominal, switchedOf, groupOnOf, groupOffOf, groupStateOf, channelOnOf, channelOffOf, cancelledOf, switchedModeOf, faultsOf, housekeepingOf, parameterOf, rememberedOf, savedIn, restartedOf, runOf}
 use Rattle.commands.specs.Step.{isStartup, turnedDown, decodedOf, transferredOf, commandedOf}
-use Rattle.claims.specs.Conditions as claim
-use Rattle.claims.specs.Conditions.{Sent, obeyed}
-use Rattle.claims.proofs.Conditions.{same-number}
+use Rattle.refusals.specs.Conditions as claim
+use Rattle.refusals.specs.Conditions.{Sent, obeyed}
+use Rattle.refusals.proofs.Conditions.{same-number}
 
 pub data Result (code : ℕ) (b : Board) : Commanded → Type 0 where
   accepted : {c : Commanded} → c .outcome ≡ Answered Accepted → c .board .timer ≡ 0 → Result code b c

@@ -36,11 +36,11 @@ use Rattle.text.specs.declared.reading.Line.{Line}
 use Rattle.text.specs.declared.reading.Line.the-variants.{Command, Switch, NoFrame, TooLong, NotOfForm, ScratchTooShort}
 use Rattle.unit.specs.Machine.{begunOf, toldOf, afterLine, heardOf}
 use Rattle.unit.specs.declared.Machine.{Machine}
-use Rattle.claims.specs.Runs.{Sample, told, Call, tick, line, after}
-use Rattle.claims.specs.Resets.{happens, afterStep2, isByWatchdog, isAccepted, tellsWatchdogReset, tellsCommandReset, tellsReset}
-use Rattle.claims.specs.Counts.{takesOff, hasReset, timesTakenOff, Counts}
-use Rattle.claims.proofs.Groups.{Leaves, refusing, accepting, leaves}
-use Rattle.claims.proofs.Altered.{count-made}
+use Rattle.unit.specs.Runs.{Sample, told, Call, tick, line, after}
+use Rattle.groups.specs.Resets.{happens, afterStep2, isByWatchdog, isAccepted, tellsWatchdogReset, tellsCommandReset, tellsReset}
+use Rattle.groups.specs.Counts.{takesOff, hasReset, timesTakenOff, Counts}
+use Rattle.groups.proofs.Groups.{Leaves, refusing, accepting, leaves}
+use Rattle.groups.proofs.Altered.{count-made}
 
 -- the count of channel c
 abbrev countIn : ℕ → Board → ℕ

@@ -5,7 +5,7 @@ use mathlib.Core.Path.{_≡_}
 use mathlib.Core.Bool.{false}
 use Rattle.channels.specs.Sets.{has}
 use Rattle.unit.specs.declared.Machine.{Machine}
-use Rattle.claims.specs.Runs.{Reached}
+use Rattle.unit.specs.Runs.{Reached}
 
 pub record OffAndUnlatched (m : Machine) (c : ℕ) : Type 0 where
   pub off : has (m .board .channels .on) c ≡ false

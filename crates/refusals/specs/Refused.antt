@@ -13,7 +13,7 @@ use Rattle.replies.specs.Layouts.{shortReply}
 use Rattle.state.specs.Parts.{withReply, withTimer}
 use Rattle.state.specs.declared.parts.Board.{Board}
 use Rattle.answers.specs.Answers.{headerOf}
-use Rattle.claims.specs.Conditions.{Sent, code, obeyed, answer}
+use Rattle.refusals.specs.Conditions.{Sent, code, obeyed, answer}
 
 -- ---- the reply of a refusal
 -- its STAT, by Table 3-11: the flag NEW is clear

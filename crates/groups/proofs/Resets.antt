@@ -30,11 +30,11 @@ use Rattle.commands.specs.Step.{commandedOf}
 use Rattle.board.specs.Tick.{risenOf, changedOf, trippedOf, watchedAs, watchedIn, tickWith, tickOf}
 use Rattle.unit.specs.Machine.{toldOf}
 use Rattle.unit.specs.declared.Machine.{Machine}
-use Rattle.claims.specs.Runs.{Sample}
-use Rattle.claims.specs.Resets.{happens, afterStep3, isByWatchdog, isAccepted, tellsWatchdogReset, tellsCommandReset, tellsReset, ResetIsTold}
-use Rattle.claims.proofs.Groups.{Leaves, refusing, accepting, leaves}
-use Rattle.claims.proofs.Altered.{failed}
-use Rattle.claims.proofs.Counts.{not-accepted, watched-tells}
+use Rattle.unit.specs.Runs.{Sample}
+use Rattle.groups.specs.Resets.{happens, afterStep3, isByWatchdog, isAccepted, tellsWatchdogReset, tellsCommandReset, tellsReset, ResetIsTold}
+use Rattle.groups.proofs.Groups.{Leaves, refusing, accepting, leaves}
+use Rattle.groups.proofs.Altered.{failed}
+use Rattle.groups.proofs.Counts.{not-accepted, watched-tells}
 
 -- startup at age 0
 abbrev isOver : ModeAge → Bool

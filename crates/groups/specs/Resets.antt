@@ -19,7 +19,7 @@ use Rattle.answers.specs.Answers.{toldNumber}
 use Rattle.commands.specs.Step.{commandedOf}
 use Rattle.board.specs.Tick.{risenOf, changedOf, trippedOf, allowedCount}
 use Rattle.unit.specs.declared.Machine.{Machine}
-use Rattle.claims.specs.Runs.{Sample, told}
+use Rattle.unit.specs.Runs.{Sample, told}
 
 -- ---- one tick
 -- it happens: the words lent are none or 122

@@ -17,7 +17,7 @@ use Rattle.command.specs.Codes.{isIn}
 use Rattle.command.specs.Decode.{codeOf, byteAfter}
 use Rattle.state.specs.Parts.{modeOf}
 use Rattle.state.specs.declared.parts.Board.{Board}
-use Rattle.claims.specs.Groups.{obeyed, Answers, sentences, namedBy, isCommandEnabled, isFitted}
+use Rattle.groups.specs.Groups.{obeyed, Answers, sentences, namedBy, isCommandEnabled, isFitted}
 
 -- the commands that can alter a channel
 unfoldable pub altering : List ℕ

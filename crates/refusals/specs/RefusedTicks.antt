@@ -11,9 +11,9 @@ use Rattle.state.specs.Parts.{withReply, withTimer}
 use Rattle.state.specs.declared.parts.Board.{Board}
 use Rattle.text.specs.declared.framing.Due.the-variants.{Reply}
 use Rattle.unit.specs.declared.Machine.{Machine}
-use Rattle.claims.specs.Runs.{Sample, told}
-use Rattle.claims.specs.Conditions.{settled, metIn, tickAnswer}
-use Rattle.claims.specs.Refused.{refusal}
+use Rattle.unit.specs.Runs.{Sample, told}
+use Rattle.refusals.specs.Conditions.{settled, metIn, tickAnswer}
+use Rattle.refusals.specs.Refused.{refusal}
 
 -- the same tick without its transfer
 abbrev pub quiet : Sample → Sample

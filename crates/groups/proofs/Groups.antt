@@ -48,7 +48,7 @@ use Rattle.answers.specs.declared.Answer.{Answer}
 use Rattle.answers.specs.declared.Commanded.{Commanded}
 use Rattle.commands.specs.Effects.{isNominal, switchedOf, groupOnOf, groupOffOf, groupStateOf, channelOnOf, channelOffOf, cancelledOf, switchedModeOf, faultsOf, housekeepingOf, parameterOf as parameterRun, rememberedOf, savedIn, restartedOf, runOf}
 use Rattle.commands.specs.Step.{isStartup, turnedDown, decodedOf, transferredOf, commandedOf}
-use Rattle.claims.specs.Groups.{maskIn, isSpokenOf, sentences, madeBy, Groups}
+use Rattle.groups.specs.Groups.{maskIn, isSpokenOf, sentences, madeBy, Groups}
 
 -- ---- the mask of a transfer, and the channels that it speaks of, are the decoder's
 mask-is : (s : List ℕ) → groupIn s .mask ≡ maskIn s

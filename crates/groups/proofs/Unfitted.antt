@@ -34,11 +34,11 @@ use Rattle.text.specs.declared.reading.Line.{Line}
 use Rattle.text.specs.declared.reading.Line.the-variants.{Command, Switch, NoFrame, TooLong, NotOfForm, ScratchTooShort}
 use Rattle.unit.specs.Machine.{begunOf, toldOf, afterLine, heardOf}
 use Rattle.unit.specs.declared.Machine.{Machine}
-use Rattle.claims.specs.Runs.{Call, tick, line, afterCall, after, Reached}
-use Rattle.claims.specs.Groups.{sentences, madeBy}
-use Rattle.claims.specs.Unfitted.{Unfitted}
-use Rattle.claims.proofs.Groups.{Leaves, refusing, accepting, leaves}
-use Rattle.claims.proofs.Altered.{none, _and_, made-so, failed}
+use Rattle.unit.specs.Runs.{Call, tick, line, afterCall, after, Reached}
+use Rattle.groups.specs.Groups.{sentences, madeBy}
+use Rattle.groups.specs.Unfitted.{Unfitted}
+use Rattle.groups.proofs.Groups.{Leaves, refusing, accepting, leaves}
+use Rattle.groups.proofs.Altered.{none, _and_, made-so, failed}
 
 -- ---- what every step keeps: sets of 32 channels with 32 counts, and the channels that p does not have off and unlatched
 pub record Sound (p : Profile) (ch : Channels) : Type 0 where

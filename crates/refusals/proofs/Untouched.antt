@@ -18,7 +18,7 @@ use Rattle.unit.specs.declared.Machine.{Machine}
 use Rattle.unit.proofs.Laws as unit
 use Rattle.session.specs.Sessions.{openedOf, startedOf}
 use Rattle.session.proofs.Steps as session
-use Rattle.claims.specs.Untouched.{Eight, Nine, Reads, Frames, Sheets, OtherRefusals}
+use Rattle.refusals.specs.Untouched.{Eight, Nine, Reads, Frames, Sheets, OtherRefusals}
 
 begun-answer : (a : StartAnswer) (s : Started) (there : Machine) → begunBy a s there .answer ≡ a
 begun-answer Accepted s there = refl

@@ -22,13 +22,13 @@ use Rattle.board.specs.Tick.{watchedAs}
 use Rattle.text.specs.declared.framing.Due.{Due}
 use Rattle.unit.specs.Machine.{toldBy}
 use Rattle.unit.specs.declared.Machine.{Machine}
-use Rattle.claims.specs.Runs.{Sample, told}
-use Rattle.claims.specs.Conditions.{Sent, code, obeyed, answer, settled, metIn, tickAnswer}
-use Rattle.claims.specs.Refused.{statIn, refusal, answeredAndFed}
-use Rattle.claims.specs.RefusedTicks.{quiet, replying, RefusedTick}
-use Rattle.claims.proofs.Results.{step, accepted-is, silent-is, elsewhere-is, refused-is}
-use Rattle.claims.proofs.Refused.{refusal-of}
-use Rattle.claims.proofs.Answered.{happening, watched, told-is, answer-is, happens, sends}
+use Rattle.unit.specs.Runs.{Sample, told}
+use Rattle.refusals.specs.Conditions.{Sent, code, obeyed, answer, settled, metIn, tickAnswer}
+use Rattle.refusals.specs.Refused.{statIn, refusal, answeredAndFed}
+use Rattle.refusals.specs.RefusedTicks.{quiet, replying, RefusedTick}
+use Rattle.refusals.proofs.Results.{step, accepted-is, silent-is, elsewhere-is, refused-is}
+use Rattle.refusals.proofs.Refused.{refusal-of}
+use Rattle.refusals.proofs.Answered.{happening, watched, told-is, answer-is, happens, sends}
 
 -- ---- what a tick leaves, by what its command step made
 -- a timer of 0 brings no event, whatever the timeout

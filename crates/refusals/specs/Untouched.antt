@@ -27,8 +27,8 @@ use Rattle.script.specs.Printing.{page, typed}
 use Rattle.session.specs.Transcript.{refused8, refused14}
 use Rattle.session.specs.Sessions.{profileIn, opens, noSession, answerFrom, answerNumber, openedOf}
 use Rattle.session.specs.declared.running.Answer.the-variants.{ProfileBreaksARule, NotOfForm}
-use Rattle.claims.specs.Runs.{Sample, told}
-use Rattle.claims.specs.Conditions.{tickAnswer}
+use Rattle.unit.specs.Runs.{Sample, told}
+use Rattle.refusals.specs.Conditions.{tickAnswer}
 
 -- 8, of a start: a profile that breaks a rule; the machine that was there stays
 pub record Eight : Type 0 where

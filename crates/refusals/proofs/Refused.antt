@@ -13,11 +13,11 @@ use Rattle.answers.specs.Answers.{numberOf, statOf, headerOf, refusedOf, notThi
 use Rattle.answers.specs.declared.Answer.{Answer}
 use Rattle.answers.specs.declared.Answer.the-variants.{Accepted, FewerThanFourBytes, InStartup, NotThisBoard, CodeNotListed, TooShort, NotAvailable, Wrong}
 use Rattle.answers.specs.declared.Commanded.{Commanded}
-use Rattle.claims.specs.Conditions.{Sent, code, obeyed, answer}
+use Rattle.refusals.specs.Conditions.{Sent, code, obeyed, answer}
 use Rattle.replies.proofs.Positions.{shown-short}
 use Rattle.command.proofs.Laws.{cases}
-use Rattle.claims.specs.Refused.{Stat, _has-stat_, stats, statIn, refusal, answeredAlone, answeredAndFed, RefusedCommand}
-use Rattle.claims.proofs.Results.{step, silent-is, elsewhere-is, refused-is}
+use Rattle.refusals.specs.Refused.{Stat, _has-stat_, stats, statIn, refusal, answeredAlone, answeredAndFed, RefusedCommand}
+use Rattle.refusals.proofs.Results.{step, silent-is, elsewhere-is, refused-is}
 
 -- ---- what each answer leaves
 -- STAT, of the answers 4 to 7

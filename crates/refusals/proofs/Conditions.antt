@@ -29,8 +29,8 @@ use Rattle.command.proofs.Laws.{cases, none, _and_}
 use Rattle.order.specs.Checks.{unavailable, channelCodes, channelWrong, checksumWrong, checksBy, checksOf}
 use Rattle.order.proofs.Order.{at-code, in-order}
 use Rattle.commands.specs.Step.{commandedOf}
-use Rattle.claims.specs.Conditions as claim
-use Rattle.claims.specs.Conditions.{Sent, _at_, code, id, lengths, neededBy, valueShort, keyWrong, isNaN, valueNaN, refusals, noneOf, table, condition, Given, answer}
+use Rattle.refusals.specs.Conditions as claim
+use Rattle.refusals.specs.Conditions.{Sent, _at_, code, id, lengths, neededBy, valueShort, keyWrong, isNaN, valueNaN, refusals, noneOf, table, condition, Given, answer}
 
 -- ---- rows numbered one after the other: the number of the first that applies is given, and it alone
 unfoldable numbered : ℕ → List Bool → List Check

@@ -1,0 +1,6 @@
+pub mod Conditions
+pub mod Answered
+pub mod Results
+pub mod Refused
+pub mod RefusedTicks
+pub mod Untouched
