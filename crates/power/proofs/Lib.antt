@@ -1,0 +1,3 @@
+pub mod Lift
+pub mod Step
+pub mod Theorem
