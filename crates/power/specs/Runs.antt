@@ -10,7 +10,10 @@ module _ {S I : Type 0} (call : S → I → S) (isTick : I → Bool) (on : S →
   -- the channel at the end of each tick of a run from s
   abbrev pub ends : S → List I → List Bool
   ends s [] = []
-  ends s (i ∷ is) = cond (isTick i) (on (call s i) ∷ ends (call s i) is) (ends (call s i) is)
+  ends s (i ∷ is) =
+      let after = call s i in
+      let rest = ends after is in
+      cond (isTick i) (on after ∷ rest) rest
 
   -- the same, with the channel before the run in front
   abbrev pub channel : S → List I → List Bool
