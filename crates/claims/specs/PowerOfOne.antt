@@ -1,0 +1,37 @@
+-- Demand 3 with fewer premises, for one force-enabled channel: what is needed is that the machine was reached, that no tick of the stretch resets it or names this channel, and that this channel is not
+-- latched at the start of the stretch, or that the mode is then startup or emergency. Settings may change at every tick, other channels may be named and latched. The demand in `Power` follows.
+-- Assumes nothing: this is the claim.
+use mathlib.Core.Path.{_≡_}
+use Prim.Native.Nat.{ℕ}
+use mathlib.Core.Bool.{true, false}
+use mathlib.Core.List.{List}
+use Rattle.channels.specs.Sets.{has}
+use Rattle.power.specs.Runs.{Stretch}
+use Rattle.power.specs.Machine.{isLit}
+use Rattle.power.specs.Claim.{Powered}
+use Rattle.state.specs.Parts.{modeOf}
+use Rattle.unit.specs.declared.Machine.{Machine}
+use Rattle.claims.specs.Runs.{Sample, Call, tick, line, afterCall, Reached}
+use Rattle.claims.specs.Power.{ForceEnabled, isTick, endsOf, channelOf, Resets, limits}
+
+-- a tick that neither resets the machine nor names channel k
+pub record Spared (k : ℕ) (m : Machine) (i : Sample) : Type 0 where
+  pub no-reset : Resets m i → ⊥
+  pub no-overcurrent : has (i .named) k ≡ false
+
+abbrev pub Spares : ℕ → Machine → Call → Type 0
+Spares k m (tick i) = isTick (tick i) ≡ true → Spared k m i
+Spares k m (line received room) = Unit {0}
+
+-- no latch keeps channel k off: a latch that is there in startup or emergency goes when the mode is left
+abbrev pub Unlatched : ℕ → Machine → Type 0
+Unlatched k m = isLit (modeOf (m .board)) ≡ true → has (m .board .channels .latched) k ≡ false
+
+pub record PowerOfOne : Type 0 where
+  pub powered : (k : ℕ) (m : Machine) → Reached m → ForceEnabled k m → Unlatched k m → (calls : List Call) → Stretch afterCall (Spares k) m calls
+      → Powered (limits m .linger) (limits m .period) (channelOf k m calls)
+  pub powered-by-ends : (k : ℕ) (m : Machine) → Reached m → ForceEnabled k m → Unlatched k m → (calls : List Call) → Stretch afterCall (Spares k) m calls
+      → Powered (limits m .linger) (limits m .period) (endsOf k m calls)
+  -- two such channels are on and off alike
+  pub together : (j k : ℕ) (m : Machine) → Reached m → ForceEnabled j m → ForceEnabled k m → Unlatched j m → Unlatched k m
+      → (calls : List Call) → Stretch afterCall (Spares j) m calls → Stretch afterCall (Spares k) m calls → channelOf j m calls ≡ channelOf k m calls
