@@ -1,1 +1,2 @@
 pub mod PowerCommand
+pub mod PowerTick
