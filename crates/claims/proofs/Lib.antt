@@ -1,2 +1,5 @@
+pub mod Profiles
 pub mod PowerCommand
 pub mod PowerTick
+pub mod Standing
+pub mod Power

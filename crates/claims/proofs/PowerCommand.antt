@@ -47,7 +47,6 @@ use Rattle.claims.specs.Power.{ForceEnabledBy}
 -- ---- what can become of the mode and of channel k
 -- the mode is as `next` says, and the channel stays
 pub record Moved (k : ℕ) (next : ModeAge) (b c : Board) : Type 0 where
-  pub profile : c .profile ≡ b .profile
   pub phase : c .phase ≡ next
   pub on : has (c .channels .on) k ≡ has (b .channels .on) k
   pub latched : has (c .channels .latched) k ≡ has (b .channels .latched) k
@@ -55,7 +54,6 @@ pub record Moved (k : ℕ) (next : ModeAge) (b c : Board) : Type 0 where
 -- in nominal the channel is switched on and its latch cleared
 pub record Lit (k : ℕ) (b c : Board) : Type 0 where
   pub nominal : modeOf b ≡ Nominal
-  pub profile : c .profile ≡ b .profile
   pub phase : c .phase ≡ b .phase
   pub on : has (c .channels .on) k ≡ true
   pub unlatched : has (c .channels .latched) k ≡ false
@@ -152,7 +150,7 @@ module _ (k : ℕ) (b : Board) (fe : ForceEnabledBy (b .profile) k) where
 
   refused : (a : Answer) (code : ℕ) → Moved k (b .phase) b (refusedOf a code b .board)
   unfolding refusedOf
-  refused a code = record { profile = refl; phase = refl; on = refl; latched = refl }
+  refused a code = record { phase = refl; on = refl; latched = refl }
 
   -- 0x10, 0x12, 0x14, 0x16, 0x18: what holds of the refusals and, in nominal, of the channels put in place
   by-switch : (P : Board → Type 0) (code : ℕ) (right : Bool) (s : Channels) → ((a : Answer) → P (refusedOf a code b .board)) → (modeOf b ≡ Nominal → P (acceptedOf code (withChannels s b) .board))
@@ -165,11 +163,11 @@ module _ (k : ℕ) (b : Board) (fe : ForceEnabledBy (b .profile) k) where
 
   kept-in : (code : ℕ) (s : Channels) → Kept s → Moved k (b .phase) b (acceptedOf code (withChannels s b) .board)
   unfolding acceptedOf acceptedWith
-  kept-in code s q = record { profile = refl; phase = refl; on = ap (λ (x : Chan). x .on) q; latched = ap (λ (x : Chan). x .latched) q }
+  kept-in code s q = record { phase = refl; on = ap (λ (x : Chan). x .on) q; latched = ap (λ (x : Chan). x .latched) q }
 
   lighted-in : (code : ℕ) (s : Channels) → modeOf b ≡ Nominal → Lighted s → Lit k b (acceptedOf code (withChannels s b) .board)
   unfolding acceptedOf acceptedWith
-  lighted-in code s e q = record { nominal = e; profile = refl; phase = refl; on = ap (λ (x : Chan). x .on) q; unlatched = ap (λ (x : Chan). x .latched) q }
+  lighted-in code s e q = record { nominal = e; phase = refl; on = ap (λ (x : Chan). x .on) q; unlatched = ap (λ (x : Chan). x .latched) q }
 
   switched : (code : ℕ) (right : Bool) (s : Channels) → Kept s ⊎ Lighted s → Moved k (b .phase) b (switchedOf code right s b .board) ⊎ Lit k b (switchedOf code right s b .board)
   switched code right s w =
@@ -193,7 +191,7 @@ module _ (k : ℕ) (b : Board) (fe : ForceEnabledBy (b .profile) k) where
   switched-mode code (change.Commanded.Accepted next) lit =
       let e : chan (enteringOf (modeOf b) (next .mode) (b .profile) (b .channels)) k ≡ chan (b .channels) k =
           entering (b .profile) k fe (b .channels) (modeOf b) (next .mode) ∙ rw (lit .0, lit .1) in
-      record { profile = refl; phase = refl; on = ap (λ (x : Chan). x .on) e; latched = ap (λ (x : Chan). x .latched) e }
+      record { phase = refl; on = ap (λ (x : Chan). x .on) e; latched = ap (λ (x : Chan). x .latched) e }
   switched-mode code change.Commanded.Unavailable lit = refused Answer.NotAvailable code
 
   safety-lit : (m : Mode) → modeOf b ≡ m → BothLit (toSafetyFrom m (b .phase))
@@ -215,14 +213,14 @@ module _ (k : ℕ) (b : Board) (fe : ForceEnabledBy (b .profile) k) where
     -- a command that alters neither the mode nor a channel
     same : (reply : Reply) (c : Board) → Moved k (b .phase) b c → Moved k (b .phase) b (acceptedWith reply c .board)
     unfolding acceptedWith
-    same reply c q = record { profile = q .profile; phase = q .phase; on = q .on; latched = q .latched }
+    same reply c q = record { phase = q .phase; on = q .on; latched = q .latched }
 
     nothing : Moved k (b .phase) b b
-    nothing = record { profile = refl; phase = refl; on = refl; latched = refl }
+    nothing = record { phase = refl; on = refl; latched = refl }
 
     -- 0x84, 0x86, 0x90, 0x92, and 0x94, whose checksum may be wrong: other settings, at most
     remembers : (reply : Reply) (x : Memory) → Moved k (b .phase) b (acceptedWith reply (withMemory x b) .board)
-    remembers reply x = same reply (withMemory x b) (record { profile = refl; phase = refl; on = refl; latched = refl })
+    remembers reply x = same reply (withMemory x b) (record { phase = refl; on = refl; latched = refl })
 
     saved : (code given : ℕ) → Moved k (b .phase) b (savedIn code given b .board)
     unfolding savedIn rememberedOf acceptedOf
@@ -241,7 +239,7 @@ module _ (k : ℕ) (b : Board) (fe : ForceEnabledBy (b .profile) k) where
     run code Command.SwitchToSafety = to-safety refl (switched-mode code (toSafety (b .phase)) (safety-lit (modeOf b) refl))
     run code Command.SwitchToNominal = to-nominal refl (switched-mode code (toNominal (b .phase) rail limits) (nominal-lit (modeOf b) rail limits refl))
     run code Command.GetOvercurrentFaultState = leaves-it refl (same _ b nothing)
-    run code Command.GetHousekeeping = leaves-it refl (same _ (withMeasured (seen (b .measured)) b) (record { profile = refl; phase = refl; on = refl; latched = refl }))
+    run code Command.GetHousekeeping = leaves-it refl (same _ (withMeasured (seen (b .measured)) b) (record { phase = refl; on = refl; latched = refl }))
     run code (Command.GetParameter id) = leaves-it refl (remembers _ _)
     run code (Command.SetParameter id v) = leaves-it refl (remembers _ _)
     run code (Command.ResetParameter id) = leaves-it refl (remembers _ _)
@@ -254,7 +252,7 @@ module _ (k : ℕ) (b : Board) (fe : ForceEnabledBy (b .profile) k) where
     turned-down : (code : ℕ) (r : Refusal) → DoesIt (Refused r) (turnedDown code r b)
     unfolding turnedDown notThisBoardOf
     turned-down code Refusal.FewerThanFourBytes = leaves-it refl nothing
-    turned-down code Refusal.NotThisBoard = leaves-it refl (record { profile = refl; phase = refl; on = refl; latched = refl })
+    turned-down code Refusal.NotThisBoard = leaves-it refl (record { phase = refl; on = refl; latched = refl })
     turned-down code Refusal.CodeNotListed = leaves-it refl (refused Answer.CodeNotListed code)
     turned-down code Refusal.TooShort = leaves-it refl (refused Answer.TooShort code)
     turned-down code Refusal.WrongKey = leaves-it refl (refused Answer.Wrong code)

@@ -47,7 +47,7 @@ use Rattle.claims.specs.Standing.{Stands}
 use Rattle.claims.proofs.PowerCommand.{Moved, Lit, asked, Does, idles, leaves-it, switches, to-safety, to-nominal, restarts, enteredOne, entering, step}
 
 -- ---- a start, and a reset of either kind: off, unlatched, in startup
-fresh-stands : (k : ℕ) → k < 32 → (p : Profile) (store : Store) (resets : Resets) → Stands k (freshOf p store resets)
+pub fresh-stands : (k : ℕ) → k < 32 → (p : Profile) (store : Store) (resets : Resets) → Stands k (freshOf p store resets)
 unfolding freshOf
 fresh-stands k h p store resets = ap (λ (x : Chan). x .on) (of-channels.cleared-each k h)
 
@@ -144,16 +144,6 @@ module _ (k : ℕ) (rail : ℤ) (limits : Limits) (d : Decoded) (ask : small.Com
   obeyed-stands h (to-nominal e q) w = moved-stands k b (c .board) (leaves (toNominal (b .phase) rail limits) (b .phase)) (to-nominal-lit (b .phase) rail limits) q w
   obeyed-stands h (restarts e o r) w = rw r (fresh-stands k h _ _ _)
 
-  -- and the profile
-  obeyed-profile : Does k rail limits d ask b c → c .board .profile ≡ b .profile
-  unfolding commandResetOf freshOf
-  obeyed-profile (idles e q) = q .profile
-  obeyed-profile (leaves-it e q) = q .profile
-  obeyed-profile (switches e q) = ⊎-elim (λ (p : Moved k (b .phase) b (c .board)). p .profile) (λ (p : Lit k b (c .board)). p .profile) q
-  obeyed-profile (to-safety e q) = q .profile
-  obeyed-profile (to-nominal e q) = q .profile
-  obeyed-profile (restarts e o r) = rw r
-
   -- without a reset it is what the small machine does
   obeyed-seen : Does k rail limits d ask b c → small.InStep (seen k b) → (d ≡ Run SystemReset → c .outcome ≡ Answered Accepted → ⊥) → seen k (c .board) ≡ small.obeyed ask rail limits (seen k b)
   obeyed-seen (idles e q) h n = moved-seen k b (c .board) (b .phase) q ∙ sym (idle rail limits ask (seen k b) (startup-is (modeOf b) e) h)
@@ -222,10 +212,6 @@ module _ (k : ℕ) (rail : ℤ) (named : ℕ) (words : List ℕ) (sent : Bool) (
   unfolding trippedOf changedOf risenOf
   found-phase = refl
 
-  found-profile : found .profile ≡ b .profile
-  unfolding trippedOf changedOf risenOf
-  found-profile = refl
-
   found-stands : Stands k b → Stands k found
   found-stands w =
       rw (ap (λ (x : Chan). x .on) found-channel, found-phase, ap (λ (x : Chan). x .latched) found-channel)
@@ -253,18 +239,12 @@ module _ (k : ℕ) (rail : ℤ) (named : ℕ) (words : List ℕ) (sent : Bool) (
     unfolding tickOf tickWith watchedIn
     after-is = rw allowed
 
-    -- whatever happens, the channel stands and the profile stays
+    -- whatever happens, the channel stands
     pub tick-stands : Stands k b → Stands k (after .board)
     unfolding watchdogResetOf
     tick-stands w =
         rw after-is
         (watched-by (Stands k) happening obeyed (obeyed-stands k rail own reading ask found obeyed (fe .a-channel) does (found-stands w)) (fresh-stands k (fe .a-channel) _ _ _))
-
-    pub tick-profile : after .board .profile ≡ b .profile
-    unfolding watchdogResetOf freshOf
-    tick-profile =
-        let obeying : obeyed .board .profile ≡ b .profile = obeyed-profile k rail own reading ask found obeyed does ∙ found-profile in
-        rw after-is (watched-by (λ c. c .profile ≡ b .profile) happening obeyed obeying obeying)
 
     -- without a reset, and where the channel is not named, it is the small machine's
     pub tick-seen : small.InStep (seen k b) → has named k ≡ false → (after .event ≡ WatchdogReset → ⊥) → (reading ≡ Run SystemReset → after .outcome ≡ Answered Accepted → ⊥)
