@@ -3,3 +3,4 @@ pub mod PowerCommand
 pub mod PowerTick
 pub mod Standing
 pub mod Power
+pub mod PowerReal

@@ -45,7 +45,7 @@ use Rattle.claims.proofs.Standing.{standing}
 
 -- ---- the small machine in the large one
 -- linger and the emergency period are the same on every board
-abbrev times : small.Times
+abbrev pub times : small.Times
 times = record { linger = secondsInTicks linger; period = secondsInTicks emergencyPeriod }
 
 -- what a tick is to the small machine; what stands for a read of the text line is never looked at
@@ -109,7 +109,7 @@ module _ (k : ℕ) where
   simulates = record { kept = kept; ticks = ticks; rests = rests }
 
   -- a reached machine is in touch where no latch keeps the channel off
-  in-touch : (m : Machine) → Reached m → ForceEnabled k m → Unlatched k m → InTouch k m
+  pub in-touch : (m : Machine) → Reached m → ForceEnabled k m → Unlatched k m → InTouch k m
   in-touch m r fe u = record { force-enabled = fe; in-step = standing k m r fe ∙ by-cases (isLit (modeOf (m .board))) (λ e. rw (u e, e)) (λ e. rw e) }
 
   powered-from : (m : Machine) → InTouch k m → (calls : List Call) → Stretch afterCall (Spares k) m calls → Powered (limits m .linger) (limits m .period) (channelOf k m calls)
@@ -143,7 +143,7 @@ power-of-one =
     }
 
 -- a stretch that disturbs no force-enabled channel spares each of them
-spares-each : (k : ℕ) (calls : List Call) (m : Machine) → ForceEnabled k m → Stretch afterCall Allowed m calls → Stretch afterCall (Spares k) m calls
+pub spares-each : (k : ℕ) (calls : List Call) (m : Machine) → ForceEnabled k m → Stretch afterCall Allowed m calls → Stretch afterCall (Spares k) m calls
 spares-each k [] m fe a = tt
 spares-each k (call ∷ calls) m fe a = (one call (a .0), spares-each k calls (afterCall m call) (subst (λ (p : Profile). ForceEnabledBy p k) (sym (call-profile m call)) fe) (a .1))
   where

@@ -44,7 +44,7 @@ after-stands k [] m fe w = w
 after-stands k (call ∷ calls) m fe w =
     after-stands k calls (afterCall m call) (subst (λ (p : Profile). ForceEnabledBy p k) (sym (call-profile m call)) fe) (call-stands k m call fe w)
 
-begun-is : (there : Machine) (profile : Profile) (store : Store) → keepsTheRules profile store ≡ true → begunOf there profile store .machine .board ≡ freshOf profile store neverReset
+pub begun-is : (there : Machine) (profile : Profile) (store : Store) → keepsTheRules profile store ≡ true → begunOf there profile store .machine .board ≡ freshOf profile store neverReset
 unfolding begunOf startOf
 begun-is there profile store accepted = rw accepted
 

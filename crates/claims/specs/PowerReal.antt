@@ -1,0 +1,37 @@
+-- Demand 3 is neither empty nor loose: on a real board, started from an accepted profile, a stretch of 72,052 ticks meets every premise, and in it each force-enabled channel is off for exactly 60,000 ticks
+-- in a row, and on for exactly 6,001 before emergency comes again. The rail is at 0 mV throughout and nothing is sent. Assumes nothing: this is the claim.
+use mathlib.Core.Path.{_≡_}
+use Prim.Native.Nat.{ℕ}
+use mathlib.Core.Bool.{Bool, true, false}
+use mathlib.Core.List.{List, [], _∷_, _++_}
+use lib.IntN.{pos}
+use lib.ListN.{replicate}
+use Rattle.power.specs.Runs.{Stretch}
+use Rattle.memory.specs.Memory.{emptyStore}
+use Rattle.state.specs.declared.parts.Profile.{Profile}
+use Rattle.unit.specs.Machine.{noMachine, begunOf}
+use Rattle.unit.specs.declared.Machine.{Machine}
+use Rattle.claims.specs.Runs.{Sample, Call, tick, afterCall, Reached}
+use Rattle.claims.specs.Power.{ForceEnabled, channelOf, Allowed, AtLeastOne, NoneLatched}
+
+-- board 1 with channels 0 to 3, of which 0 and 1 are force-enabled; nothing is stored
+abbrev pub profile : Profile
+profile = record { fitted = 15; forced = 3; bid = 1 }
+
+abbrev pub started : Machine
+started = begunOf noMachine profile emptyStore .machine
+
+-- a tick that brings a rail of 0 mV and nothing else
+abbrev pub dead : Call
+dead = tick (record { rail = pos 0; named = 0; words = []; sent = false; transfer = [] })
+
+-- the state before the stretch and 49 ticks in startup, 6,001 in safety, 60,000 in emergency, 6,001 in safety, and emergency again
+abbrev pub line : List Bool
+line = replicate 50 false ++ (replicate 6001 true ++ (replicate 60000 false ++ (replicate 6001 true ++ (false ∷ []))))
+
+pub record PowerReal : Type 0 where
+  pub reached : Reached started
+  pub at-least-one : AtLeastOne started
+  pub none-latched : NoneLatched started
+  pub allowed : Stretch afterCall Allowed started (replicate 72052 dead)
+  pub exactly : (k : ℕ) → ForceEnabled k started → channelOf k started (replicate 72052 dead) ≡ line
