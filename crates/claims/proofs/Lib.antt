@@ -4,3 +4,4 @@ pub mod PowerTick
 pub mod Standing
 pub mod Power
 pub mod PowerReal
+pub mod PowerNeeded

@@ -131,10 +131,10 @@ module _ (m : Machine) (calm : Calm m) where
   unfolding toldOf
   telling = ap (λ (t : Ticked). toldBy t (m .due)) (quiet (m .board) (calm .kept) (calm .rests))
 
-  still-calm : Calm (afterCall m dead)
+  pub still-calm : Calm (afterCall m dead)
   still-calm = subst Calm (sym (ap (λ (t : Told). t .machine) telling)) (record { kept = settled-memory (m .board) (calm .kept) (calm .rests); rests = settled-rests (m .board) (calm .kept) (calm .rests) })
 
-  undisturbed : Undisturbed m quietly
+  pub undisturbed : Undisturbed m quietly
   undisturbed =
       record {
         no-reset =
@@ -166,11 +166,11 @@ calm-inputs (suc n) m calm =
     rw (own (m .board) (calm .kept) (calm .rests)) (ap (λ (is : List small.Input). low ∷ is) (calm-inputs n (afterCall m dead) (still-calm m calm)))
 
 -- ---- the board
-started-calm : Calm started
+pub started-calm : Calm started
 unfolding begunOf startOf keepsTheRules isWithin allBelow has freshOf loadedFrom emptyStore
 started-calm = record { kept = refl; rests = refl }
 
-accepted : keepsTheRules profile emptyStore ≡ true
+pub accepted : keepsTheRules profile emptyStore ≡ true
 unfolding keepsTheRules isWithin allBelow has emptyStore
 accepted = refl
 
@@ -181,7 +181,7 @@ reached = record { there = noMachine; profile = profile; store = emptyStore; acc
 started-is : started .board ≡ freshOf profile emptyStore neverReset
 started-is = begun-is noMachine profile emptyStore accepted
 
-zero-forced : ForceEnabled 0 started
+pub zero-forced : ForceEnabled 0 started
 unfolding freshOf has
 zero-forced = subst (λ (b : Board). ForceEnabledBy (b .profile) 0) (sym started-is) (record { a-channel = omega arith; fitted = refl; forced = refl })
 

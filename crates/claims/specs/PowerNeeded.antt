@@ -1,0 +1,42 @@
+-- The premises of demand 3 that are needed: without any one of them the demand is false. For each a run that meets all the other premises, and on which the demand fails. Two premises are not needed, as
+-- `PowerOfOne` shows: that the settings stay, and that the board has a force-enabled channel. Assumes nothing: this is the claim.
+use mathlib.Core.Path.{_≡_}
+use Prim.Native.Nat.{ℕ}
+use mathlib.Core.Bool.{true, false}
+use mathlib.Core.List.{List}
+use Rattle.channels.specs.Sets.{has}
+use Rattle.power.specs.Runs.{Stretch}
+use Rattle.unit.specs.declared.Machine.{Machine}
+use Rattle.claims.specs.Runs.{Sample, told, Call, tick, line, afterCall, Reached}
+use Rattle.claims.specs.Power.{ForceEnabled, isTick, Resets, Allowed, AtLeastOne, NoneLatched, Demand3}
+
+-- a machine that is as `Start` says, and a stretch from it that is as `Met` says, on which the demand fails
+pub record Fails (Start : Machine → Type 0) (Met : Machine → Call → Type 0) : Type 0 where
+  pub from : Machine
+  pub start : Start from
+  pub calls : List Call
+  pub met : Stretch afterCall Met from calls
+  pub fails : Demand3 from calls → ⊥
+
+-- a tick is undisturbed but for a reset, or but for an overcurrent
+pub record ButReset (m : Machine) (i : Sample) : Type 0 where
+  pub no-change : told m i .machine .board .memory .current ≡ m .board .memory .current
+  pub no-overcurrent : (k : ℕ) → ForceEnabled k m → has (i .named) k ≡ false
+
+pub record ButOvercurrent (m : Machine) (i : Sample) : Type 0 where
+  pub no-reset : Resets m i → ⊥
+  pub no-change : told m i .machine .board .memory .current ≡ m .board .memory .current
+
+abbrev pub AllowedBut : (Machine → Sample → Type 0) → Machine → Call → Type 0
+AllowedBut Met m (tick i) = isTick (tick i) ≡ true → Met m i
+AllowedBut Met m (line received room) = Unit {0}
+
+pub record PowerNeeded : Type 0 where
+  -- a reset in the stretch turns a channel off that has just come on
+  pub without-reset : Fails (λ m. Reached m × AtLeastOne m × NoneLatched m) (AllowedBut ButReset)
+  -- so does an overcurrent
+  pub without-overcurrent : Fails (λ m. Reached m × AtLeastOne m × NoneLatched m) (AllowedBut ButOvercurrent)
+  -- a channel that is latched at the start stays off in nominal
+  pub unlatched-at-its-start : Fails (λ m. Reached m × AtLeastOne m) Allowed
+  -- and so does one that is off and not latched, in nominal, where no run leads
+  pub reached : Fails (λ m. AtLeastOne m × NoneLatched m) Allowed
