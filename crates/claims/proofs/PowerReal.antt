@@ -123,6 +123,13 @@ pub record Calm (m : Machine) : Type 0 where
   pub kept : m .board .memory ≡ defaults
   pub rests : Rests (modeOf (m .board)) (m .board .phase .age) (m .board .timer)
 
+-- a tick without an event and without a transfer is no reset
+pub uneventful : (m : Machine) (i : Sample) → told m i .event ≡ NoEvent → told m i .outcome ≡ NoTransfer → Resets m i → ⊥
+uneventful m i quiet unsent =
+    ⊎-elim
+    (λ (w : told m i .event ≡ WatchdogReset). let z : _≡_ {A = ℕ} 0 1 = cc in omega arith)
+    (λ w. let e : told m i .outcome ≡ Answered Accepted = w .1 in let z : _≡_ {A = ℕ} 0 1 = cc in omega arith)
+
 module _ (m : Machine) (calm : Calm m) where
   abbrev told-so : Ticked
   told-so = record { board = settled (m .board) (calm .kept) (calm .rests); outcome = NoTransfer; event = NoEvent; replied = false }
@@ -137,10 +144,7 @@ module _ (m : Machine) (calm : Calm m) where
   pub undisturbed : Undisturbed m quietly
   undisturbed =
       record {
-        no-reset =
-            ⊎-elim
-            (λ (w : told m quietly .event ≡ WatchdogReset). let e : NoEvent ≡ WatchdogReset = sym (ap (λ (t : Told). t .event) telling) ∙ w in let z : _≡_ {A = ℕ} 0 1 = cc in omega arith)
-            (λ w. let e : NoTransfer ≡ Answered Accepted = sym (ap (λ (t : Told). t .outcome) telling) ∙ w .1 in let z : _≡_ {A = ℕ} 0 1 = cc in omega arith);
+        no-reset = uneventful m quietly (ap (λ (t : Told). t .event) telling) (ap (λ (t : Told). t .outcome) telling);
         no-change =
             ap (λ (t : Told). t .machine .board .memory .current) telling
             ∙ ap (λ (x : Memory). x .current) (settled-memory (m .board) (calm .kept) (calm .rests) ∙ sym (calm .kept));
@@ -178,12 +182,17 @@ reached : Reached started
 unfolding after
 reached = record { there = noMachine; profile = profile; store = emptyStore; accepted = accepted; past = []; is = refl }
 
-started-is : started .board ≡ freshOf profile emptyStore neverReset
+pub started-is : started .board ≡ freshOf profile emptyStore neverReset
 started-is = begun-is noMachine profile emptyStore accepted
 
+-- channel 0 is force-enabled
+pub zero-of : ForceEnabledBy profile 0
+unfolding has
+zero-of = record { a-channel = omega arith; fitted = refl; forced = refl }
+
 pub zero-forced : ForceEnabled 0 started
-unfolding freshOf has
-zero-forced = subst (λ (b : Board). ForceEnabledBy (b .profile) 0) (sym started-is) (record { a-channel = omega arith; fitted = refl; forced = refl })
+unfolding freshOf
+zero-forced = subst (λ (b : Board). ForceEnabledBy (b .profile) 0) (sym started-is) zero-of
 
 none-latched : NoneLatched started
 unfolding freshOf

@@ -208,7 +208,7 @@ module _ (k : ℕ) (rail : ℤ) (named : ℕ) (words : List ℕ) (sent : Bool) (
       of-channels.each (b .profile .fitted) (b .profile .forced) (of-channels.overcurrent named) _ k (fe .a-channel)
       ∙ ap (overcurrentOne (has named k)) (entering (b .profile) k fe (b .channels) (modeOf b) (next .mode))
 
-  found-phase : found .phase ≡ next
+  pub found-phase : found .phase ≡ next
   unfolding trippedOf changedOf risenOf
   found-phase = refl
 
@@ -217,7 +217,7 @@ module _ (k : ℕ) (rail : ℤ) (named : ℕ) (words : List ℕ) (sent : Bool) (
       rw (ap (λ (x : Chan). x .on) found-channel, found-phase, ap (λ (x : Chan). x .latched) found-channel)
       (tripped-stands (has named k) (isLit (next .mode)) (enteredOne (modeOf b) (next .mode) (chan (b .channels) k)) (entered-stands (modeOf b) (next .mode) (chan (b .channels) k) w))
 
-  found-seen : has named k ≡ false → seen k found ≡ small.enters next (seen k b)
+  pub found-seen : has named k ≡ false → seen k found ≡ small.enters next (seen k b)
   found-seen e =
       rw (found-phase, ap (λ (x : Chan). x .on) found-channel, e)
       (ap (λ (o : Bool). record { phase = next; on = o }) (entered-on (modeOf b) (next .mode) (chan (b .channels) k)))

@@ -20,7 +20,7 @@ low = record { rail = pos 0; «safety_low» = pos 1; «safety_high» = pos 1; «
 is-low : Low low
 is-low = record { below-safety-low = refl; below-safety-high = refl; below-emergency-low = refl; below-emergency-high = refl; no-command = refl }
 
-all-off : (n : ℕ) → All Off (replicate n false)
+pub all-off : (n : ℕ) → All Off (replicate n false)
 all-off zero = tt
 all-off (suc n) = (refl, all-off n)
 
