@@ -36,7 +36,7 @@ use Rattle.unit.specs.declared.Machine.{Machine}
 use Rattle.unit.proofs.Laws.{refused-tick-leaves}
 use Rattle.claims.specs.Runs.{Sample, told, Call, tick, line, afterCall, Reached}
 use Rattle.claims.specs.Power.{isOn, ForceEnabledBy, ForceEnabled, isTick, endsOf, channelOf, Resets, Undisturbed, Allowed, AtLeastOne, NoneLatched, limits, Demand3, Power}
-use Rattle.claims.specs.PowerOfOne.{Spared, Spares, Unlatched, PowerOfOne}
+use Rattle.claims.specs.PowerOfOne.{Spared, Spares, Unlatched, Lasts, PowerOfOne}
 use Rattle.claims.specs.Standing.{Stands}
 use Rattle.claims.proofs.Profiles.{call-profile}
 use Rattle.claims.proofs.PowerCommand.{asked}
@@ -112,8 +112,7 @@ module _ (k : ℕ) where
   pub in-touch : (m : Machine) → Reached m → ForceEnabled k m → Unlatched k m → InTouch k m
   in-touch m r fe u = record { force-enabled = fe; in-step = standing k m r fe ∙ by-cases (isLit (modeOf (m .board))) (λ e. rw (u e, e)) (λ e. rw e) }
 
-  powered-from : (m : Machine) → InTouch k m → (calls : List Call) → Stretch afterCall (Spares k) m calls → Powered (limits m .linger) (limits m .period) (channelOf k m calls)
-  unfolding limitsOf
+  powered-from : (m : Machine) → InTouch k m → (calls : List Call) → Stretch afterCall (Spares k) m calls → Powered (times .linger) (times .period) (channelOf k m calls)
   powered-from m h calls a =
       inherits afterCall isTick (small.tick times) (InTouch k) (Spares k) (small-of k) input simulates (λ x. x .on) (Powered (times .linger) (times .period)) m
       (λ is. of-small.with-before times (omega arith) (small-of k m) (h .in-step) is) h calls a
@@ -134,11 +133,20 @@ together j k m g h calls a b =
     ∙ ap (λ (s : small.State). channel (small.tick times) (λ i. true) (λ x. x .on) s (inputs afterCall isTick input m calls)) (alike j k m g h)
     ∙ sym (same-line k m h calls b)
 
+-- the numbers of the claim are no better than those shown
+lasts : (k : ℕ) (m : Machine) → InTouch k m → (calls : List Call) → Stretch afterCall (Spares k) m calls → Lasts k m calls
+unfolding limitsOf
+lasts k m h calls a =
+    let p = powered-from k m h calls a in
+    record {
+      powered = of-small.looser (times .linger) _ (times .period) _ (omega arith) (omega arith) p;
+      powered-by-ends = of-small.looser (times .linger) _ (times .period) _ (omega arith) (omega arith) (of-small.without-first p);
+    }
+
 pub power-of-one : PowerOfOne
 power-of-one =
     record {
-      powered = λ k m r fe u calls a. powered-from k m (in-touch k m r fe u) calls a;
-      powered-by-ends = λ k m r fe u calls a. of-small.without-first (powered-from k m (in-touch k m r fe u) calls a);
+      lasts = λ k m r fe u calls a. lasts k m (in-touch k m r fe u) calls a;
       together = λ j k m r fj fk uj uk calls a b. together j k m (in-touch j m r fj uj) (in-touch k m r fk uk) calls a b;
     }
 
@@ -154,8 +162,8 @@ spares-each k (call ∷ calls) m fe a = (one call (a .0), spares-each k calls (a
 pub power : Power
 power m r some unlatched calls a =
     record {
-      powered = λ k fe. power-of-one .powered k m r fe (λ e. unlatched k fe) calls (spares-each k calls m fe a);
-      powered-by-ends = λ k fe. power-of-one .powered-by-ends k m r fe (λ e. unlatched k fe) calls (spares-each k calls m fe a);
+      powered = λ k fe. power-of-one .lasts k m r fe (λ e. unlatched k fe) calls (spares-each k calls m fe a) .powered;
+      powered-by-ends = λ k fe. power-of-one .lasts k m r fe (λ e. unlatched k fe) calls (spares-each k calls m fe a) .powered-by-ends;
       together = λ j k fj fk. power-of-one .together j k m r fj fk (λ e. unlatched j fj) (λ e. unlatched k fk) calls (spares-each j calls m fj a) (spares-each k calls m fk a);
     }
 

@@ -27,7 +27,7 @@ use Rattle.settings.specs.Values.{numberOf, defaultsOf, defaultN}
 use Rattle.watchdog.proofs.Laws.{disabled, early}
 use Rattle.power.specs.Machine as small
 use Rattle.power.specs.Runs.{OffAtMost, Stretch}
-use Rattle.power.specs.Claim.{mostOff}
+use Rattle.power.specs.Claim.{mostOff, Powered}
 use Rattle.power.proofs.Tight.{all-off}
 use Rattle.command.specs.Table as codes
 use Rattle.command.specs.Codes.{isIn, baseCodes}
@@ -55,7 +55,7 @@ use Rattle.text.specs.declared.framing.Due.the-variants.{Nothing}
 use Rattle.unit.specs.declared.Machine.{Machine}
 use Rattle.unit.specs.declared.Told.{Told}
 use Rattle.claims.specs.Runs.{Sample, told, Call, tick, afterCall, after, Reached}
-use Rattle.claims.specs.Power.{isOn, ForceEnabledBy, ForceEnabled, isTick, channelOf, Resets, Undisturbed, Allowed, AtLeastOne, NoneLatched, limits, Demand3}
+use Rattle.claims.specs.Power.{isOn, ForceEnabledBy, ForceEnabled, isTick, channelOf, Resets, Undisturbed, Allowed, AtLeastOne, NoneLatched, limits}
 use Rattle.claims.specs.PowerReal.{profile, started, dead}
 use Rattle.claims.specs.PowerNeeded.{Fails, ButReset, ButOvercurrent, AllowedBut, PowerNeeded}
 use Rattle.claims.proofs.Profiles.{after-profile}
@@ -134,9 +134,9 @@ nearly-unlatched : NoneLatched nearly
 nearly-unlatched k fe = rw (computed .none-latched) (has-none k)
 
 -- on for a single tick
-too-short : (m : Machine) (calls : List Call) → ForceEnabled 0 m → channelOf 0 m calls ≡ false ∷ true ∷ false ∷ [] → Demand3 m calls → ⊥
+too-short : (m : Machine) (calls : List Call) → channelOf 0 m calls ≡ false ∷ true ∷ false ∷ [] → Powered (limits m .linger) (limits m .period) (channelOf 0 m calls) → ⊥
 unfolding limitsOf
-too-short m calls fe e d = false≢true (d .powered 0 fe .on-for-long .shown [] (false ∷ []) e .1 .0)
+too-short m calls e d = false≢true (d .on-for-long .shown [] (false ∷ []) e .1 .0)
 
 pub without-reset : Fails (λ m. Reached m × AtLeastOne m × NoneLatched m) (AllowedBut ButReset)
 without-reset =
@@ -147,7 +147,9 @@ without-reset =
       met =
           (λ e. let u = undisturbed nearly nearly-calm in record { no-change = u .no-change; no-overcurrent = u .no-overcurrent },
           (λ e. record { no-change = computed .restart-settings; no-overcurrent = λ k fe. has-none k }, tt));
-      fails = too-short nearly (dead ∷ tick restart ∷ []) (forced-after (replicate 49 dead)) (computed .restart-line);
+      k = 0;
+      force-enabled = forced-after (replicate 49 dead);
+      fails = too-short nearly (dead ∷ tick restart ∷ []) (computed .restart-line);
     }
 
 pub without-overcurrent : Fails (λ m. Reached m × AtLeastOne m × NoneLatched m) (AllowedBut ButOvercurrent)
@@ -159,7 +161,9 @@ without-overcurrent =
       met =
           (λ e. let u = undisturbed nearly nearly-calm in record { no-reset = u .no-reset; no-change = u .no-change },
           (λ e. record { no-reset = uneventful (afterCall nearly dead) tripping (computed .tripping-event) (computed .tripping-outcome); no-change = computed .tripping-settings }, tt));
-      fails = too-short nearly (dead ∷ tick tripping ∷ []) (forced-after (replicate 49 dead)) (computed .tripping-line);
+      k = 0;
+      force-enabled = forced-after (replicate 49 dead);
+      fails = too-short nearly (dead ∷ tick tripping ∷ []) (computed .tripping-line);
     }
 
 -- ---- the two long runs
@@ -272,8 +276,8 @@ off-for n most m stuck h =
     omega (arith, h .shown [] (replicate (suc n) false) [] (stuck-line n m stuck ∙ sym (append-nil (replicate (suc n) false))) (all-off (suc n)), length-replicate (suc n) false)
 
 -- so after 60,000 ticks, and the state before them, the demand fails
-too-long : (m : Machine) → Stuck m → ForceEnabled 0 m → Demand3 m (replicate 60000 (tick fed)) → ⊥
-too-long m stuck fe d = omega (arith, off-for 60000 (mostOff (limits m .period)) m stuck (d .powered 0 fe .never-off-long), numbers m .0)
+too-long : (m : Machine) → Stuck m → Powered (limits m .linger) (limits m .period) (channelOf 0 m (replicate 60000 (tick fed))) → ⊥
+too-long m stuck d = omega (arith, off-for 60000 (mostOff (limits m .period)) m stuck (d .never-off-long), numbers m .0)
 
 latched-stuck : Stuck latched-off
 unfolding freshOf
@@ -286,7 +290,9 @@ unlatched-at-its-start =
       start = (reached-by before, record { one = 0; is = forced-after before });
       calls = replicate 60000 (tick fed);
       met = stuck-allowed 60000 latched-off latched-stuck;
-      fails = too-long latched-off latched-stuck (forced-after before);
+      k = 0;
+      force-enabled = forced-after before;
+      fails = too-long latched-off latched-stuck;
     }
 
 -- a machine that was put into nominal by nobody: every channel is off, and none latched
@@ -312,7 +318,9 @@ reached =
       start = (record { one = 0; is = made-up-forced }, made-up-unlatched);
       calls = replicate 60000 (tick fed);
       met = stuck-allowed 60000 made-up made-up-stuck;
-      fails = too-long made-up made-up-stuck made-up-forced;
+      k = 0;
+      force-enabled = made-up-forced;
+      fails = too-long made-up made-up-stuck;
     }
 
 pub power-needed : PowerNeeded

@@ -6,17 +6,20 @@ use mathlib.Core.Bool.{true, false}
 use mathlib.Core.List.{List}
 use Rattle.channels.specs.Sets.{has}
 use Rattle.power.specs.Runs.{Stretch}
+use Rattle.power.specs.Claim.{Powered}
 use Rattle.unit.specs.declared.Machine.{Machine}
 use Rattle.claims.specs.Runs.{Sample, told, Call, tick, line, afterCall, Reached}
-use Rattle.claims.specs.Power.{ForceEnabled, isTick, Resets, Allowed, AtLeastOne, NoneLatched, Demand3}
+use Rattle.claims.specs.Power.{ForceEnabled, isTick, channelOf, Resets, Allowed, AtLeastOne, NoneLatched, limits}
 
--- a machine that is as `Start` says, and a stretch from it that is as `Met` says, on which the demand fails
+-- a machine that is as `Start` says, and a stretch from it that is as `Met` says, in which a force-enabled channel is off for too long, or on for too short a time
 pub record Fails (Start : Machine → Type 0) (Met : Machine → Call → Type 0) : Type 0 where
   pub from : Machine
   pub start : Start from
   pub calls : List Call
   pub met : Stretch afterCall Met from calls
-  pub fails : Demand3 from calls → ⊥
+  pub k : ℕ
+  pub force-enabled : ForceEnabled k from
+  pub fails : Powered (limits from .linger) (limits from .period) (channelOf k from calls) → ⊥
 
 -- a tick is undisturbed but for a reset, or but for an overcurrent
 pub record ButReset (m : Machine) (i : Sample) : Type 0 where

@@ -27,11 +27,13 @@ Spares k m (line received room) = Unit {0}
 abbrev pub Unlatched : ℕ → Machine → Type 0
 Unlatched k m = isLit (modeOf (m .board)) ≡ true → has (m .board .channels .latched) k ≡ false
 
+-- what a stretch from m, met so, shows of channel k
+pub record Lasts (k : ℕ) (m : Machine) (calls : List Call) : Type 0 where
+  pub powered : Powered (limits m .linger) (limits m .period) (channelOf k m calls)
+  pub powered-by-ends : Powered (limits m .linger) (limits m .period) (endsOf k m calls)
+
 pub record PowerOfOne : Type 0 where
-  pub powered : (k : ℕ) (m : Machine) → Reached m → ForceEnabled k m → Unlatched k m → (calls : List Call) → Stretch afterCall (Spares k) m calls
-      → Powered (limits m .linger) (limits m .period) (channelOf k m calls)
-  pub powered-by-ends : (k : ℕ) (m : Machine) → Reached m → ForceEnabled k m → Unlatched k m → (calls : List Call) → Stretch afterCall (Spares k) m calls
-      → Powered (limits m .linger) (limits m .period) (endsOf k m calls)
+  pub lasts : (k : ℕ) (m : Machine) → Reached m → ForceEnabled k m → Unlatched k m → (calls : List Call) → Stretch afterCall (Spares k) m calls → Lasts k m calls
   -- two such channels are on and off alike
   pub together : (j k : ℕ) (m : Machine) → Reached m → ForceEnabled j m → ForceEnabled k m → Unlatched j m → Unlatched k m
       → (calls : List Call) → Stretch afterCall (Spares j) m calls → Stretch afterCall (Spares k) m calls → channelOf j m calls ≡ channelOf k m calls

@@ -2,14 +2,15 @@
 use mathlib.Core.Path.{_≡_, refl, ap}
 use mathlib.Core.Bool.{Bool, true, false}
 use mathlib.Core.List.{List, [], _∷_}
-use Prim.Native.Nat.{ℕ, suc, _+_, _^_, _≤_, _<_, max}
+use Prim.Native.Nat.{ℕ, zero, suc, _+_, _^_, _≤_, _<_, max}
 use native.Mathlib.Omega.{arith}
+use lib.ListN.{take}
 use Rattle.modes.specs.Table.{_aged_}
 use Rattle.modes.specs.declared.Mode.{Mode}
 use Rattle.modes.specs.declared.Mode.the-variants.{Startup, Nominal, Safety, Emergency}
-use Rattle.power.specs.Runs.{ends, channel, OffAtMost, OnAtLeast}
+use Rattle.power.specs.Runs.{channel, All, On, OffAtMost, OnAtLeast}
 use Rattle.power.specs.Machine.{State, Times, Input, isLit, tick, InStep}
-use Rattle.power.specs.Claim.{mostOff, leastOn, Powered, isTick, isOn, Claim}
+use Rattle.power.specs.Claim.{mostOff, leastOn, Powered, isTick, isOn, Powers, Claim}
 use Rattle.power.proofs.Lift.{Ticks, off-at-most, on-at-least}
 use Rattle.power.proofs.Step.{left, held, good, clash}
 
@@ -47,5 +48,20 @@ without-first {x = x} p =
       on-for-long = record { shown = λ before since e. p .on-for-long .shown (x ∷ before) since (ap (λ (l : List Bool). x ∷ l) e) };
     }
 
+-- what is on for n places is on for fewer
+fewer-on : (n m : ℕ) (xs : List Bool) → n ≤ m → All On (take m xs) → All On (take n xs)
+fewer-on zero m xs h a = tt
+fewer-on (suc n) zero xs h a = absurd (omega arith)
+fewer-on (suc n) (suc m) [] h a = tt
+fewer-on (suc n) (suc m) (x ∷ xs) h a = (a .0, fewer-on n m xs (omega arith) (a .1))
+
+-- a shorter linger and a longer period ask for less
+pub looser : (linger linger′ period period′ : ℕ) {line : List Bool} → linger′ ≤ linger → period ≤ period′ → Powered linger period line → Powered linger′ period′ line
+looser linger linger′ period period′ l p h =
+    record {
+      never-off-long = record { shown = λ before during after e a. omega (arith, h .never-off-long .shown before during after e a) };
+      on-for-long = record { shown = λ before since e. fewer-on (leastOn linger′) (leastOn linger) (true ∷ since) (omega arith) (h .on-for-long .shown before since e) };
+    }
+
 pub powered : Claim
-powered = record { with-before = with-before; ticks-alone = λ t fits s h is. without-first (with-before t fits s h is) }
+powered t fits s h is = let p = with-before t (omega arith) s h is in record { with-before = p; by-ends = without-first p }

@@ -1,14 +1,15 @@
 -- Neither number of the claim can be bettered: the run of a low rail has both, for any two times, and two such runs are computed. Assumes nothing.
 use mathlib.Core.Path.{_≡_, refl, sym, ap, _∙_, subst}
 use mathlib.Core.Bool.{Bool, true, false, false≢true}
-use mathlib.Core.List.{List, [], _∷_, _++_, append-assoc}
+use mathlib.Core.List.{List, [], _∷_, _++_, append-assoc, append-nil}
 use Prim.Native.Nat.{ℕ, zero, suc, _+_, _-_, _^_, _≤_, _<_, max}
 use native.Mathlib.Omega.{arith}
 use lib.IntN.{pos}
 use lib.ListN.{length, take, replicate, length-replicate}
-use Rattle.modes.specs.Table.{stepOf, olderOf}
+use Rattle.modes.specs.Table.{_aged_, stepOf, olderOf}
+use Rattle.modes.specs.declared.Mode.the-variants.{Emergency}
 use Rattle.power.specs.Runs.{channel, All, Off, On, OffAtMost, OnAtLeast}
-use Rattle.power.specs.Machine.{Times, Command, other, Input, start, tick}
+use Rattle.power.specs.Machine.{State, Times, Command, other, Input, start, tick}
 use Rattle.power.specs.Claim.{mostOff, leastOn, isTick, isOn}
 use Rattle.power.specs.Tight.{Tight}
 use Rattle.power.proofs.Stages.{Low, lowTicks, lowLine, low-run}
@@ -48,11 +49,30 @@ on-ends t n h =
     let rest = replicate (t .period - 1) false ++ (replicate (suc (t .linger)) true ++ (false ∷ [])) in
     omega (arith, cut (suc (t .linger)) n rest (h .shown (replicate 49 false) (replicate (t .linger) true ++ false ∷ rest) refl))
 
+-- ---- a period of 2 ^ 64 ticks: at the top of its age emergency is there for good
+abbrev endless : Times
+endless = record { linger = 0; period = 2 ^ 64 }
+
+abbrev topmost : State
+topmost = record { phase = Emergency aged (2 ^ 64 - 1); on = false }
+
+stays-there : tick endless topmost low ≡ topmost
+unfolding tick stepOf olderOf
+stays-there = refl
+
+never-on : (n : ℕ) → channel (tick endless) isTick isOn topmost (replicate n low) ≡ replicate (suc n) false
+never-on zero = refl
+never-on (suc n) = rw stays-there (ap (λ (l : List Bool). false ∷ l) (never-on n))
+
+too-long : (n most : ℕ) → OffAtMost most (channel (tick endless) isTick isOn topmost (replicate n low)) → suc n ≤ most
+too-long n most h = omega (arith, h .shown [] (replicate (suc n) false) [] (never-on n ∙ sym (append-nil (replicate (suc n) false))) (all-off (suc n)), length-replicate (suc n) false)
+
 pub tight : Tight
 tight =
     record {
-      off = λ t l p n h. off-lasts t n (subst (OffAtMost n) (low-run t low is-low l p) (h (replicate (lowTicks t) low)));
-      on = λ t l p n h. on-ends t n (subst (OnAtLeast n) (low-run t low is-low l p) (h (replicate (lowTicks t) low)));
+      off = λ t l p n h. off-lasts t n (subst (OffAtMost n) (low-run t low is-low (omega arith) (omega arith)) (h (replicate (lowTicks t) low)));
+      on = λ t l p n h. on-ends t n (subst (OnAtLeast n) (low-run t low is-low (omega arith) (omega arith)) (h (replicate (lowTicks t) low)));
+      period-fits = λ h. omega (arith, too-long (2 ^ 64) (mostOff (2 ^ 64)) (h endless topmost refl (replicate (2 ^ 64) low)));
     }
 
 -- ---- two runs that antt computes

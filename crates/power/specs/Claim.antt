@@ -26,8 +26,12 @@ isTick i = true
 abbrev pub isOn : State → Bool
 isOn s = s .on
 
--- Over any run from any state in step, with the state before the run as the first of the list and without it. Linger and the period may be 0, and the thresholds stand in any order and may change with
--- every tick. The period fits its 64 bits: the age stops at their top, so a longer one would never be over.
-pub record Claim : Type 0 where
-  pub with-before : (t : Times) → t .period < 2 ^ 64 → (s : State) → InStep s → (is : List Input) → Powered (t .linger) (t .period) (channel (tick t) isTick isOn s is)
-  pub ticks-alone : (t : Times) → t .period < 2 ^ 64 → (s : State) → InStep s → (is : List Input) → Powered (t .linger) (t .period) (ends (tick t) isTick isOn s is)
+-- the channel over a run from s, with the state before the run as the first of the list, and by the ticks' ends alone
+pub record Powers (t : Times) (s : State) (is : List Input) : Type 0 where
+  pub with-before : Powered (t .linger) (t .period) (channel (tick t) isTick isOn s is)
+  pub by-ends : Powered (t .linger) (t .period) (ends (tick t) isTick isOn s is)
+
+-- Over any run from any state in step. Linger and the period may be 0, and the thresholds stand in any order and may change with every tick. The period fits its 64 bits: the age stops at their top, so a
+-- longer one would never be over.
+abbrev pub Claim : Type 0
+Claim = (t : Times) → t .period < 2 ^ 64 → (s : State) → InStep s → (is : List Input) → Powers t s is
