@@ -5,3 +5,4 @@ pub mod Standing
 pub mod Power
 pub mod PowerReal
 pub mod PowerNeeded
+pub mod Dark

@@ -24,7 +24,7 @@ use Rattle.watchdog.proofs.Laws.{early}
 use Rattle.power.specs.Machine as small
 use Rattle.power.proofs.Step.{by-cases}
 use Rattle.power.proofs.Simulation.{inputs}
-use Rattle.power.proofs.Stages.{Low, lowTicks, lowLine, low-run}
+use Rattle.power.proofs.Stages.{Low, lowTicks, low-run}
 use Rattle.memory.specs.Memory.{emptyStore, withDefaults, loadedFrom}
 use Rattle.memory.specs.Limits.{timeoutOf, limitsOf}
 use Rattle.memory.specs.declared.Memory.{Memory}
@@ -38,13 +38,13 @@ use Rattle.answers.specs.declared.Outcome.the-variants.{NoTransfer, Answered}
 use Rattle.commands.specs.Step.{commandedOf}
 use Rattle.board.specs.Tick.{risenOf, changedOf, trippedOf, watchedIn, tickWith, allowedCount, tickOf}
 use Rattle.board.specs.declared.Ticked.{Ticked}
-use Rattle.power.specs.Runs.{channel, Stretch}
+use Rattle.power.specs.Runs.{channel, Stretch, turns}
 use Rattle.unit.specs.Machine.{noMachine, begunOf, toldBy, toldOf}
 use Rattle.unit.specs.declared.Machine.{Machine}
 use Rattle.unit.specs.declared.Told.{Told}
 use Rattle.claims.specs.Runs.{Sample, told, Call, tick, afterCall, after, Reached}
 use Rattle.claims.specs.Power.{ForceEnabledBy, ForceEnabled, channelOf, isTick, Resets, Undisturbed, Allowed, AtLeastOne, NoneLatched}
-use Rattle.claims.specs.PowerReal.{profile, started, dead, line, PowerReal}
+use Rattle.claims.specs.PowerReal.{profile, started, dead, ticks, line, PowerReal}
 use Rattle.claims.proofs.PowerTick.{seen}
 use Rattle.claims.proofs.Standing.{begun-is}
 use Rattle.claims.proofs.Power.{times, input, small-of, in-touch, same-line, spares-each}
@@ -209,9 +209,16 @@ any-number k fe n =
     ∙ ap (λ (is : List small.Input). channel (small.tick times) (λ i. true) (λ x. x .on) (small-of k started) is) (calm-inputs n started started-calm)
     ∙ ap (λ (s : small.State). channel (small.tick times) (λ i. true) (λ x. x .on) s (replicate n low)) (started-small k fe)
 
-exactly : (k : ℕ) → ForceEnabled k started → channelOf k started (replicate 72052 dead) ≡ line
-unfolding lowLine
-exactly k fe = any-number k fe 72052 ∙ low-run times low is-low (omega arith) (omega arith)
+same-turns : {a a′ b b′ c c′ d d′ : ℕ} → a ≡ a′ → b ≡ b′ → c ≡ c′ → d ≡ d′ → turns a b c d ≡ turns a′ b′ c′ d′
+same-turns e f g h = rw (e, f, g, h)
+
+exactly : (k : ℕ) → ForceEnabled k started → channelOf k started (replicate ticks dead) ≡ line
+exactly k fe =
+    let count : ticks ≡ lowTicks times = omega arith in
+    any-number k fe ticks
+    ∙ ap (λ (n : ℕ). channel (small.tick times) (λ i. true) (λ x. x .on) small.start (replicate n low)) count
+    ∙ low-run times low is-low (omega arith) (omega arith)
+    ∙ same-turns (omega arith) (omega arith) (omega arith) (omega arith)
 
 pub power-real : PowerReal
 power-real =
@@ -219,6 +226,6 @@ power-real =
       reached = reached;
       at-least-one = record { one = 0; is = zero-forced };
       none-latched = none-latched;
-      allowed = calm-allowed 72052 started started-calm;
+      allowed = calm-allowed ticks started started-calm;
       exactly = exactly;
     }

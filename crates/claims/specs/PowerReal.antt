@@ -2,11 +2,11 @@
 -- in a row, and on for exactly 6,001 before emergency comes again. The rail is at 0 mV throughout and nothing is sent. Assumes nothing: this is the claim.
 use mathlib.Core.Path.{_≡_}
 use Prim.Native.Nat.{ℕ}
-use mathlib.Core.Bool.{Bool, true, false}
-use mathlib.Core.List.{List, [], _∷_, _++_}
+use mathlib.Core.Bool.{Bool, false}
+use mathlib.Core.List.{List, []}
 use lib.IntN.{pos}
 use lib.ListN.{replicate}
-use Rattle.power.specs.Runs.{Stretch}
+use Rattle.power.specs.Runs.{Stretch, turns}
 use Rattle.memory.specs.Memory.{emptyStore}
 use Rattle.state.specs.declared.parts.Profile.{Profile}
 use Rattle.unit.specs.Machine.{noMachine, begunOf}
@@ -25,13 +25,17 @@ started = begunOf noMachine profile emptyStore .machine
 abbrev pub dead : Call
 dead = tick (record { rail = pos 0; named = 0; words = []; sent = false; transfer = [] })
 
+-- the ticks of the stretch
+abbrev pub ticks : ℕ
+ticks = 72052
+
 -- the state before the stretch and 49 ticks in startup, 6,001 in safety, 60,000 in emergency, 6,001 in safety, and emergency again
 abbrev pub line : List Bool
-line = replicate 50 false ++ (replicate 6001 true ++ (replicate 60000 false ++ (replicate 6001 true ++ (false ∷ []))))
+line = turns 50 6001 60000 6001
 
 pub record PowerReal : Type 0 where
   pub reached : Reached started
   pub at-least-one : AtLeastOne started
   pub none-latched : NoneLatched started
-  pub allowed : Stretch afterCall Allowed started (replicate 72052 dead)
-  pub exactly : (k : ℕ) → ForceEnabled k started → channelOf k started (replicate 72052 dead) ≡ line
+  pub allowed : Stretch afterCall Allowed started (replicate ticks dead)
+  pub exactly : (k : ℕ) → ForceEnabled k started → channelOf k started (replicate ticks dead) ≡ line

@@ -11,7 +11,7 @@ use lib.ListN.{replicate, replicate-append-replicate}
 use Rattle.modes.specs.Table.{_at-least_, _above_, _below_, _aged_, stepOf, olderOf}
 use Rattle.modes.specs.declared.Mode.{Mode}
 use Rattle.modes.specs.declared.Mode.the-variants.{Startup, Nominal, Safety, Emergency}
-use Rattle.power.specs.Runs.{ends, channel}
+use Rattle.power.specs.Runs.{ends, channel, turns}
 use Rattle.power.specs.Machine.{State, Times, Command, other, Input, start, tick}
 use Rattle.power.specs.Claim.{isTick, isOn}
 
@@ -23,12 +23,9 @@ pub record Low (i : Input) : Type 0 where
   pub below-emergency-high : (i .rail above i .«emergency_high») ≡ false
   pub no-command : i .command ≡ other
 
--- the ticks of the run, and what they and the start before them show: a state in emergency is off even where the period is 0
+-- the ticks of the run; emergency has at least one, even where the period is 0
 abbrev pub lowTicks : Times → ℕ
 lowTicks t = 49 + (suc (t .linger) + (suc (t .period - 1) + (suc (t .linger) + 1)))
-
-unfoldable pub lowLine : Times → List Bool
-lowLine t = replicate 50 false ++ (replicate (suc (t .linger)) true ++ (replicate (suc (t .period - 1)) false ++ (replicate (suc (t .linger)) true ++ (false ∷ []))))
 
 -- stages of one input are one stage
 adds : (i : Input) (n m : ℕ) {is : List Input} → is ≡ replicate m i → replicate n i ++ is ≡ replicate (n + m) i
@@ -92,10 +89,10 @@ module _ (t : Times) (i : Input) where
     emergency-ends =
         rw (low .no-command, low .below-emergency-high, le-leb (t .period) (min (t .period - 1 + 1) (2 ^ 64 - 1)) (omega arith))
 
-    -- the whole run, one stage behind another; in emergency at least one tick ends even where the period is 0
+    -- the whole run, one stage behind another
     by-stages : channel (tick t) isTick isOn start (replicate 49 i ++ (replicate (suc (t .linger)) i ++ (replicate (suc (t .period - 1)) i ++ (replicate (suc (t .linger)) i ++ replicate 1 i))))
-        ≡ lowLine t
-    unfolding lowLine
+        ≡ turns 50 (suc (t .linger)) (suc (t .period - 1)) (suc (t .linger))
+    unfolding turns
     by-stages =
         let lasts : line (state Safety (t .linger) true) (i ∷ []) ≡ false ∷ [] = rw safety-ends in
         let again =
@@ -111,5 +108,5 @@ module _ (t : Times) (i : Input) where
         (staying Startup false 49 startup-ages 49 0 (omega arith) (replicate (suc (t .linger)) i ++ (replicate (suc (t .period - 1)) i ++ (replicate (suc (t .linger)) i ++ (i ∷ []))))
         ∙ ap (λ (l : List Bool). replicate 49 false ++ l) lit)
 
-    pub low-run : channel (tick t) isTick isOn start (replicate (lowTicks t) i) ≡ lowLine t
+    pub low-run : channel (tick t) isTick isOn start (replicate (lowTicks t) i) ≡ turns 50 (suc (t .linger)) (suc (t .period - 1)) (suc (t .linger))
     low-run = ap (λ (is : List Input). channel (tick t) isTick isOn start is) (sym (joined i (suc (t .linger)) (suc (t .period - 1)))) ∙ by-stages

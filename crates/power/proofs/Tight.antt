@@ -8,11 +8,11 @@ use lib.IntN.{pos}
 use lib.ListN.{length, take, replicate, length-replicate}
 use Rattle.modes.specs.Table.{_aged_, stepOf, olderOf}
 use Rattle.modes.specs.declared.Mode.the-variants.{Emergency}
-use Rattle.power.specs.Runs.{channel, All, Off, On, OffAtMost, OnAtLeast}
+use Rattle.power.specs.Runs.{channel, All, Off, On, OffAtMost, OnAtLeast, turns}
 use Rattle.power.specs.Machine.{State, Times, Command, other, Input, start, tick}
 use Rattle.power.specs.Claim.{mostOff, leastOn, isTick, isOn}
 use Rattle.power.specs.Tight.{Tight}
-use Rattle.power.proofs.Stages.{Low, lowTicks, lowLine, low-run}
+use Rattle.power.proofs.Stages.{Low, lowTicks, low-run}
 
 -- a rail of 0 mV, with thresholds of 1 mV
 abbrev low : Input
@@ -26,8 +26,8 @@ all-off zero = tt
 all-off (suc n) = (refl, all-off n)
 
 -- ---- in the list of the run stand all that bound the two numbers
-off-lasts : (t : Times) (n : ℕ) → OffAtMost n (lowLine t) → mostOff (t .period) ≤ n
-unfolding lowLine
+off-lasts : (t : Times) (n : ℕ) → OffAtMost n (turns 50 (suc (t .linger)) (suc (t .period - 1)) (suc (t .linger))) → mostOff (t .period) ≤ n
+unfolding turns
 off-lasts t n h =
     let ons = replicate (suc (t .linger)) true in
     let offs = replicate (suc (t .period - 1)) false in
@@ -43,8 +43,8 @@ cut m zero rest a = omega arith
 cut zero (suc n) rest a = absurd (false≢true (a .0))
 cut (suc m) (suc n) rest a = omega (arith, cut m n rest (a .1))
 
-on-ends : (t : Times) (n : ℕ) → OnAtLeast n (lowLine t) → n ≤ leastOn (t .linger)
-unfolding lowLine
+on-ends : (t : Times) (n : ℕ) → OnAtLeast n (turns 50 (suc (t .linger)) (suc (t .period - 1)) (suc (t .linger))) → n ≤ leastOn (t .linger)
+unfolding turns
 on-ends t n h =
     let rest = replicate (t .period - 1) false ++ (replicate (suc (t .linger)) true ++ (false ∷ [])) in
     omega (arith, cut (suc (t .linger)) n rest (h .shown (replicate 49 false) (replicate (t .linger) true ++ false ∷ rest) refl))
@@ -70,16 +70,16 @@ too-long n most h = omega (arith, h .shown [] (replicate (suc n) false) [] (neve
 pub tight : Tight
 tight =
     record {
-      off = λ t l p n h. off-lasts t n (subst (OffAtMost n) (low-run t low is-low (omega arith) (omega arith)) (h (replicate (lowTicks t) low)));
-      on = λ t l p n h. on-ends t n (subst (OnAtLeast n) (low-run t low is-low (omega arith) (omega arith)) (h (replicate (lowTicks t) low)));
+      off = λ t l p n h. omega (arith, off-lasts t n (subst (OffAtMost n) (low-run t low is-low (omega arith) (omega arith)) (h (replicate (lowTicks t) low))));
+      on = λ t l p n h. omega (arith, on-ends t n (subst (OnAtLeast n) (low-run t low is-low (omega arith) (omega arith)) (h (replicate (lowTicks t) low))));
       period-fits = λ h. omega (arith, too-long (2 ^ 64) (mostOff (2 ^ 64)) (h endless topmost refl (replicate (2 ^ 64) low)));
     }
 
 -- ---- two runs that antt computes
 -- linger 3 and a period of 60 ticks: 50 off after the start, 4 on, 60 off, 4 on
 pub period-60 : channel (tick (record { linger = 3; period = 60 })) isTick isOn start (replicate 118 low)
-    ≡ replicate 50 false ++ (replicate 4 true ++ (replicate 60 false ++ (replicate 4 true ++ (false ∷ []))))
-unfolding tick stepOf olderOf
+    ≡ turns 50 4 60 4
+unfolding turns tick stepOf olderOf
 period-60 = refl
 
 -- linger 0 and a period of 0: 50 off after the start, and then 1 on and 1 off by turns

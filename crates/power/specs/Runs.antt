@@ -3,7 +3,7 @@ use mathlib.Core.Path.{_≡_}
 use mathlib.Core.Bool.{Bool, true, false, cond}
 use mathlib.Core.List.{List, [], _∷_, _++_}
 use Prim.Native.Nat.{ℕ, _≤_}
-use lib.ListN.{length, take}
+use lib.ListN.{length, take, replicate}
 
 -- `call` is what the machine does with an input, `isTick` says which inputs are ticks, and `on` whether the channel is on
 module _ {S I : Type 0} (call : S → I → S) (isTick : I → Bool) (on : S → Bool) where
@@ -44,3 +44,7 @@ pub record OffAtMost (n : ℕ) (channel : List Bool) : Type 0 where
 -- on for at least n ticks each time that it comes on, or to the end of the run: where an on follows an off, the list is on for n places from there, or for all that are left
 pub record OnAtLeast (n : ℕ) (channel : List Bool) : Type 0 where
   pub shown : (before since : List Bool) → channel ≡ before ++ false ∷ true ∷ since → All On (take n (true ∷ since))
+
+-- off for a places, on for b, off for c, on for d, and off again
+unfoldable pub turns : ℕ → ℕ → ℕ → ℕ → List Bool
+turns a b c d = replicate a false ++ (replicate b true ++ (replicate c false ++ (replicate d true ++ (false ∷ []))))
