@@ -1,3 +1,4 @@
+pub mod CommandStep
 pub mod Profiles
 pub mod PowerCommand
 pub mod PowerTick

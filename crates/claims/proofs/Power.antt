@@ -1,19 +1,13 @@
 -- Demand 3 on the board: each force-enabled channel is the small machine's, tick by tick, so both claims are inherited. Assumes nothing.
-use Prim.Native.Nat.{ℕ, _<_, _^_}
+use Prim.Native.Nat.{ℕ}
 use lib.IntN.{ℤ, pos}
 use mathlib.Core.Path.{_≡_, refl, sym, ap, _∙_, subst}
-use mathlib.Core.Bool.{Bool, true, false, cond, not, _&&_, and-true, false≢true}
+use mathlib.Core.Bool.{Bool, true, false, cond, false≢true}
 use mathlib.Core.List.{List, [], _∷_}
-use mathlib.Core.Logic.{_⊎_, inl, inr}
+use mathlib.Core.Logic.{inl, inr}
 use native.Mathlib.Omega.{arith}
-use lib.ListN.{length}
-use Rattle.modes.specs.Table.{stepOf, olderOf}
-use Rattle.modes.specs.declared.Mode.{Mode}
-use Rattle.modes.specs.declared.ModeAge.{ModeAge}
-use Rattle.modes.specs.declared.Limits.{Limits}
-use Rattle.channels.specs.Sets.{has}
 use Rattle.watchdog.specs.Watchdog.{secondsInTicks}
-use Rattle.power.specs.Runs.{ends, channel, Stretch}
+use Rattle.power.specs.Runs.{channel, Stretch}
 use Rattle.power.specs.Claim.{mostOff, leastOn, Powered}
 use Rattle.power.specs.Machine as small
 use Rattle.power.specs.Machine.{isLit}
@@ -24,22 +18,19 @@ use Rattle.command.specs.Decode.{decodeOf}
 use Rattle.memory.specs.Limits.{linger, emergencyPeriod, limitsOf}
 use Rattle.memory.specs.declared.Memory.{Memory}
 use Rattle.state.specs.Parts.{modeOf}
-use Rattle.state.specs.declared.parts.Board.{Board}
 use Rattle.state.specs.declared.parts.Profile.{Profile}
 use Rattle.answers.specs.Answers.{headerOf}
-use Rattle.board.specs.Tick.{allowedCount}
 use Rattle.text.specs.Lines.{lineOf}
 use Rattle.text.specs.declared.reading.Line.{Line}
 use Rattle.text.specs.declared.reading.Line.the-variants.{Command, Switch, NoFrame, TooLong, NotOfForm, ScratchTooShort}
 use Rattle.unit.specs.Machine.{toldOf, afterLine, heardOf}
 use Rattle.unit.specs.declared.Machine.{Machine}
 use Rattle.unit.proofs.Laws.{refused-tick-leaves}
-use Rattle.claims.specs.Runs.{Sample, told, Call, tick, line, afterCall, Reached}
-use Rattle.claims.specs.Power.{isOn, ForceEnabledBy, ForceEnabled, isTick, endsOf, channelOf, Resets, Undisturbed, Allowed, AtLeastOne, NoneLatched, limits, Demand3, Power}
-use Rattle.claims.specs.PowerOfOne.{Spared, Spares, Unlatched, Lasts, PowerOfOne}
-use Rattle.claims.specs.Standing.{Stands}
+use Rattle.claims.specs.Runs.{Call, tick, line, afterCall, Reached}
+use Rattle.claims.specs.Power.{ForceEnabledBy, ForceEnabled, isTick, channelOf, Allowed, limits, Power}
+use Rattle.claims.specs.PowerOfOne.{Spares, Unlatched, Lasts, PowerOfOne}
 use Rattle.claims.proofs.Profiles.{call-profile}
-use Rattle.claims.proofs.PowerCommand.{asked}
+use Rattle.claims.proofs.CommandStep.{asked}
 use Rattle.claims.proofs.PowerTick.{seen, tick-seen}
 use Rattle.claims.proofs.Standing.{standing}
 

@@ -1,27 +1,24 @@
 -- A run for each premise of demand 3 that is needed, which breaks the demand without it: two short ones, computed, and two long ones in nominal, by a law for each tick. Assumes nothing.
-use Prim.Native.Nat.{ℕ, zero, suc, _+_, _≤_, _<_}
+use Prim.Native.Nat.{ℕ, zero, suc, _+_, _≤_}
 use mathlib.Core.Path.{_≡_, refl, sym, ap, _∙_, subst}
-use mathlib.Core.Bool.{Bool, true, false, cond, not, false≢true}
+use mathlib.Core.Bool.{Bool, true, false, false≢true}
 use mathlib.Core.List.{List, [], _∷_, _++_, append-nil}
-use mathlib.Core.Logic.{_⊎_, inl, inr, ⊎-elim}
+use mathlib.Core.Logic.{_⊎_, ⊎-elim}
 use native.Mathlib.Omega.{arith}
 use lib.IntN.{ℤ, pos}
-use lib.ListN.{length, replicate, length-replicate}
-use Rattle.wire.specs.Replies.{replyOf}
-use Rattle.modes.specs.Table.{_aged_, entered, stepOf, olderOf}
-use Rattle.modes.specs.declared.Mode.{Mode}
-use Rattle.modes.specs.declared.Mode.the-variants.{Startup, Nominal, Safety, Emergency}
+use lib.ListN.{replicate, length-replicate}
+use Rattle.modes.specs.Table.{entered, stepOf, olderOf}
+use Rattle.modes.specs.declared.Mode.the-variants.{Nominal}
 use Rattle.modes.specs.declared.ModeAge.{ModeAge}
 use Rattle.modes.specs.declared.Limits.{Limits}
 use Rattle.modes.proofs.Laws.{nominal-step, older-mode}
 use Rattle.channels.specs.Sets.{has, setOf, listOf, allBelow, isWithin}
-use Rattle.channels.specs.Chan.{Chan, chan, whole}
+use Rattle.channels.specs.Chan.{Chan, whole}
 use Rattle.channels.specs.Operations.{overcurrentAt, allOff, forcedOn, commandEnabledOff, cleared}
 use Rattle.channels.proofs.Sets.{has-none}
 use Rattle.channels.proofs.Laws.{cleared-each}
 use Rattle.watchdog.specs.Watchdog as dog
-use Rattle.watchdog.specs.declared.Event.{Event}
-use Rattle.watchdog.specs.declared.Event.the-variants.{NoEvent, PeripheralReset, WatchdogReset}
+use Rattle.watchdog.specs.declared.Event.the-variants.{NoEvent, WatchdogReset}
 use Rattle.settings.specs.Table.{lies, rowOf, find, readWriteRows, readOnlyRows, parameterOf, column, defaultOf, clampOf, atLeast, atMost, lowOf, highOf}
 use Rattle.settings.specs.Values.{numberOf, defaultsOf, defaultN}
 use Rattle.watchdog.proofs.Laws.{disabled, early}
@@ -44,8 +41,7 @@ use Rattle.state.specs.Change.{isDark, fromNominalToSafety, leavesEmergency, en
 use Rattle.state.specs.declared.parts.Board.{Board}
 use Rattle.state.specs.declared.parts.Profile.{Profile}
 use Rattle.answers.specs.Answers.{headerOf, acceptedWith, acceptedOf}
-use Rattle.answers.specs.declared.Answer.the-variants.{Accepted}
-use Rattle.answers.specs.declared.Outcome.the-variants.{NoTransfer, Answered}
+use Rattle.answers.specs.declared.Outcome.the-variants.{NoTransfer}
 use Rattle.commands.specs.Effects.{restartedOf, runOf}
 use Rattle.commands.specs.Step.{isStartup, decodedOf, transferredOf, commandedOf}
 use Rattle.board.specs.Tick.{broughtBy, risenOf, changedOf, trippedOf, watchedAs, watchedIn, tickWith, allowedCount, tickOf}
@@ -55,7 +51,7 @@ use Rattle.text.specs.declared.framing.Due.the-variants.{Nothing}
 use Rattle.unit.specs.declared.Machine.{Machine}
 use Rattle.unit.specs.declared.Told.{Told}
 use Rattle.claims.specs.Runs.{Sample, told, Call, tick, afterCall, after, Reached}
-use Rattle.claims.specs.Power.{isOn, ForceEnabledBy, ForceEnabled, isTick, channelOf, Resets, Undisturbed, Allowed, AtLeastOne, NoneLatched, limits}
+use Rattle.claims.specs.Power.{isOn, ForceEnabledBy, ForceEnabled, channelOf, Undisturbed, Allowed, AtLeastOne, NoneLatched, limits}
 use Rattle.claims.specs.PowerReal.{profile, started, dead}
 use Rattle.claims.specs.PowerNeeded.{Fails, ButReset, ButOvercurrent, AllowedBut, PowerNeeded}
 use Rattle.claims.proofs.Profiles.{after-profile}
@@ -144,9 +140,10 @@ without-reset =
       from = nearly;
       start = (reached-by (replicate 49 dead), record { one = 0; is = forced-after (replicate 49 dead) }, nearly-unlatched);
       calls = dead ∷ tick restart ∷ [];
-      met =
-          (λ e. let u = undisturbed nearly nearly-calm in record { no-change = u .no-change; no-overcurrent = u .no-overcurrent },
-          (λ e. record { no-change = computed .restart-settings; no-overcurrent = λ k fe. has-none k }, tt));
+      met = (
+        λ e. let u = undisturbed nearly nearly-calm in record { no-change = u .no-change; no-overcurrent = u .no-overcurrent },
+        (λ e. record { no-change = computed .restart-settings; no-overcurrent = λ k fe. has-none k }, tt),
+      );
       k = 0;
       force-enabled = forced-after (replicate 49 dead);
       fails = too-short nearly (dead ∷ tick restart ∷ []) (computed .restart-line);
@@ -158,9 +155,10 @@ without-overcurrent =
       from = nearly;
       start = (reached-by (replicate 49 dead), record { one = 0; is = forced-after (replicate 49 dead) }, nearly-unlatched);
       calls = dead ∷ tick tripping ∷ [];
-      met =
-          (λ e. let u = undisturbed nearly nearly-calm in record { no-reset = u .no-reset; no-change = u .no-change },
-          (λ e. record { no-reset = uneventful (afterCall nearly dead) tripping (computed .tripping-event) (computed .tripping-outcome); no-change = computed .tripping-settings }, tt));
+      met = (
+        λ e. let u = undisturbed nearly nearly-calm in record { no-reset = u .no-reset; no-change = u .no-change },
+        (λ e. record { no-reset = uneventful (afterCall nearly dead) tripping (computed .tripping-event) (computed .tripping-outcome); no-change = computed .tripping-settings }, tt),
+      );
       k = 0;
       force-enabled = forced-after (replicate 49 dead);
       fails = too-short nearly (dead ∷ tick tripping ∷ []) (computed .tripping-line);

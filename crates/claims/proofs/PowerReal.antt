@@ -1,12 +1,12 @@
 -- The long stretch of a rail at 0 mV on a real board, by stages: a tick of it never resets, so the channels are the small machine's, whose run `power` shows. Assumes nothing.
-use Prim.Native.Nat.{ℕ, zero, suc, _+_, _*_, _^_, _-_, _≤_, _<_, min}
+use Prim.Native.Nat.{ℕ, zero, suc, _+_, _^_, _-_, _≤_, min}
 use mathlib.Core.Path.{_≡_, refl, sym, ap, _∙_, subst}
-use mathlib.Core.Bool.{Bool, true, false, cond, _||_, _&&_}
+use mathlib.Core.Bool.{Bool, true, false}
 use mathlib.Core.List.{List, [], _∷_}
-use mathlib.Core.Logic.{_⊎_, inl, inr, ⊎-elim}
+use mathlib.Core.Logic.{_⊎_, ⊎-elim}
 use native.Mathlib.Omega.{arith}
-use borrow.Author.Tests.{ltb-true, ltb-false, leb-true, leb-false}
-use lib.IntN.{ℤ, pos}
+use borrow.Author.Tests.{ltb-false}
+use lib.IntN.{pos}
 use lib.ListN.{replicate}
 use Rattle.modes.specs.Table.{_reaches_, _exceeds_, entered, stepOf, olderOf}
 use Rattle.modes.specs.declared.Mode.{Mode}
@@ -18,8 +18,7 @@ use Rattle.channels.specs.Chan.{Chan}
 use Rattle.channels.proofs.Sets.{has-none}
 use Rattle.channels.proofs.Laws.{cleared-each}
 use Rattle.watchdog.specs.Watchdog as dog
-use Rattle.watchdog.specs.declared.Event.{Event}
-use Rattle.watchdog.specs.declared.Event.the-variants.{NoEvent, PeripheralReset, WatchdogReset}
+use Rattle.watchdog.specs.declared.Event.the-variants.{NoEvent, WatchdogReset}
 use Rattle.watchdog.proofs.Laws.{early}
 use Rattle.power.specs.Machine as small
 use Rattle.power.proofs.Step.{by-cases}
@@ -42,8 +41,8 @@ use Rattle.power.specs.Runs.{channel, Stretch, turns}
 use Rattle.unit.specs.Machine.{noMachine, begunOf, toldBy, toldOf}
 use Rattle.unit.specs.declared.Machine.{Machine}
 use Rattle.unit.specs.declared.Told.{Told}
-use Rattle.claims.specs.Runs.{Sample, told, Call, tick, afterCall, after, Reached}
-use Rattle.claims.specs.Power.{ForceEnabledBy, ForceEnabled, channelOf, isTick, Resets, Undisturbed, Allowed, AtLeastOne, NoneLatched}
+use Rattle.claims.specs.Runs.{Sample, told, tick, afterCall, after, Reached}
+use Rattle.claims.specs.Power.{ForceEnabledBy, ForceEnabled, channelOf, isTick, Resets, Undisturbed, Allowed, NoneLatched}
 use Rattle.claims.specs.PowerReal.{profile, started, dead, ticks, line, PowerReal}
 use Rattle.claims.proofs.PowerTick.{seen}
 use Rattle.claims.proofs.Standing.{begun-is}

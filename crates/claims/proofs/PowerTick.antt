@@ -1,10 +1,9 @@
 -- A whole tick at one force-enabled channel: the channel stays as `Standing` says, whatever happens, and without a reset and an overcurrent of that channel it is the small machine's. Assumes nothing.
-use Prim.Native.Nat.{ℕ, _<_, _^_}
+use Prim.Native.Nat.{ℕ, _<_}
 use mathlib.Core.Path.{_≡_, refl, sym, ap, _∙_, subst}
-use mathlib.Core.Bool.{Bool, true, false, cond, not, _&&_, _||_, and-true, and-false, false≢true}
+use mathlib.Core.Bool.{Bool, true, false, cond, not, _&&_, _||_, and-false, false≢true}
 use mathlib.Core.List.{List}
-use mathlib.Core.Logic.{_⊎_, inl, inr, ⊎-elim}
-use native.Mathlib.Omega.{arith}
+use mathlib.Core.Logic.{_⊎_, ⊎-elim}
 use lib.IntN.{ℤ}
 use lib.ListN.{length}
 use Rattle.modes.specs.Table.{_at-least_, _aged_, same, stepOf, olderOf}
@@ -15,7 +14,7 @@ use Rattle.modes.specs.declared.ModeAge.{ModeAge}
 use Rattle.modes.specs.declared.Limits.{Limits}
 use Rattle.channels.specs.Sets.{has}
 use Rattle.channels.specs.Chan.{Chan, chan}
-use Rattle.channels.specs.Operations.{onAndCleared, offAndLatchKept, overcurrentOne, overcurrentAt, cleared, clearOne}
+use Rattle.channels.specs.Operations.{overcurrentOne}
 use Rattle.channels.proofs.Laws as of-channels
 use Rattle.watchdog.specs.Watchdog as dog
 use Rattle.watchdog.specs.declared.Event.{Event}
@@ -31,7 +30,6 @@ use Rattle.memory.specs.Limits.{timeoutOf, limitsOf}
 use Rattle.memory.specs.declared.Store.{Store}
 use Rattle.state.specs.Parts.{modeOf}
 use Rattle.state.specs.Start.{freshOf, commandResetOf, watchdogResetOf}
-use Rattle.state.specs.Change.{enteringOf}
 use Rattle.state.specs.declared.parts.Board.{Board}
 use Rattle.state.specs.declared.parts.Profile.{Profile}
 use Rattle.state.specs.declared.parts.Resets.{Resets}
@@ -44,7 +42,8 @@ use Rattle.board.specs.Tick.{risenOf, changedOf, trippedOf, watchedAs, watchedI
 use Rattle.board.specs.declared.Ticked.{Ticked}
 use Rattle.claims.specs.Power.{ForceEnabledBy}
 use Rattle.claims.specs.Standing.{Stands}
-use Rattle.claims.proofs.PowerCommand.{Moved, Lit, asked, Does, idles, leaves-it, switches, to-safety, to-nominal, restarts, enteredOne, entering, step}
+use Rattle.claims.proofs.CommandStep.{asked, step}
+use Rattle.claims.proofs.PowerCommand.{Moved, Lit, DoesAt, idle, left, switched, made-safe, made-nominal, restarted, enteredOne, entering, at-channel}
 
 -- ---- a start, and a reset of either kind: off, unlatched, in startup
 pub fresh-stands : (k : ℕ) → k < 32 → (p : Profile) (store : Store) (resets : Resets) → Stands k (freshOf p store resets)
@@ -105,12 +104,12 @@ nominal-on Safety o h = refl
 nominal-on Emergency o h = refl
 
 -- in startup no command moves the small machine
-idle : (rail : ℤ) (limits : Limits) (c : small.Command) (s : small.State) → s .phase .mode ≡ Startup → small.InStep s → small.obeyed c rail limits s ≡ s
+unmoved : (rail : ℤ) (limits : Limits) (c : small.Command) (s : small.State) → s .phase .mode ≡ Startup → small.InStep s → small.obeyed c rail limits s ≡ s
 unfolding toSafety toNominal
-idle rail limits small.other s e h = refl
-idle rail limits small.switchOn s e h = ap (λ (o : Bool). record { phase = s .phase; on = o }) (nominal-on (s .phase .mode) (s .on) h)
-idle rail limits small.switchToSafety s e h = rw e (ap (λ (o : Bool). record { phase = Startup aged (s .phase .age); on = o }) (sym (h ∙ ap isLit e)))
-idle rail limits small.switchToNominal s e h = rw e (ap (λ (o : Bool). record { phase = Startup aged (s .phase .age); on = o }) (sym (h ∙ ap isLit e)))
+unmoved rail limits small.other s e h = refl
+unmoved rail limits small.switchOn s e h = ap (λ (o : Bool). record { phase = s .phase; on = o }) (nominal-on (s .phase .mode) (s .on) h)
+unmoved rail limits small.switchToSafety s e h = rw e (ap (λ (o : Bool). record { phase = Startup aged (s .phase .age); on = o }) (sym (h ∙ ap isLit e)))
+unmoved rail limits small.switchToNominal s e h = rw e (ap (λ (o : Bool). record { phase = Startup aged (s .phase .age); on = o }) (sym (h ∙ ap isLit e)))
 
 startup-is : (m : Mode) → isStartup m ≡ true → m ≡ Startup
 unfolding isStartup
@@ -135,33 +134,33 @@ module _ (k : ℕ) (b c : Board) where
 
 module _ (k : ℕ) (rail : ℤ) (limits : Limits) (d : Decoded) (ask : small.Command) (b : Board) (c : Commanded) where
   -- it leaves the channel standing
-  obeyed-stands : k < 32 → Does k rail limits d ask b c → Stands k b → Stands k (c .board)
+  obeyed-stands : k < 32 → DoesAt k rail limits d ask b c → Stands k b → Stands k (c .board)
   unfolding commandResetOf
-  obeyed-stands h (idles e q) w = moved-stands k b (c .board) (b .phase) refl q w
-  obeyed-stands h (leaves-it e q) w = moved-stands k b (c .board) (b .phase) refl q w
-  obeyed-stands h (switches e q) w = ⊎-elim (λ (p : Moved k (b .phase) b (c .board)). moved-stands k b (c .board) (b .phase) refl p w) (λ (p : Lit k b (c .board)). lit-stands k b (c .board) p) q
-  obeyed-stands h (to-safety e q) w = moved-stands k b (c .board) (leaves (toSafety (b .phase)) (b .phase)) (to-safety-lit (b .phase)) q w
-  obeyed-stands h (to-nominal e q) w = moved-stands k b (c .board) (leaves (toNominal (b .phase) rail limits) (b .phase)) (to-nominal-lit (b .phase) rail limits) q w
-  obeyed-stands h (restarts e o r) w = rw r (fresh-stands k h _ _ _)
+  obeyed-stands h (idle e q) w = moved-stands k b (c .board) (b .phase) refl q w
+  obeyed-stands h (left e q) w = moved-stands k b (c .board) (b .phase) refl q w
+  obeyed-stands h (switched e q) w = ⊎-elim (λ (p : Moved k (b .phase) b (c .board)). moved-stands k b (c .board) (b .phase) refl p w) (λ (p : Lit k b (c .board)). lit-stands k b (c .board) p) q
+  obeyed-stands h (made-safe e q) w = moved-stands k b (c .board) (leaves (toSafety (b .phase)) (b .phase)) (to-safety-lit (b .phase)) q w
+  obeyed-stands h (made-nominal e q) w = moved-stands k b (c .board) (leaves (toNominal (b .phase) rail limits) (b .phase)) (to-nominal-lit (b .phase) rail limits) q w
+  obeyed-stands h (restarted e o r) w = rw r (fresh-stands k h _ _ _)
 
   -- without a reset it is what the small machine does
-  obeyed-seen : Does k rail limits d ask b c → small.InStep (seen k b) → (d ≡ Run SystemReset → c .outcome ≡ Answered Accepted → ⊥) → seen k (c .board) ≡ small.obeyed ask rail limits (seen k b)
-  obeyed-seen (idles e q) h n = moved-seen k b (c .board) (b .phase) q ∙ sym (idle rail limits ask (seen k b) (startup-is (modeOf b) e) h)
-  obeyed-seen (leaves-it e q) h n = rw e (moved-seen k b (c .board) (b .phase) q)
-  obeyed-seen (switches e q) h n =
+  obeyed-seen : DoesAt k rail limits d ask b c → small.InStep (seen k b) → (d ≡ Run SystemReset → c .outcome ≡ Answered Accepted → ⊥) → seen k (c .board) ≡ small.obeyed ask rail limits (seen k b)
+  obeyed-seen (idle e q) h n = moved-seen k b (c .board) (b .phase) q ∙ sym (unmoved rail limits ask (seen k b) (startup-is (modeOf b) e) h)
+  obeyed-seen (left e q) h n = rw e (moved-seen k b (c .board) (b .phase) q)
+  obeyed-seen (switched e q) h n =
       let on : Bool → small.State = λ o. record { phase = b .phase; on = o } in
       rw e
       (⊎-elim
       (λ (p : Moved k (b .phase) b (c .board)). moved-seen k b (c .board) (b .phase) p ∙ ap on (sym (nominal-on (modeOf b) (has (b .channels .on) k) h)))
       (λ (p : Lit k b (c .board)). lit-seen k b (c .board) p ∙ ap on (rw (p .nominal)))
       q)
-  obeyed-seen (to-safety e q) h n =
+  obeyed-seen (made-safe e q) h n =
       let next = leaves (toSafety (b .phase)) (b .phase) in
       rw e (moved-seen k b (c .board) next q ∙ sym (enters-lit next (seen k b) h (to-safety-lit (b .phase))))
-  obeyed-seen (to-nominal e q) h n =
+  obeyed-seen (made-nominal e q) h n =
       let next = leaves (toNominal (b .phase) rail limits) (b .phase) in
       rw e (moved-seen k b (c .board) next q ∙ sym (enters-lit next (seen k b) h (to-nominal-lit (b .phase) rail limits)))
-  obeyed-seen (restarts e o r) h n = absurd (n e o)
+  obeyed-seen (restarted e o r) h n = absurd (n e o)
 
 -- ---- step 5
 -- what holds of the board that the command leaves and of its reset holds after the watchdog
@@ -223,9 +222,9 @@ module _ (k : ℕ) (rail : ℤ) (named : ℕ) (words : List ℕ) (sent : Bool) (
       (ap (λ (o : Bool). record { phase = next; on = o }) (entered-on (modeOf b) (next .mode) (chan (b .channels) k)))
 
   -- step 4
-  does : Does k rail own reading ask found obeyed
+  does : DoesAt k rail own reading ask found obeyed
   unfolding trippedOf changedOf risenOf
-  does = step k found fe rail own s sent
+  does = at-channel k found fe rail own reading ask obeyed (step rail own found s sent)
 
   -- step 5
   abbrev happening : Event

@@ -1,7 +1,7 @@
 -- A force-enabled channel of a machine that can be reached is on exactly in nominal and safety, where it is not latched. Assumes nothing.
 use Prim.Native.Nat.{ℕ}
-use mathlib.Core.Path.{_≡_, refl, sym, ap, _∙_, subst}
-use mathlib.Core.Bool.{Bool, true, false}
+use mathlib.Core.Path.{_≡_, sym, ap, _∙_, subst}
+use mathlib.Core.Bool.{true}
 use mathlib.Core.List.{List, [], _∷_}
 use lib.ListN.{length}
 use Rattle.power.proofs.Step.{by-cases}
@@ -15,7 +15,7 @@ use Rattle.text.specs.declared.reading.Line.the-variants.{Command, Switch, NoFr
 use Rattle.unit.specs.Machine.{begunOf, toldOf, afterLine, heardOf}
 use Rattle.unit.specs.declared.Machine.{Machine}
 use Rattle.unit.proofs.Laws.{refused-tick-leaves}
-use Rattle.claims.specs.Runs.{Sample, told, Call, tick, line, afterCall, after, Reached}
+use Rattle.claims.specs.Runs.{Call, tick, line, afterCall, after}
 use Rattle.claims.specs.Power.{ForceEnabledBy, ForceEnabled}
 use Rattle.claims.specs.Standing.{Stands, Standing}
 use Rattle.claims.proofs.Profiles.{call-profile, after-profile}

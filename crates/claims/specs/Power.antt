@@ -1,6 +1,7 @@
--- Demand 3, power: start a board from any accepted profile and run it as you like. Then, over a stretch of calls without a reset, without a change of settings, with no overcurrent reported on a force-enabled
--- channel and none of these latched at its start, on a board that has at least one: no force-enabled channel is off for more ticks in a row than the greater of 50 and the emergency period, each time that one
--- comes on within the stretch it stays on for linger + 1 ticks or to the end of the stretch, and all of them come on and go off together.
+-- Demand 3, power. Take a machine that was started from a profile that keeps the rules and then used in any way, and from there a stretch of calls. Let the board have a force-enabled channel, and none that
+-- is latched when the stretch begins; let no tick of the stretch reset the machine, alter a setting, or report an overcurrent of such a channel. Then, whatever the rails and the commands:
+-- a force-enabled channel is never off for longer than 50 ticks, or than the emergency period where that is more; whenever it comes on in the stretch it is on for linger + 1 ticks, unless the stretch ends
+-- before; and all of them come on and go off together.
 -- On and off mean at a tick's end. A call of the stretch is a tick, a tick that refusal 9 turns away and that does not happen, or a read of the text line.
 -- Assumes nothing: this is the claim.
 use mathlib.Core.Path.{_≡_}
@@ -83,7 +84,7 @@ abbrev pub limits : Machine → Limits
 limits m = limitsOf (m .board .memory)
 
 pub record Demand3 (m : Machine) (calls : List Call) : Type 0 where
-  -- with the state before the stretch, so that a channel that comes on in the first tick counts, and by the ticks' ends alone
+  -- with the state before the stretch in front, by which a channel can be seen to come on at the first tick, and by the ticks' ends alone
   pub powered : (k : ℕ) → ForceEnabled k m → Powered (limits m .linger) (limits m .period) (channelOf k m calls)
   pub powered-by-ends : (k : ℕ) → ForceEnabled k m → Powered (limits m .linger) (limits m .period) (endsOf k m calls)
   pub together : (j k : ℕ) → ForceEnabled j m → ForceEnabled k m → channelOf j m calls ≡ channelOf k m calls

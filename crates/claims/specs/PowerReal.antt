@@ -11,7 +11,7 @@ use Rattle.memory.specs.Memory.{emptyStore}
 use Rattle.state.specs.declared.parts.Profile.{Profile}
 use Rattle.unit.specs.Machine.{noMachine, begunOf}
 use Rattle.unit.specs.declared.Machine.{Machine}
-use Rattle.claims.specs.Runs.{Sample, Call, tick, afterCall, Reached}
+use Rattle.claims.specs.Runs.{Call, tick, afterCall, Reached}
 use Rattle.claims.specs.Power.{ForceEnabled, channelOf, Allowed, AtLeastOne, NoneLatched}
 
 -- board 1 with channels 0 to 3, of which 0 and 1 are force-enabled; nothing is stored

@@ -1,5 +1,5 @@
 -- A larger machine inherits what is shown of a smaller one's channel: one equation for a tick, and one for a call that is none. Assumes nothing.
-use mathlib.Core.Path.{_≡_, refl, sym, ap, _∙_, subst}
+use mathlib.Core.Path.{_≡_, refl, sym, ap, subst}
 use mathlib.Core.Bool.{Bool, true, false, cond}
 use mathlib.Core.List.{List, [], _∷_}
 use Rattle.power.specs.Runs.{ends, channel, Stretch}

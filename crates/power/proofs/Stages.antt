@@ -1,18 +1,17 @@
 -- The run of a rail that is low for good, from the start, stage by stage and for any two times: 50 off, linger + 1 on, the emergency period off, linger + 1 on, off. Assumes nothing.
 use mathlib.Core.Path.{_≡_, refl, sym, ap, _∙_}
-use mathlib.Core.Bool.{Bool, true, false, _&&_, _||_}
+use mathlib.Core.Bool.{Bool, true, false}
 use mathlib.Core.List.{List, [], _∷_, _++_}
-use Prim.Native.Nat.{ℕ, zero, suc, _+_, _-_, _^_, _≤_, _<_, max, min}
+use Prim.Native.Nat.{ℕ, zero, suc, _+_, _-_, _^_, _≤_, _<_, min}
 use native.Mathlib.Nat.{zero-add, add-zero, add-suc, suc-add}
 use native.Mathlib.Omega.{arith}
 use borrow.Author.Tests.{le-leb, lt-leb, le-ltb, lt-ltb}
-use lib.Dec.{ltb, leb}
 use lib.ListN.{replicate, replicate-append-replicate}
 use Rattle.modes.specs.Table.{_at-least_, _above_, _below_, _aged_, stepOf, olderOf}
 use Rattle.modes.specs.declared.Mode.{Mode}
-use Rattle.modes.specs.declared.Mode.the-variants.{Startup, Nominal, Safety, Emergency}
+use Rattle.modes.specs.declared.Mode.the-variants.{Startup, Safety, Emergency}
 use Rattle.power.specs.Runs.{ends, channel, turns}
-use Rattle.power.specs.Machine.{State, Times, Command, other, Input, start, tick}
+use Rattle.power.specs.Machine.{State, Times, other, Input, start, tick}
 use Rattle.power.specs.Claim.{isTick, isOn}
 
 -- a tick whose rail is low by every threshold, with no command that matters
@@ -96,14 +95,14 @@ module _ (t : Times) (i : Input) where
     by-stages =
         let lasts : line (state Safety (t .linger) true) (i ∷ []) ≡ false ∷ [] = rw safety-ends in
         let again =
-            entering (state Emergency (t .period - 1) false) Safety true (t .linger) emergency-ends safety-ages (t .linger) (omega arith) (i ∷ [])
-            ∙ ap (λ (l : List Bool). replicate (suc (t .linger)) true ++ l) lasts in
+        entering (state Emergency (t .period - 1) false) Safety true (t .linger) emergency-ends safety-ages (t .linger) (omega arith) (i ∷ [])
+        ∙ ap (λ (l : List Bool). replicate (suc (t .linger)) true ++ l) lasts in
         let dark =
-            entering (state Safety (t .linger) true) Emergency false (t .period - 1) safety-ends emergency-ages (t .period - 1) (omega arith) (replicate (suc (t .linger)) i ++ (i ∷ []))
-            ∙ ap (λ (l : List Bool). replicate (suc (t .period - 1)) false ++ l) again in
+        entering (state Safety (t .linger) true) Emergency false (t .period - 1) safety-ends emergency-ages (t .period - 1) (omega arith) (replicate (suc (t .linger)) i ++ (i ∷ []))
+        ∙ ap (λ (l : List Bool). replicate (suc (t .period - 1)) false ++ l) again in
         let lit =
-            entering (state Startup 49 false) Safety true (t .linger) startup-ends safety-ages (t .linger) (omega arith) (replicate (suc (t .period - 1)) i ++ (replicate (suc (t .linger)) i ++ (i ∷ [])))
-            ∙ ap (λ (l : List Bool). replicate (suc (t .linger)) true ++ l) dark in
+        entering (state Startup 49 false) Safety true (t .linger) startup-ends safety-ages (t .linger) (omega arith) (replicate (suc (t .period - 1)) i ++ (replicate (suc (t .linger)) i ++ (i ∷ [])))
+        ∙ ap (λ (l : List Bool). replicate (suc (t .linger)) true ++ l) dark in
         ap (λ (l : List Bool). false ∷ l)
         (staying Startup false 49 startup-ages 49 0 (omega arith) (replicate (suc (t .linger)) i ++ (replicate (suc (t .period - 1)) i ++ (replicate (suc (t .linger)) i ++ (i ∷ []))))
         ∙ ap (λ (l : List Bool). replicate 49 false ++ l) lit)

@@ -1,17 +1,13 @@
 -- One tick of the small machine, as `Lift` asks it: by the mode, the rows of the table, and the command. Assumes nothing.
 use mathlib.Core.Path.{_≡_, refl, sym, subst, _∙_}
-use mathlib.Core.Bool.{Bool, true, false, cond, _&&_, _||_, true≢false}
+use mathlib.Core.Bool.{Bool, true, false, _||_, true≢false}
 use Prim.Native.Nat.{ℕ, suc, _+_, _-_, _^_, _≤_, _<_, max, min}
 use native.Mathlib.Omega.{arith}
-use borrow.Author.Tests.{leb-true, leb-false, ltb-true, ltb-false}
-use lib.Dec.{ltb, leb}
-use lib.IntN.{ℤ}
-use lib.Signed.{ltZ, leZ}
+use borrow.Author.Tests.{leb-false, ltb-true}
 use Rattle.modes.specs.Table.{_reaches_, _exceeds_, _at-least_, _above_, _below_, _aged_, stepOf, olderOf}
 use Rattle.modes.specs.Commands.{toSafety, toNominal}
 use Rattle.modes.specs.declared.Mode.{Mode}
 use Rattle.modes.specs.declared.Mode.the-variants.{Startup, Nominal, Safety, Emergency}
-use Rattle.modes.specs.declared.ModeAge.{ModeAge}
 use Rattle.power.specs.Machine.{State, Times, Command, switchToNominal, switchToSafety, switchOn, other, Input, limitsIn, isLit, enters, obeyed, tick, InStep}
 
 -- a test, with what it came to

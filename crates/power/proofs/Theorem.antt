@@ -1,16 +1,15 @@
 -- The claim on the small machine. Assumes nothing.
-use mathlib.Core.Path.{_≡_, refl, ap}
+use mathlib.Core.Path.{_≡_, ap}
 use mathlib.Core.Bool.{Bool, true, false}
 use mathlib.Core.List.{List, [], _∷_}
-use Prim.Native.Nat.{ℕ, zero, suc, _+_, _^_, _≤_, _<_, max}
+use Prim.Native.Nat.{ℕ, zero, suc, _^_, _≤_, _<_}
 use native.Mathlib.Omega.{arith}
 use lib.ListN.{take}
-use Rattle.modes.specs.Table.{_aged_}
 use Rattle.modes.specs.declared.Mode.{Mode}
 use Rattle.modes.specs.declared.Mode.the-variants.{Startup, Nominal, Safety, Emergency}
-use Rattle.power.specs.Runs.{channel, All, On, OffAtMost, OnAtLeast}
+use Rattle.power.specs.Runs.{channel, All, On}
 use Rattle.power.specs.Machine.{State, Times, Input, isLit, tick, InStep}
-use Rattle.power.specs.Claim.{mostOff, leastOn, Powered, isTick, isOn, Powers, Claim}
+use Rattle.power.specs.Claim.{mostOff, leastOn, Powered, isTick, isOn, Claim}
 use Rattle.power.proofs.Lift.{Ticks, off-at-most, on-at-least}
 use Rattle.power.proofs.Step.{left, held, good, clash}
 

@@ -2,14 +2,14 @@
 use mathlib.Core.Path.{_≡_, refl, sym, ap, _∙_, subst}
 use mathlib.Core.Bool.{Bool, true, false, false≢true}
 use mathlib.Core.List.{List, [], _∷_, _++_, append-assoc, append-nil}
-use Prim.Native.Nat.{ℕ, zero, suc, _+_, _-_, _^_, _≤_, _<_, max}
+use Prim.Native.Nat.{ℕ, zero, suc, _+_, _-_, _^_, _≤_}
 use native.Mathlib.Omega.{arith}
 use lib.IntN.{pos}
 use lib.ListN.{length, take, replicate, length-replicate}
 use Rattle.modes.specs.Table.{_aged_, stepOf, olderOf}
 use Rattle.modes.specs.declared.Mode.the-variants.{Emergency}
 use Rattle.power.specs.Runs.{channel, All, Off, On, OffAtMost, OnAtLeast, turns}
-use Rattle.power.specs.Machine.{State, Times, Command, other, Input, start, tick}
+use Rattle.power.specs.Machine.{State, Times, other, Input, start, tick}
 use Rattle.power.specs.Claim.{mostOff, leastOn, isTick, isOn}
 use Rattle.power.specs.Tight.{Tight}
 use Rattle.power.proofs.Stages.{Low, lowTicks, low-run}
@@ -34,7 +34,7 @@ off-lasts t n h =
     let rest = ons ++ (false ∷ []) in
     let first : length (replicate 50 false) ≤ n = h .shown [] (replicate 50 false) (ons ++ (offs ++ rest)) refl (all-off 50) in
     let later : length offs ≤ n =
-        h .shown (replicate 50 false ++ ons) offs rest (sym (append-assoc (replicate 50 false ++ ons) offs rest ∙ append-assoc (replicate 50 false) ons (offs ++ rest))) (all-off (suc (t .period - 1))) in
+    h .shown (replicate 50 false ++ ons) offs rest (sym (append-assoc (replicate 50 false ++ ons) offs rest ∙ append-assoc (replicate 50 false) ons (offs ++ rest))) (all-off (suc (t .period - 1))) in
     omega (arith, length-replicate 50 false, length-replicate (suc (t .period - 1)) false)
 
 -- a list that goes off after m places is on for no more than m

@@ -1,5 +1,5 @@
--- Demand 3 for the small machine: however the rail, the thresholds and the commands go, the channel is off for no more ticks in a row than the greater of 50 and the emergency period, and each time
--- it comes on it stays on for linger + 1 ticks, or to the end of the run. Assumes nothing: this is the claim.
+-- Demand 3 for the small machine, whatever the rail, the thresholds and the commands do. The channel is never off for longer than 50 ticks, or than the emergency period where that is more; and whenever it
+-- comes on, it is on for linger + 1 ticks, unless the run ends before. Assumes nothing: this is the claim.
 use mathlib.Core.Bool.{Bool, true}
 use mathlib.Core.List.{List}
 use Prim.Native.Nat.{ℕ, _+_, _^_, _<_, max}

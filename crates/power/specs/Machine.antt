@@ -19,7 +19,7 @@ pub record Times : Type 0 where
   pub linger : ℕ
   pub period : ℕ
 
--- what a command is to this machine: 0x30, 0x32, one that may switch the channel on, or any other, which alters neither the mode nor the channel
+-- what a command is to this machine: 0x30, 0x32, one of the five that switch channels, by which a force-enabled one can only come on, or any other, which alters neither the mode nor the channel
 pub data Command : Type 0 where
   switchToNominal switchToSafety switchOn other : Command
 
