@@ -7,7 +7,7 @@ use mathlib.Core.List.{List, [], _∷_}
 use mathlib.Core.Logic.{inl, inr}
 use native.Mathlib.Omega.{arith}
 use Rattle.watchdog.specs.Watchdog.{secondsInTicks}
-use Rattle.power.specs.Runs.{channel, Stretch}
+use Rattle.power.specs.Runs.{channel}
 use Rattle.power.specs.Claim.{mostOff, leastOn, Powered}
 use Rattle.power.specs.Machine as small
 use Rattle.power.specs.Machine.{isLit}
@@ -27,8 +27,8 @@ use Rattle.unit.specs.Machine.{toldOf, afterLine, heardOf}
 use Rattle.unit.specs.declared.Machine.{Machine}
 use Rattle.unit.proofs.Laws.{refused-tick-leaves}
 use Rattle.claims.specs.Runs.{Call, tick, line, afterCall, Reached}
-use Rattle.claims.specs.Power.{ForceEnabledBy, ForceEnabled, isTick, channelOf, Allowed, limits, Power}
-use Rattle.claims.specs.PowerOfOne.{Spares, Unlatched, Lasts, PowerOfOne}
+use Rattle.claims.specs.Power.{ForceEnabledBy, ForceEnabled, isTick, channelOf, Undisturbed, AtTicks, EachTick, limits, Power}
+use Rattle.claims.specs.PowerOfOne.{Spared, Unlatched, Lasts, PowerOfOne}
 use Rattle.claims.proofs.Profiles.{call-profile}
 use Rattle.claims.proofs.CommandStep.{asked}
 use Rattle.claims.proofs.PowerTick.{seen, tick-seen}
@@ -65,7 +65,7 @@ pub record InTouch (k : ℕ) (m : Machine) : Type 0 where
   pub in-step : small.InStep (small-of k m)
 
 module _ (k : ℕ) where
-  ticks : (m : Machine) (call : Call) → InTouch k m → Spares k m call → isTick call ≡ true → small-of k (afterCall m call) ≡ small.tick times (small-of k m) (input m call)
+  ticks : (m : Machine) (call : Call) → InTouch k m → AtTicks (Spared k) m call → isTick call ≡ true → small-of k (afterCall m call) ≡ small.tick times (small-of k m) (input m call)
   unfolding toldOf limitsOf small.tick
   ticks m (tick i) h a e =
       let spared = a e in
@@ -86,7 +86,7 @@ module _ (k : ℕ) where
   rests m (tick i) e = ap (small-of k) (refused-tick-leaves (i .rail) (i .named) (i .words) (i .sent) (i .transfer) m e)
   rests m (line received room) e = line-rests (lineOf (m .board .form) received room) m
 
-  kept : (m : Machine) (call : Call) → InTouch k m → Spares k m call → InTouch k (afterCall m call)
+  kept : (m : Machine) (call : Call) → InTouch k m → AtTicks (Spared k) m call → InTouch k (afterCall m call)
   kept m call h a =
       record {
         force-enabled = subst (λ (p : Profile). ForceEnabledBy p k) (sym (call-profile m call)) (h .force-enabled);
@@ -96,36 +96,36 @@ module _ (k : ℕ) where
             (λ e. subst small.InStep (sym (rests m call e)) (h .in-step));
       }
 
-  simulates : Simulates afterCall isTick (small.tick times) (InTouch k) (Spares k) (small-of k) input
+  simulates : Simulates afterCall isTick (small.tick times) (InTouch k) (AtTicks (Spared k)) (small-of k) input
   simulates = record { kept = kept; ticks = ticks; rests = rests }
 
   -- a reached machine is in touch where no latch keeps the channel off
   pub in-touch : (m : Machine) → Reached m → ForceEnabled k m → Unlatched k m → InTouch k m
   in-touch m r fe u = record { force-enabled = fe; in-step = standing k m r fe ∙ by-cases (isLit (modeOf (m .board))) (λ e. rw (u e, e)) (λ e. rw e) }
 
-  powered-from : (m : Machine) → InTouch k m → (calls : List Call) → Stretch afterCall (Spares k) m calls → Powered (times .linger) (times .period) (channelOf k m calls)
+  powered-from : (m : Machine) → InTouch k m → (calls : List Call) → EachTick (Spared k) m calls → Powered (times .linger) (times .period) (channelOf k m calls)
   powered-from m h calls a =
-      inherits afterCall isTick (small.tick times) (InTouch k) (Spares k) (small-of k) input simulates (λ x. x .on) (Powered (times .linger) (times .period)) m
+      inherits afterCall isTick (small.tick times) (InTouch k) (AtTicks (Spared k)) (small-of k) input simulates (λ x. x .on) (Powered (times .linger) (times .period)) m
       (λ is. of-small.with-before times (omega arith) (small-of k m) (h .in-step) is) h calls a
 
   -- the channel is the small machine's
-  pub same-line : (m : Machine) → InTouch k m → (calls : List Call) → Stretch afterCall (Spares k) m calls
+  pub same-line : (m : Machine) → InTouch k m → (calls : List Call) → EachTick (Spared k) m calls
       → channelOf k m calls ≡ channel (small.tick times) (λ i. true) (λ x. x .on) (small-of k m) (inputs afterCall isTick input m calls)
-  same-line m h calls a = same-channel afterCall isTick (small.tick times) (InTouch k) (Spares k) (small-of k) input simulates (λ x. x .on) m h calls a
+  same-line m h calls a = same-channel afterCall isTick (small.tick times) (InTouch k) (AtTicks (Spared k)) (small-of k) input simulates (λ x. x .on) m h calls a
 
 -- ---- the claims
 -- two channels in step with one mode are the same to the small machine
 alike : (j k : ℕ) (m : Machine) → InTouch j m → InTouch k m → small-of j m ≡ small-of k m
 alike j k m g h = ap (λ (o : Bool). record { phase = m .board .phase; on = o }) (g .in-step ∙ sym (h .in-step))
 
-together : (j k : ℕ) (m : Machine) → InTouch j m → InTouch k m → (calls : List Call) → Stretch afterCall (Spares j) m calls → Stretch afterCall (Spares k) m calls → channelOf j m calls ≡ channelOf k m calls
+together : (j k : ℕ) (m : Machine) → InTouch j m → InTouch k m → (calls : List Call) → EachTick (Spared j) m calls → EachTick (Spared k) m calls → channelOf j m calls ≡ channelOf k m calls
 together j k m g h calls a b =
     same-line j m g calls a
     ∙ ap (λ (s : small.State). channel (small.tick times) (λ i. true) (λ x. x .on) s (inputs afterCall isTick input m calls)) (alike j k m g h)
     ∙ sym (same-line k m h calls b)
 
 -- the numbers of the claim are no better than those shown
-lasts : (k : ℕ) (m : Machine) → InTouch k m → (calls : List Call) → Stretch afterCall (Spares k) m calls → Lasts k m calls
+lasts : (k : ℕ) (m : Machine) → InTouch k m → (calls : List Call) → EachTick (Spared k) m calls → Lasts k m calls
 unfolding limitsOf
 lasts k m h calls a =
     let p = powered-from k m h calls a in
@@ -142,11 +142,11 @@ power-of-one =
     }
 
 -- a stretch that disturbs no force-enabled channel spares each of them
-pub spares-each : (k : ℕ) (calls : List Call) (m : Machine) → ForceEnabled k m → Stretch afterCall Allowed m calls → Stretch afterCall (Spares k) m calls
+pub spares-each : (k : ℕ) (calls : List Call) (m : Machine) → ForceEnabled k m → EachTick Undisturbed m calls → EachTick (Spared k) m calls
 spares-each k [] m fe a = tt
 spares-each k (call ∷ calls) m fe a = (one call (a .0), spares-each k calls (afterCall m call) (subst (λ (p : Profile). ForceEnabledBy p k) (sym (call-profile m call)) fe) (a .1))
   where
-    one : (call : Call) → Allowed m call → Spares k m call
+    one : (call : Call) → AtTicks Undisturbed m call → AtTicks (Spared k) m call
     one (tick i) a = λ e. record { no-reset = a e .no-reset; no-overcurrent = a e .no-overcurrent k fe }
     one (line received room) a = tt
 

@@ -23,7 +23,7 @@ use Rattle.settings.specs.Table.{lies, rowOf, find, readWriteRows, readOnlyRows
 use Rattle.settings.specs.Values.{numberOf, defaultsOf, defaultN}
 use Rattle.watchdog.proofs.Laws.{disabled, early}
 use Rattle.power.specs.Machine as small
-use Rattle.power.specs.Runs.{OffAtMost, Stretch}
+use Rattle.power.specs.Runs.{OffAtMost}
 use Rattle.power.specs.Claim.{mostOff, Powered}
 use Rattle.power.proofs.Tight.{all-off}
 use Rattle.command.specs.Table as codes
@@ -51,9 +51,9 @@ use Rattle.text.specs.declared.framing.Due.the-variants.{Nothing}
 use Rattle.unit.specs.declared.Machine.{Machine}
 use Rattle.unit.specs.declared.Told.{Told}
 use Rattle.claims.specs.Runs.{Sample, told, Call, tick, afterCall, after, Reached}
-use Rattle.claims.specs.Power.{isOn, ForceEnabledBy, ForceEnabled, channelOf, Undisturbed, Allowed, AtLeastOne, NoneLatched, limits}
+use Rattle.claims.specs.Power.{isOn, ForceEnabledBy, ForceEnabled, channelOf, Undisturbed, EachTick, AtLeastOne, NoneLatched, limits}
 use Rattle.claims.specs.PowerReal.{profile, started, dead}
-use Rattle.claims.specs.PowerNeeded.{Fails, ButReset, ButOvercurrent, AllowedBut, PowerNeeded}
+use Rattle.claims.specs.PowerNeeded.{Fails, ButReset, ButOvercurrent, PowerNeeded}
 use Rattle.claims.proofs.Profiles.{after-profile}
 use Rattle.claims.proofs.Power.{numbers}
 use Rattle.claims.proofs.PowerTick.{found-phase, found-seen}
@@ -134,7 +134,7 @@ too-short : (m : Machine) (calls : List Call) → channelOf 0 m calls ≡ false 
 unfolding limitsOf
 too-short m calls e d = false≢true (d .on-for-long .shown [] (false ∷ []) e .1 .0)
 
-pub without-reset : Fails (λ m. Reached m × AtLeastOne m × NoneLatched m) (AllowedBut ButReset)
+pub without-reset : Fails (λ m. Reached m × AtLeastOne m × NoneLatched m) ButReset
 without-reset =
     record {
       from = nearly;
@@ -149,7 +149,7 @@ without-reset =
       fails = too-short nearly (dead ∷ tick restart ∷ []) (computed .restart-line);
     }
 
-pub without-overcurrent : Fails (λ m. Reached m × AtLeastOne m × NoneLatched m) (AllowedBut ButOvercurrent)
+pub without-overcurrent : Fails (λ m. Reached m × AtLeastOne m × NoneLatched m) ButOvercurrent
 without-overcurrent =
     record {
       from = nearly;
@@ -259,9 +259,9 @@ module _ (m : Machine) (stuck : Stuck m) where
         no-overcurrent = λ k fe. has-none k;
       }
 
-stuck-allowed : (n : ℕ) (m : Machine) → Stuck m → Stretch afterCall Allowed m (replicate n (tick fed))
-stuck-allowed zero m stuck = tt
-stuck-allowed (suc n) m stuck = (λ e. fed-undisturbed m stuck, stuck-allowed n (afterCall m (tick fed)) (still-stuck m stuck))
+stuck-ticks : (n : ℕ) (m : Machine) → Stuck m → EachTick Undisturbed m (replicate n (tick fed))
+stuck-ticks zero m stuck = tt
+stuck-ticks (suc n) m stuck = (λ e. fed-undisturbed m stuck, stuck-ticks n (afterCall m (tick fed)) (still-stuck m stuck))
 
 -- channel 0 is off at the end of each tick
 stuck-line : (n : ℕ) (m : Machine) → Stuck m → channelOf 0 m (replicate n (tick fed)) ≡ replicate (suc n) false
@@ -281,13 +281,13 @@ latched-stuck : Stuck latched-off
 unfolding freshOf
 latched-stuck = record { nominal = computed .latched-mode; kept = computed .latched-memory; of = after-profile before started ∙ ap (λ (b : Board). b .profile) started-is; off = computed .latched-off }
 
-pub unlatched-at-its-start : Fails (λ m. Reached m × AtLeastOne m) Allowed
-unlatched-at-its-start =
+pub unlatched : Fails (λ m. Reached m × AtLeastOne m) Undisturbed
+unlatched =
     record {
       from = latched-off;
       start = (reached-by before, record { one = 0; is = forced-after before });
       calls = replicate 60000 (tick fed);
-      met = stuck-allowed 60000 latched-off latched-stuck;
+      met = stuck-ticks 60000 latched-off latched-stuck;
       k = 0;
       force-enabled = forced-after before;
       fails = too-long latched-off latched-stuck;
@@ -309,17 +309,17 @@ made-up-unlatched : NoneLatched made-up
 unfolding freshOf
 made-up-unlatched k fe = ap (λ (x : Chan). x .latched) (cleared-each k (fe .a-channel))
 
-pub reached : Fails (λ m. AtLeastOne m × NoneLatched m) Allowed
+pub reached : Fails (λ m. AtLeastOne m × NoneLatched m) Undisturbed
 reached =
     record {
       from = made-up;
       start = (record { one = 0; is = made-up-forced }, made-up-unlatched);
       calls = replicate 60000 (tick fed);
-      met = stuck-allowed 60000 made-up made-up-stuck;
+      met = stuck-ticks 60000 made-up made-up-stuck;
       k = 0;
       force-enabled = made-up-forced;
       fails = too-long made-up made-up-stuck;
     }
 
 pub power-needed : PowerNeeded
-power-needed = record { without-reset = without-reset; without-overcurrent = without-overcurrent; unlatched-at-its-start = unlatched-at-its-start; reached = reached }
+power-needed = record { no-reset = without-reset; no-overcurrent = without-overcurrent; none-latched = unlatched; reached = reached }

@@ -37,16 +37,16 @@ use Rattle.answers.specs.declared.Outcome.the-variants.{NoTransfer, Answered}
 use Rattle.commands.specs.Step.{commandedOf}
 use Rattle.board.specs.Tick.{risenOf, changedOf, trippedOf, watchedIn, tickWith, allowedCount, tickOf}
 use Rattle.board.specs.declared.Ticked.{Ticked}
-use Rattle.power.specs.Runs.{channel, Stretch, turns}
+use Rattle.power.specs.Runs.{channel, turns}
 use Rattle.unit.specs.Machine.{noMachine, begunOf, toldBy, toldOf}
 use Rattle.unit.specs.declared.Machine.{Machine}
 use Rattle.unit.specs.declared.Told.{Told}
 use Rattle.claims.specs.Runs.{Sample, told, tick, afterCall, after, Reached}
-use Rattle.claims.specs.Power.{ForceEnabledBy, ForceEnabled, channelOf, isTick, Resets, Undisturbed, Allowed, NoneLatched}
-use Rattle.claims.specs.PowerReal.{profile, started, dead, ticks, line, PowerReal}
+use Rattle.claims.specs.Power.{ForceEnabledBy, ForceEnabled, channelOf, isTick, Resets, Undisturbed, EachTick, NoneLatched}
+use Rattle.claims.specs.PowerReal.{profile, started, dead, ticks, expected, PowerReal}
 use Rattle.claims.proofs.PowerTick.{seen}
 use Rattle.claims.proofs.Standing.{begun-is}
-use Rattle.claims.proofs.Power.{times, input, small-of, in-touch, same-line, spares-each}
+use Rattle.claims.proofs.Power.{numbers, times, input, small-of, in-touch, same-line, spares-each}
 
 -- ---- the defaults
 abbrev pub defaults : Memory
@@ -150,9 +150,9 @@ module _ (m : Machine) (calm : Calm m) where
         no-overcurrent = λ k fe. has-none k;
       }
 
-calm-allowed : (n : ℕ) (m : Machine) → Calm m → Stretch afterCall Allowed m (replicate n dead)
-calm-allowed zero m calm = tt
-calm-allowed (suc n) m calm = (λ e. undisturbed m calm, calm-allowed n (afterCall m dead) (still-calm m calm))
+calm-ticks : (n : ℕ) (m : Machine) → Calm m → EachTick Undisturbed m (replicate n dead)
+calm-ticks zero m calm = tt
+calm-ticks (suc n) m calm = (λ e. undisturbed m calm, calm-ticks n (afterCall m dead) (still-calm m calm))
 
 -- to the small machine each tick is the same
 abbrev low : small.Input
@@ -204,14 +204,14 @@ started-small k fe = ap (seen k) started-is ∙ ap (λ (o : Bool). record { phas
 -- any number of these ticks
 any-number : (k : ℕ) → ForceEnabled k started → (n : ℕ) → channelOf k started (replicate n dead) ≡ channel (small.tick times) (λ i. true) (λ x. x .on) small.start (replicate n low)
 any-number k fe n =
-    same-line k started (in-touch k started reached fe (λ e. none-latched k fe)) (replicate n dead) (spares-each k (replicate n dead) started fe (calm-allowed n started started-calm))
+    same-line k started (in-touch k started reached fe (λ e. none-latched k fe)) (replicate n dead) (spares-each k (replicate n dead) started fe (calm-ticks n started started-calm))
     ∙ ap (λ (is : List small.Input). channel (small.tick times) (λ i. true) (λ x. x .on) (small-of k started) is) (calm-inputs n started started-calm)
     ∙ ap (λ (s : small.State). channel (small.tick times) (λ i. true) (λ x. x .on) s (replicate n low)) (started-small k fe)
 
 same-turns : {a a′ b b′ c c′ d d′ : ℕ} → a ≡ a′ → b ≡ b′ → c ≡ c′ → d ≡ d′ → turns a b c d ≡ turns a′ b′ c′ d′
 same-turns e f g h = rw (e, f, g, h)
 
-exactly : (k : ℕ) → ForceEnabled k started → channelOf k started (replicate ticks dead) ≡ line
+exactly : (k : ℕ) → ForceEnabled k started → channelOf k started (replicate ticks dead) ≡ expected
 exactly k fe =
     let count : ticks ≡ lowTicks times = omega arith in
     any-number k fe ticks
@@ -222,9 +222,10 @@ exactly k fe =
 pub power-real : PowerReal
 power-real =
     record {
+      numbers = numbers;
       reached = reached;
       at-least-one = record { one = 0; is = zero-forced };
       none-latched = none-latched;
-      allowed = calm-allowed ticks started started-calm;
+      undisturbed = calm-ticks ticks started started-calm;
       exactly = exactly;
     }

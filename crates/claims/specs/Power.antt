@@ -1,5 +1,5 @@
--- Demand 3, power. Take a machine that was started from a profile that keeps the rules and then used in any way, and from there a stretch of calls. Let the board have a force-enabled channel, and none that
--- is latched when the stretch begins; let no tick of the stretch reset the machine, alter a setting, or report an overcurrent of such a channel. Then, whatever the rails and the commands:
+-- Demand 3, power. Take a machine that was started from a profile that keeps the rules and then used in any way, and from there a stretch of calls. Let the board have a force-enabled channel, and let
+-- none of these be latched when the stretch begins; let no tick of the stretch reset the machine, alter a setting, or report an overcurrent of such a channel. Then, whatever the rails and the commands:
 -- a force-enabled channel is never off for longer than 50 ticks, or than the emergency period where that is more; whenever it comes on in the stretch it is on for linger + 1 ticks, unless the stretch ends
 -- before; and all of them come on and go off together.
 -- On and off mean at a tick's end. A call of the stretch is a tick, a tick that refusal 9 turns away and that does not happen, or a read of the text line.
@@ -64,10 +64,13 @@ pub record Undisturbed (m : Machine) (i : Sample) : Type 0 where
   pub no-change : told m i .machine .board .memory .current ≡ m .board .memory .current
   pub no-overcurrent : (k : ℕ) → ForceEnabled k m → has (i .named) k ≡ false
 
--- of a call: of the tick, where it is one that happens
-abbrev pub Allowed : Machine → Call → Type 0
-Allowed m (tick i) = isTick (tick i) ≡ true → Undisturbed m i
-Allowed m (line received room) = Unit {0}
+-- each tick of the stretch from m that happens is as `Met` says, in the machine that it meets
+abbrev pub AtTicks : (Machine → Sample → Type 0) → Machine → Call → Type 0
+AtTicks Met m (tick i) = isTick (tick i) ≡ true → Met m i
+AtTicks Met m (line received room) = Unit {0}
+
+abbrev pub EachTick : (Machine → Sample → Type 0) → Machine → List Call → Type 0
+EachTick Met m calls = Stretch afterCall (AtTicks Met) m calls
 
 -- the board has at least one force-enabled channel
 pub record AtLeastOne (m : Machine) : Type 0 where
@@ -90,4 +93,4 @@ pub record Demand3 (m : Machine) (calls : List Call) : Type 0 where
   pub together : (j k : ℕ) → ForceEnabled j m → ForceEnabled k m → channelOf j m calls ≡ channelOf k m calls
 
 abbrev pub Power : Type 0
-Power = (m : Machine) → Reached m → AtLeastOne m → NoneLatched m → (calls : List Call) → Stretch afterCall Allowed m calls → Demand3 m calls
+Power = (m : Machine) → Reached m → AtLeastOne m → NoneLatched m → (calls : List Call) → EachTick Undisturbed m calls → Demand3 m calls

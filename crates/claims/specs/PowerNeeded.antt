@@ -2,21 +2,20 @@
 -- `PowerOfOne` shows: that the settings stay, and that the board has a force-enabled channel. Assumes nothing: this is the claim.
 use mathlib.Core.Path.{_≡_}
 use Prim.Native.Nat.{ℕ}
-use mathlib.Core.Bool.{true, false}
+use mathlib.Core.Bool.{false}
 use mathlib.Core.List.{List}
 use Rattle.channels.specs.Sets.{has}
-use Rattle.power.specs.Runs.{Stretch}
 use Rattle.power.specs.Claim.{Powered}
 use Rattle.unit.specs.declared.Machine.{Machine}
-use Rattle.claims.specs.Runs.{Sample, told, Call, tick, line, afterCall, Reached}
-use Rattle.claims.specs.Power.{ForceEnabled, isTick, channelOf, Resets, Allowed, AtLeastOne, NoneLatched, limits}
+use Rattle.claims.specs.Runs.{Sample, told, Call, Reached}
+use Rattle.claims.specs.Power.{ForceEnabled, channelOf, Resets, Undisturbed, EachTick, AtLeastOne, NoneLatched, limits}
 
--- a machine that is as `Start` says, and a stretch from it that is as `Met` says, in which a force-enabled channel is off for too long, or on for too short a time
-pub record Fails (Start : Machine → Type 0) (Met : Machine → Call → Type 0) : Type 0 where
+-- a machine that is as `Start` says, and a stretch from it whose ticks are as `Met` says, in which a force-enabled channel is off for too long, or on for too short a time
+pub record Fails (Start : Machine → Type 0) (Met : Machine → Sample → Type 0) : Type 0 where
   pub from : Machine
   pub start : Start from
   pub calls : List Call
-  pub met : Stretch afterCall Met from calls
+  pub met : EachTick Met from calls
   pub k : ℕ
   pub force-enabled : ForceEnabled k from
   pub fails : Powered (limits from .linger) (limits from .period) (channelOf k from calls) → ⊥
@@ -30,16 +29,12 @@ pub record ButOvercurrent (m : Machine) (i : Sample) : Type 0 where
   pub no-reset : Resets m i → ⊥
   pub no-change : told m i .machine .board .memory .current ≡ m .board .memory .current
 
-abbrev pub AllowedBut : (Machine → Sample → Type 0) → Machine → Call → Type 0
-AllowedBut Met m (tick i) = isTick (tick i) ≡ true → Met m i
-AllowedBut Met m (line received room) = Unit {0}
-
 pub record PowerNeeded : Type 0 where
   -- a reset in the stretch turns a channel off that has just come on
-  pub without-reset : Fails (λ m. Reached m × AtLeastOne m × NoneLatched m) (AllowedBut ButReset)
+  pub no-reset : Fails (λ m. Reached m × AtLeastOne m × NoneLatched m) ButReset
   -- so does an overcurrent
-  pub without-overcurrent : Fails (λ m. Reached m × AtLeastOne m × NoneLatched m) (AllowedBut ButOvercurrent)
-  -- a channel that is latched at the start stays off in nominal
-  pub unlatched-at-its-start : Fails (λ m. Reached m × AtLeastOne m) Allowed
+  pub no-overcurrent : Fails (λ m. Reached m × AtLeastOne m × NoneLatched m) ButOvercurrent
+  -- a channel that is latched when the stretch begins stays off in nominal
+  pub none-latched : Fails (λ m. Reached m × AtLeastOne m) Undisturbed
   -- and so does one that is off and not latched, in nominal, where no run leads
-  pub reached : Fails (λ m. AtLeastOne m × NoneLatched m) Allowed
+  pub reached : Fails (λ m. AtLeastOne m × NoneLatched m) Undisturbed

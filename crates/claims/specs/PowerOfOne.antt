@@ -6,22 +6,17 @@ use Prim.Native.Nat.{ℕ}
 use mathlib.Core.Bool.{true, false}
 use mathlib.Core.List.{List}
 use Rattle.channels.specs.Sets.{has}
-use Rattle.power.specs.Runs.{Stretch}
 use Rattle.power.specs.Machine.{isLit}
 use Rattle.power.specs.Claim.{Powered}
 use Rattle.state.specs.Parts.{modeOf}
 use Rattle.unit.specs.declared.Machine.{Machine}
-use Rattle.claims.specs.Runs.{Sample, Call, tick, line, afterCall, Reached}
-use Rattle.claims.specs.Power.{ForceEnabled, isTick, endsOf, channelOf, Resets, limits}
+use Rattle.claims.specs.Runs.{Sample, Call, Reached}
+use Rattle.claims.specs.Power.{ForceEnabled, endsOf, channelOf, Resets, EachTick, limits}
 
 -- a tick that neither resets the machine nor names channel k
 pub record Spared (k : ℕ) (m : Machine) (i : Sample) : Type 0 where
   pub no-reset : Resets m i → ⊥
   pub no-overcurrent : has (i .named) k ≡ false
-
-abbrev pub Spares : ℕ → Machine → Call → Type 0
-Spares k m (tick i) = isTick (tick i) ≡ true → Spared k m i
-Spares k m (line received room) = Unit {0}
 
 -- no latch keeps channel k off: a latch that is there in startup or emergency goes when the mode is left
 abbrev pub Unlatched : ℕ → Machine → Type 0
@@ -33,7 +28,7 @@ pub record Lasts (k : ℕ) (m : Machine) (calls : List Call) : Type 0 where
   pub powered-by-ends : Powered (limits m .linger) (limits m .period) (endsOf k m calls)
 
 pub record PowerOfOne : Type 0 where
-  pub lasts : (k : ℕ) (m : Machine) → Reached m → ForceEnabled k m → Unlatched k m → (calls : List Call) → Stretch afterCall (Spares k) m calls → Lasts k m calls
+  pub lasts : (k : ℕ) (m : Machine) → Reached m → ForceEnabled k m → Unlatched k m → (calls : List Call) → EachTick (Spared k) m calls → Lasts k m calls
   -- two such channels are on and off alike
   pub together : (j k : ℕ) (m : Machine) → Reached m → ForceEnabled j m → ForceEnabled k m → Unlatched j m → Unlatched k m
-      → (calls : List Call) → Stretch afterCall (Spares j) m calls → Stretch afterCall (Spares k) m calls → channelOf j m calls ≡ channelOf k m calls
+      → (calls : List Call) → EachTick (Spared j) m calls → EachTick (Spared k) m calls → channelOf j m calls ≡ channelOf k m calls

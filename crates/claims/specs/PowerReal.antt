@@ -6,13 +6,14 @@ use mathlib.Core.Bool.{Bool, false}
 use mathlib.Core.List.{List, []}
 use lib.IntN.{pos}
 use lib.ListN.{replicate}
-use Rattle.power.specs.Runs.{Stretch, turns}
+use Rattle.power.specs.Runs.{turns}
+use Rattle.power.specs.Claim.{mostOff, leastOn}
 use Rattle.memory.specs.Memory.{emptyStore}
 use Rattle.state.specs.declared.parts.Profile.{Profile}
 use Rattle.unit.specs.Machine.{noMachine, begunOf}
 use Rattle.unit.specs.declared.Machine.{Machine}
-use Rattle.claims.specs.Runs.{Call, tick, afterCall, Reached}
-use Rattle.claims.specs.Power.{ForceEnabled, channelOf, Allowed, AtLeastOne, NoneLatched}
+use Rattle.claims.specs.Runs.{Call, tick, Reached}
+use Rattle.claims.specs.Power.{ForceEnabled, channelOf, Undisturbed, EachTick, AtLeastOne, NoneLatched, limits}
 
 -- board 1 with channels 0 to 3, of which 0 and 1 are force-enabled; nothing is stored
 abbrev pub profile : Profile
@@ -30,12 +31,15 @@ abbrev pub ticks : ℕ
 ticks = 72052
 
 -- the state before the stretch and 49 ticks in startup, 6,001 in safety, 60,000 in emergency, 6,001 in safety, and emergency again
-abbrev pub line : List Bool
-line = turns 50 6001 60000 6001
+abbrev pub expected : List Bool
+expected = turns 50 6001 60000 6001
 
 pub record PowerReal : Type 0 where
+  -- the two numbers, on every board
+  pub numbers : (m : Machine) → (mostOff (limits m .period) ≡ 60000) × (leastOn (limits m .linger) ≡ 6001)
+  -- the stretch
   pub reached : Reached started
   pub at-least-one : AtLeastOne started
   pub none-latched : NoneLatched started
-  pub allowed : Stretch afterCall Allowed started (replicate ticks dead)
-  pub exactly : (k : ℕ) → ForceEnabled k started → channelOf k started (replicate ticks dead) ≡ line
+  pub undisturbed : EachTick Undisturbed started (replicate ticks dead)
+  pub exactly : (k : ℕ) → ForceEnabled k started → channelOf k started (replicate ticks dead) ≡ expected
