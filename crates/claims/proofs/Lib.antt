@@ -1,4 +1,13 @@
 pub mod Boundary
+pub mod CommandStep
+pub mod Profiles
+pub mod PowerCommand
+pub mod PowerTick
+pub mod Standing
+pub mod Power
+pub mod PowerReal
+pub mod PowerNeeded
+pub mod Dark
 pub mod Wrong
 pub mod CountRuns
 pub mod RefusalExamples

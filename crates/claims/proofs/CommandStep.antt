@@ -1,0 +1,205 @@
+-- What the command step can do to a board's mode and channels, for every board and every transfer: one law by the commands, for all that is shown of them. Assumes nothing.
+use Prim.Native.Nat.{ℕ}
+use mathlib.Core.Path.{_≡_, refl}
+use mathlib.Core.Bool.{Bool, true, false, cond, false≢true}
+use mathlib.Core.List.{List}
+use lib.IntN.{ℤ}
+use Rattle.wire.specs.declared.reply.Reply.{Reply}
+use Rattle.modes.specs.Commands.{toSafety, toNominal}
+use Rattle.modes.specs.declared.Mode.{Mode}
+use Rattle.modes.specs.declared.Mode.the-variants.{Startup, Nominal, Safety, Emergency}
+use Rattle.modes.specs.declared.ModeAge.{ModeAge}
+use Rattle.modes.specs.declared.Limits.{Limits}
+use Rattle.modes.specs.declared.Commanded as change
+use Rattle.channels.specs.Operations.{switchOn}
+use Rattle.channels.specs.declared.Channels.{Channels}
+use Rattle.channels.proofs.Laws as of-channels
+use Rattle.power.specs.Machine as small
+use Rattle.power.proofs.Step.{by-cases}
+use Rattle.command.specs.Decode.{fewerThanFour, codeOf, decodeBy, decodeOf}
+use Rattle.command.specs.declared.Command.{Command}
+use Rattle.command.specs.declared.Refusal.{Refusal}
+use Rattle.command.specs.declared.Decoded.{Decoded}
+use Rattle.command.specs.declared.Decoded.the-variants.{Run, Refused}
+use Rattle.memory.specs.Memory.{savedOf}
+use Rattle.memory.specs.declared.Memory.{Memory}
+use Rattle.state.specs.Parts.{modeOf, withMemory, withMeasured, withChannels}
+use Rattle.state.specs.Start.{commandResetOf}
+use Rattle.state.specs.Change.{enteringOf}
+use Rattle.state.specs.declared.parts.Board.{Board}
+use Rattle.answers.specs.Answers.{headerOf, acceptedWith, acceptedOf, refusedOf, notThisBoardOf}
+use Rattle.answers.specs.declared.Answer.{Answer}
+use Rattle.answers.specs.declared.Answer.the-variants.{Accepted}
+use Rattle.answers.specs.declared.Outcome.the-variants.{Answered}
+use Rattle.answers.specs.declared.Commanded.{Commanded}
+use Rattle.commands.specs.Effects.{isNominal, switchedOf, groupOnOf, groupOffOf, groupStateOf, channelOnOf, channelOffOf, cancelledOf, switchedModeOf, faultsOf, housekeepingOf, parameterOf, rememberedOf, savedIn, seen, restartedOf, runOf}
+use Rattle.commands.specs.Step.{isStartup, turnedDown, decodedOf, transferredOf, commandedOf}
+
+-- ---- what can become of a board
+-- it has this phase and these channels, and its own profile
+pub record Becomes (next : ModeAge) (s : Channels) (b c : Board) : Type 0 where
+  pub profile : c .profile ≡ b .profile
+  pub phase : c .phase ≡ next
+  pub channels : c .channels ≡ s
+
+-- mode and channels stay
+abbrev pub Stays : Board → Board → Type 0
+Stays b c = Becomes (b .phase) (b .channels) b c
+
+-- a change of mode that was asked for, with what it brings for the channels; where it is not available they stay
+abbrev pub Changes : change.Commanded → Board → Board → Type 0
+Changes (change.Commanded.Accepted next) b c = Becomes next (enteringOf (modeOf b) (next .mode) (b .profile) (b .channels)) b c
+Changes change.Commanded.Unavailable b c = Stays b c
+
+-- the channels after a command on them
+abbrev pub obeying : of-channels.Command → Board → Channels
+obeying o b = of-channels.obeyed (b .profile .fitted) (b .profile .forced) o (b .channels)
+
+-- what a decoded transfer is to the small machine
+abbrev pub asked : Decoded → small.Command
+asked (Run Command.SwitchToNominal) = small.switchToNominal
+asked (Run Command.SwitchToSafety) = small.switchToSafety
+asked (Run (Command.GroupOn g)) = small.switchOn
+asked (Run (Command.GroupOff g)) = small.switchOn
+asked (Run (Command.GroupState g)) = small.switchOn
+asked (Run (Command.ChannelOn one)) = small.switchOn
+asked (Run (Command.ChannelOff one)) = small.switchOn
+asked (Run Command.CancelOperation) = small.other
+asked (Run Command.NoOperation) = small.other
+asked (Run Command.Watchdog) = small.other
+asked (Run Command.GetOvercurrentFaultState) = small.other
+asked (Run Command.GetHousekeeping) = small.other
+asked (Run (Command.GetParameter id)) = small.other
+asked (Run (Command.SetParameter id v)) = small.other
+asked (Run (Command.ResetParameter id)) = small.other
+asked (Run Command.ResetConfiguration) = small.other
+asked (Run Command.LoadConfiguration) = small.other
+asked (Run (Command.SaveConfiguration given)) = small.other
+asked (Run Command.SystemReset) = small.other
+asked (Refused r) = small.other
+
+-- All that the step can do with a transfer that is decoded to d and is `ask` to the small machine: in startup nothing; nothing, too, where the command is refused or has to do with neither; the channels
+-- switched, in nominal; the command-enabled ones off by 0x04; a change of mode; or a reset.
+pub data Does (rail : ℤ) (limits : Limits) (d : Decoded) (ask : small.Command) (b : Board) (c : Commanded) : Type 0 where
+  idles : isStartup (modeOf b) ≡ true → Stays b (c .board) → Does rail limits d ask b c
+  leaves-both : ask ≡ small.other → Stays b (c .board) → Does rail limits d ask b c
+  refuses : ask ≡ small.switchOn → Stays b (c .board) → Does rail limits d ask b c
+  switches : ask ≡ small.switchOn → modeOf b ≡ Nominal → (o : of-channels.Command) → Becomes (b .phase) (obeying o b) b (c .board) → Does rail limits d ask b c
+  cancels : ask ≡ small.other → Becomes (b .phase) (obeying of-channels.command-enabled-off b) b (c .board) → Does rail limits d ask b c
+  to-safety : ask ≡ small.switchToSafety → Changes (toSafety (b .phase)) b (c .board) → Does rail limits d ask b c
+  to-nominal : ask ≡ small.switchToNominal → Changes (toNominal (b .phase) rail limits) b (c .board) → Does rail limits d ask b c
+  restarts : d ≡ Run Command.SystemReset → c .outcome ≡ Answered Accepted → c .board ≡ commandResetOf b → Does rail limits d ask b c
+
+-- ---- each command
+nominal-is : (m : Mode) → isNominal m ≡ true → m ≡ Nominal
+unfolding isNominal
+nominal-is Startup e = absurd (false≢true e)
+nominal-is Nominal e = refl
+nominal-is Safety e = absurd (false≢true e)
+nominal-is Emergency e = absurd (false≢true e)
+
+module _ (rail : ℤ) (limits : Limits) (b : Board) where
+  abbrev DoesIt : Decoded → Commanded → Type 0
+  DoesIt d c = Does rail limits d (asked d) b c
+
+  stays : Stays b b
+  stays = record { profile = refl; phase = refl; channels = refl }
+
+  refused : (a : Answer) (code : ℕ) → Stays b (refusedOf a code b .board)
+  unfolding refusedOf
+  refused a code = record { profile = refl; phase = refl; channels = refl }
+
+  -- a command that alters neither, whatever its reply
+  accepted : (reply : Reply) → Stays b (acceptedWith reply b .board)
+  unfolding acceptedWith
+  accepted reply = record { profile = refl; phase = refl; channels = refl }
+
+  -- 0x84, 0x86, 0x90, 0x92, and 0x94, whose checksum may be wrong: other settings, at most
+  remembers : (reply : Reply) (x : Memory) → Stays b (acceptedWith reply (withMemory x b) .board)
+  unfolding acceptedWith
+  remembers reply x = record { profile = refl; phase = refl; channels = refl }
+
+  saved : (code given : ℕ) → Stays b (savedIn code given b .board)
+  unfolding savedIn rememberedOf acceptedOf
+  saved code given = by-cases (savedOf given (b .memory) .right) (λ e. rw e (remembers _ (savedOf given (b .memory) .memory))) (λ e. rw e (refused Answer.Wrong code))
+
+  takes : (code : ℕ) (s : Channels) → Becomes (b .phase) s b (acceptedOf code (withChannels s b) .board)
+  unfolding acceptedOf acceptedWith
+  takes code s = record { profile = refl; phase = refl; channels = refl }
+
+  -- the five on channels
+  switched : (d : Decoded) → asked d ≡ small.switchOn → (code : ℕ) (right : Bool) (o : of-channels.Command) → DoesIt d (switchedOf code right (obeying o b) b)
+  unfolding switchedOf
+  switched d a code right o =
+      by-cases (isNominal (modeOf b))
+      (λ e. by-cases right (λ r. rw (e, r) (switches a (nominal-is (modeOf b) e) o (takes code (obeying o b)))) (λ r. rw (e, r) (refuses a (refused Answer.Wrong code))))
+      (λ e. rw e (refuses a (refused Answer.NotAvailable code)))
+
+  -- the two on the mode
+  switched-mode : (code : ℕ) (c : change.Commanded) → Changes c b (switchedModeOf code c b .board)
+  unfolding switchedModeOf acceptedOf acceptedWith
+  switched-mode code (change.Commanded.Accepted next) = record { profile = refl; phase = refl; channels = refl }
+  switched-mode code change.Commanded.Unavailable = refused Answer.NotAvailable code
+
+  measured : (reply : Reply) → Stays b (acceptedWith reply (withMeasured (seen (b .measured)) b) .board)
+  unfolding acceptedWith
+  measured reply = record { profile = refl; phase = refl; channels = refl }
+
+  run : (code : ℕ) (c : Command) → DoesIt (Run c) (runOf rail limits code c b)
+  unfolding runOf groupOnOf groupOffOf groupStateOf channelOnOf channelOffOf cancelledOf faultsOf housekeepingOf parameterOf rememberedOf restartedOf acceptedOf
+  run code (Command.GroupOn g) = switched _ refl code _ (of-channels.group-on (g .spoken) (g .mask))
+  run code (Command.GroupOff g) = switched _ refl code _ (of-channels.group-off (g .spoken) (g .mask))
+  run code (Command.GroupState g) = switched _ refl code _ (of-channels.group-state (g .spoken) (g .mask))
+  run code (Command.ChannelOn one) = switched _ refl code _ (of-channels.switch-on one)
+  run code (Command.ChannelOff one) = switched _ refl code _ (of-channels.switch-off one)
+  run code Command.CancelOperation = cancels refl (takes code _)
+  run code Command.NoOperation = leaves-both refl (accepted _)
+  run code Command.Watchdog = leaves-both refl (accepted _)
+  run code Command.SwitchToSafety = to-safety refl (switched-mode code (toSafety (b .phase)))
+  run code Command.SwitchToNominal = to-nominal refl (switched-mode code (toNominal (b .phase) rail limits))
+  run code Command.GetOvercurrentFaultState = leaves-both refl (accepted _)
+  run code Command.GetHousekeeping = leaves-both refl (measured _)
+  run code (Command.GetParameter id) = leaves-both refl (remembers _ _)
+  run code (Command.SetParameter id v) = leaves-both refl (remembers _ _)
+  run code (Command.ResetParameter id) = leaves-both refl (remembers _ _)
+  run code Command.ResetConfiguration = leaves-both refl (remembers _ _)
+  run code Command.LoadConfiguration = leaves-both refl (remembers _ _)
+  run code (Command.SaveConfiguration given) = leaves-both refl (saved code given)
+  run code Command.SystemReset = restarts refl refl refl
+
+  -- ---- a refusal by the decoder leaves both
+  turned-down : (code : ℕ) (r : Refusal) → DoesIt (Refused r) (turnedDown code r b)
+  unfolding turnedDown notThisBoardOf
+  turned-down code Refusal.FewerThanFourBytes = leaves-both refl stays
+  turned-down code Refusal.NotThisBoard = leaves-both refl (record { profile = refl; phase = refl; channels = refl })
+  turned-down code Refusal.CodeNotListed = leaves-both refl (refused Answer.CodeNotListed code)
+  turned-down code Refusal.TooShort = leaves-both refl (refused Answer.TooShort code)
+  turned-down code Refusal.WrongKey = leaves-both refl (refused Answer.Wrong code)
+  turned-down code Refusal.WrongParameter = leaves-both refl (refused Answer.Wrong code)
+  turned-down code Refusal.NotANumber = leaves-both refl (refused Answer.Wrong code)
+
+  decoded : (code : ℕ) (d : Decoded) → DoesIt d (decodedOf rail limits code d b)
+  unfolding decodedOf
+  decoded code (Run c) = run code c
+  decoded code (Refused r) = turned-down code r
+
+  -- ---- the whole step
+  module _ (s : List ℕ) where
+    abbrev reading : Decoded
+    reading = decodeOf (headerOf (b .profile)) s
+
+    too-short : fewerThanFour s ≡ true → reading ≡ Refused Refusal.FewerThanFourBytes
+    unfolding decodeOf decodeBy
+    too-short short = rw short
+
+    transferred : DoesIt reading (transferredOf rail limits s b)
+    unfolding transferredOf
+    transferred =
+        by-cases (fewerThanFour s)
+        (λ short. rw (short, too-short short) (leaves-both refl stays))
+        (λ long. by-cases (isStartup (modeOf b)) (λ e. rw (long, e) (idles e stays)) (λ e. rw (long, e) (decoded (codeOf s) reading)))
+
+    pub step : (sent : Bool) → Does rail limits reading (cond sent (asked reading) small.other) b (commandedOf rail limits sent s b)
+    unfolding commandedOf
+    step true = transferred
+    step false = leaves-both refl stays

@@ -1,0 +1,164 @@
+-- Demand 3 on the board: each force-enabled channel is the small machine's, tick by tick, so both claims are inherited. Assumes nothing.
+use Prim.Native.Nat.{ℕ}
+use lib.IntN.{ℤ, pos}
+use mathlib.Core.Path.{_≡_, refl, sym, ap, _∙_, subst}
+use mathlib.Core.Bool.{Bool, true, false, cond, false≢true}
+use mathlib.Core.List.{List, [], _∷_}
+use mathlib.Core.Logic.{inl, inr}
+use native.Mathlib.Omega.{arith}
+use Rattle.watchdog.specs.Watchdog.{secondsInTicks}
+use Rattle.power.specs.Runs.{channel}
+use Rattle.power.specs.Claim.{mostOff, leastOn, Powered}
+use Rattle.power.specs.Machine as small
+use Rattle.power.specs.Machine.{isLit}
+use Rattle.power.proofs.Step.{by-cases, good}
+use Rattle.power.proofs.Theorem as of-small
+use Rattle.power.proofs.Simulation.{Simulates, inputs, same-channel, inherits}
+use Rattle.command.specs.Decode.{decodeOf}
+use Rattle.memory.specs.Limits.{linger, emergencyPeriod, limitsOf}
+use Rattle.memory.specs.declared.Memory.{Memory}
+use Rattle.state.specs.Parts.{modeOf}
+use Rattle.state.specs.declared.parts.Profile.{Profile}
+use Rattle.answers.specs.Answers.{headerOf}
+use Rattle.text.specs.Lines.{lineOf}
+use Rattle.text.specs.declared.reading.Line.{Line}
+use Rattle.text.specs.declared.reading.Line.the-variants.{Command, Switch, NoFrame, TooLong, NotOfForm, ScratchTooShort}
+use Rattle.unit.specs.Machine.{toldOf, afterLine, heardOf}
+use Rattle.unit.specs.declared.Machine.{Machine}
+use Rattle.unit.proofs.Laws.{refused-tick-leaves}
+use Rattle.unit.specs.Runs.{Call, tick, line, afterCall, Reached}
+use Rattle.claims.specs.Power.{ForceEnabledBy, ForceEnabled, isTick, channelOf, Undisturbed, AtTicks, EachTick, limits, Power}
+use Rattle.claims.specs.PowerOfOne.{Spared, Unlatched, Lasts, PowerOfOne}
+use Rattle.claims.proofs.Profiles.{call-profile}
+use Rattle.claims.proofs.CommandStep.{asked}
+use Rattle.claims.proofs.PowerTick.{seen, tick-seen}
+use Rattle.claims.proofs.Standing.{standing}
+
+-- ---- the small machine in the large one
+-- linger and the emergency period are the same on every board
+abbrev pub times : small.Times
+times = record { linger = secondsInTicks linger; period = secondsInTicks emergencyPeriod }
+
+-- what a tick is to the small machine; what stands for a read of the text line is never looked at
+abbrev brings : Memory → ℤ → small.Command → small.Input
+brings memory rail command =
+    let own = limitsOf memory in
+    record {
+      rail = rail;
+      «safety_low» = own .«safety_low»;
+      «safety_high» = own .«safety_high»;
+      «emergency_low» = own .«emergency_low»;
+      «emergency_high» = own .«emergency_high»;
+      command = command;
+    }
+
+abbrev pub input : Machine → Call → small.Input
+input m (tick i) = brings (m .board .memory) (i .rail) (cond (i .sent) (asked (decodeOf (headerOf (m .board .profile)) (i .transfer))) small.other)
+input m (line received room) = brings (m .board .memory) (pos 0) small.other
+
+abbrev pub small-of : ℕ → Machine → small.State
+small-of k m = seen k (m .board)
+
+-- channel k is force-enabled, and in step with the mode
+pub record InTouch (k : ℕ) (m : Machine) : Type 0 where
+  pub force-enabled : ForceEnabled k m
+  pub in-step : small.InStep (small-of k m)
+
+module _ (k : ℕ) where
+  ticks : (m : Machine) (call : Call) → InTouch k m → AtTicks (Spared k) m call → isTick call ≡ true → small-of k (afterCall m call) ≡ small.tick times (small-of k m) (input m call)
+  unfolding toldOf limitsOf small.tick
+  ticks m (tick i) h a e =
+      let spared = a e in
+      tick-seen k (i .rail) (i .named) (i .words) (i .sent) (i .transfer) (m .board) (h .force-enabled) e (h .in-step) (spared .no-overcurrent)
+      (λ w. spared .no-reset (inl w)) (λ d o. spared .no-reset (inr (d, o)))
+  ticks m (line received room) h a e = absurd (false≢true e)
+
+  line-rests : (l : Line) (m : Machine) → small-of k (afterLine l m) ≡ small-of k m
+  line-rests (Switch form behind) m = refl
+  line-rests (Command start end behind) m = refl
+  line-rests NoFrame m = refl
+  line-rests (TooLong behind) m = refl
+  line-rests (NotOfForm behind) m = refl
+  line-rests (ScratchTooShort behind) m = refl
+
+  rests : (m : Machine) (call : Call) → isTick call ≡ false → small-of k (afterCall m call) ≡ small-of k m
+  unfolding heardOf
+  rests m (tick i) e = ap (small-of k) (refused-tick-leaves (i .rail) (i .named) (i .words) (i .sent) (i .transfer) m e)
+  rests m (line received room) e = line-rests (lineOf (m .board .form) received room) m
+
+  kept : (m : Machine) (call : Call) → InTouch k m → AtTicks (Spared k) m call → InTouch k (afterCall m call)
+  kept m call h a =
+      record {
+        force-enabled = subst (λ (p : Profile). ForceEnabledBy p k) (sym (call-profile m call)) (h .force-enabled);
+        in-step =
+            by-cases (isTick call)
+            (λ e. subst small.InStep (sym (ticks m call h a e)) (good times (omega arith) (small-of k m) (input m call) (h .in-step) .in-step))
+            (λ e. subst small.InStep (sym (rests m call e)) (h .in-step));
+      }
+
+  simulates : Simulates afterCall isTick (small.tick times) (InTouch k) (AtTicks (Spared k)) (small-of k) input
+  simulates = record { kept = kept; ticks = ticks; rests = rests }
+
+  -- a reached machine is in touch where no latch keeps the channel off
+  pub in-touch : (m : Machine) → Reached m → ForceEnabled k m → Unlatched k m → InTouch k m
+  in-touch m r fe u = record { force-enabled = fe; in-step = standing k m r fe ∙ by-cases (isLit (modeOf (m .board))) (λ e. rw (u e, e)) (λ e. rw e) }
+
+  powered-from : (m : Machine) → InTouch k m → (calls : List Call) → EachTick (Spared k) m calls → Powered (times .linger) (times .period) (channelOf k m calls)
+  powered-from m h calls a =
+      inherits afterCall isTick (small.tick times) (InTouch k) (AtTicks (Spared k)) (small-of k) input simulates (λ x. x .on) (Powered (times .linger) (times .period)) m
+      (λ is. of-small.with-before times (omega arith) (small-of k m) (h .in-step) is) h calls a
+
+  -- the channel is the small machine's
+  pub same-line : (m : Machine) → InTouch k m → (calls : List Call) → EachTick (Spared k) m calls
+      → channelOf k m calls ≡ channel (small.tick times) (λ i. true) (λ x. x .on) (small-of k m) (inputs afterCall isTick input m calls)
+  same-line m h calls a = same-channel afterCall isTick (small.tick times) (InTouch k) (AtTicks (Spared k)) (small-of k) input simulates (λ x. x .on) m h calls a
+
+-- ---- the claims
+-- two channels in step with one mode are the same to the small machine
+alike : (j k : ℕ) (m : Machine) → InTouch j m → InTouch k m → small-of j m ≡ small-of k m
+alike j k m g h = ap (λ (o : Bool). record { phase = m .board .phase; on = o }) (g .in-step ∙ sym (h .in-step))
+
+together : (j k : ℕ) (m : Machine) → InTouch j m → InTouch k m → (calls : List Call) → EachTick (Spared j) m calls → EachTick (Spared k) m calls → channelOf j m calls ≡ channelOf k m calls
+together j k m g h calls a b =
+    same-line j m g calls a
+    ∙ ap (λ (s : small.State). channel (small.tick times) (λ i. true) (λ x. x .on) s (inputs afterCall isTick input m calls)) (alike j k m g h)
+    ∙ sym (same-line k m h calls b)
+
+-- the numbers of the claim are no better than those shown
+lasts : (k : ℕ) (m : Machine) → InTouch k m → (calls : List Call) → EachTick (Spared k) m calls → Lasts k m calls
+unfolding limitsOf
+lasts k m h calls a =
+    let p = powered-from k m h calls a in
+    record {
+      powered = of-small.looser (times .linger) _ (times .period) _ (omega arith) (omega arith) p;
+      powered-by-ends = of-small.looser (times .linger) _ (times .period) _ (omega arith) (omega arith) (of-small.without-first p);
+    }
+
+pub power-of-one : PowerOfOne
+power-of-one =
+    record {
+      lasts = λ k m r fe u calls a. lasts k m (in-touch k m r fe u) calls a;
+      together = λ j k m r fj fk uj uk calls a b. together j k m (in-touch j m r fj uj) (in-touch k m r fk uk) calls a b;
+    }
+
+-- a stretch that disturbs no force-enabled channel spares each of them
+pub spares-each : (k : ℕ) (calls : List Call) (m : Machine) → ForceEnabled k m → EachTick Undisturbed m calls → EachTick (Spared k) m calls
+spares-each k [] m fe a = tt
+spares-each k (call ∷ calls) m fe a = (one call (a .0), spares-each k calls (afterCall m call) (subst (λ (p : Profile). ForceEnabledBy p k) (sym (call-profile m call)) fe) (a .1))
+  where
+    one : (call : Call) → AtTicks Undisturbed m call → AtTicks (Spared k) m call
+    one (tick i) a = λ e. record { no-reset = a e .no-reset; no-overcurrent = a e .no-overcurrent k fe }
+    one (line received room) a = tt
+
+pub power : Power
+power m r some unlatched calls a =
+    record {
+      powered = λ k fe. power-of-one .lasts k m r fe (λ e. unlatched k fe) calls (spares-each k calls m fe a) .powered;
+      powered-by-ends = λ k fe. power-of-one .lasts k m r fe (λ e. unlatched k fe) calls (spares-each k calls m fe a) .powered-by-ends;
+      together = λ j k fj fk. power-of-one .together j k m r fj fk (λ e. unlatched j fj) (λ e. unlatched k fk) calls (spares-each j calls m fj a) (spares-each k calls m fk a);
+    }
+
+-- the two numbers, on every board
+pub numbers : (m : Machine) → (mostOff (limits m .period) ≡ 60000) × (leastOn (limits m .linger) ≡ 6001)
+unfolding limitsOf
+numbers m = (refl, refl)

@@ -1,0 +1,158 @@
+-- What the command step can do to the mode and to one force-enabled channel: it never turns the channel off, but by a reset. Assumes nothing.
+use Prim.Native.Nat.{ℕ}
+use mathlib.Core.Path.{_≡_, refl, ap, _∙_}
+use mathlib.Core.Bool.{true, false, cond, false≢true}
+use mathlib.Core.Logic.{_⊎_, inl, inr, ⊎-elim}
+use lib.IntN.{ℤ}
+use Rattle.modes.specs.Table.{_at-least_}
+use Rattle.modes.specs.Commands.{toSafetyFrom, toSafety, toNominalFrom, toNominal, leaves}
+use Rattle.modes.specs.declared.Mode.{Mode}
+use Rattle.modes.specs.declared.Mode.the-variants.{Startup, Nominal, Safety, Emergency}
+use Rattle.modes.specs.declared.ModeAge.{ModeAge}
+use Rattle.modes.specs.declared.Limits.{Limits}
+use Rattle.modes.specs.declared.Commanded as change
+use Rattle.channels.specs.Sets.{has}
+use Rattle.channels.specs.Chan.{Chan, chan}
+use Rattle.channels.specs.Operations.{onAndCleared, offAndLatchKept, allOff, forcedOn, commandEnabledOff}
+use Rattle.channels.specs.declared.Channels.{Channels}
+use Rattle.channels.proofs.Laws as of-channels
+use Rattle.power.specs.Machine as small
+use Rattle.power.proofs.Step.{by-cases}
+use Rattle.command.specs.declared.Command.the-variants.{SystemReset}
+use Rattle.command.specs.declared.Decoded.{Decoded}
+use Rattle.command.specs.declared.Decoded.the-variants.{Run}
+use Rattle.state.specs.Parts.{modeOf}
+use Rattle.state.specs.Start.{commandResetOf}
+use Rattle.state.specs.Change.{isDark, fromNominalToSafety, enteringOf}
+use Rattle.state.specs.declared.parts.Board.{Board}
+use Rattle.state.specs.declared.parts.Profile.{Profile}
+use Rattle.answers.specs.declared.Answer.the-variants.{Accepted}
+use Rattle.answers.specs.declared.Outcome.the-variants.{Answered}
+use Rattle.answers.specs.declared.Commanded.{Commanded}
+use Rattle.commands.specs.Step.{isStartup}
+use Rattle.claims.specs.Power.{ForceEnabledBy}
+use Rattle.claims.proofs.CommandStep.{Becomes, Stays, Changes, Does, idles, leaves-both, refuses, switches, cancels, to-safety, to-nominal, restarts}
+
+-- ---- what can become of the mode and of channel k
+-- the mode is as `next` says, and the channel stays
+pub record Moved (k : ℕ) (next : ModeAge) (b c : Board) : Type 0 where
+  pub phase : c .phase ≡ next
+  pub on : has (c .channels .on) k ≡ has (b .channels .on) k
+  pub latched : has (c .channels .latched) k ≡ has (b .channels .latched) k
+
+-- in nominal the channel is switched on and its latch cleared
+pub record Lit (k : ℕ) (b c : Board) : Type 0 where
+  pub nominal : modeOf b ≡ Nominal
+  pub phase : c .phase ≡ b .phase
+  pub on : has (c .channels .on) k ≡ true
+  pub unlatched : has (c .channels .latched) k ≡ false
+
+-- in startup nothing happens, and else it goes by what is asked; or it is a reset
+pub data DoesAt (k : ℕ) (rail : ℤ) (limits : Limits) (d : Decoded) (ask : small.Command) (b : Board) (c : Commanded) : Type 0 where
+  idle : isStartup (modeOf b) ≡ true → Moved k (b .phase) b (c .board) → DoesAt k rail limits d ask b c
+  left : ask ≡ small.other → Moved k (b .phase) b (c .board) → DoesAt k rail limits d ask b c
+  switched : ask ≡ small.switchOn → Moved k (b .phase) b (c .board) ⊎ Lit k b (c .board) → DoesAt k rail limits d ask b c
+  made-safe : ask ≡ small.switchToSafety → Moved k (leaves (toSafety (b .phase)) (b .phase)) b (c .board) → DoesAt k rail limits d ask b c
+  made-nominal : ask ≡ small.switchToNominal → Moved k (leaves (toNominal (b .phase) rail limits) (b .phase)) b (c .board) → DoesAt k rail limits d ask b c
+  restarted : d ≡ Run SystemReset → c .outcome ≡ Answered Accepted → c .board ≡ commandResetOf b → DoesAt k rail limits d ask b c
+
+-- what a change of mode does to one force-enabled channel
+abbrev pub enteredOne : Mode → Mode → Chan → Chan
+enteredOne before after ch = cond (small.isLit after) (cond (small.isLit before) ch (onAndCleared ch)) (offAndLatchKept ch)
+
+module _ (p : Profile) (k : ℕ) (fe : ForceEnabledBy p k) (s : Channels) where
+  forced-on : chan (forcedOn (p .fitted) (p .forced) s) k ≡ onAndCleared (chan s k)
+  forced-on = of-channels.each (p .fitted) (p .forced) of-channels.forced-come-on s k (fe .a-channel) ∙ rw (fe .fitted, fe .forced)
+
+  all-off : chan (allOff s) k ≡ offAndLatchKept (chan s k)
+  all-off = of-channels.each (p .fitted) (p .forced) of-channels.emergency-entered s k (fe .a-channel)
+
+  others-off : chan (commandEnabledOff (p .fitted) (p .forced) s) k ≡ chan s k
+  others-off = of-channels.command-untouched (p .fitted) (p .forced) of-channels.command-enabled-off s k (fe .a-channel) (rw (fe .fitted, fe .forced))
+
+  pub entering : (before after : Mode) → chan (enteringOf before after p s) k ≡ enteredOne before after (chan s k)
+  unfolding enteringOf isDark fromNominalToSafety
+  entering before Startup = all-off
+  entering before Emergency = all-off
+  entering Startup Nominal = forced-on
+  entering Startup Safety = forced-on
+  entering Emergency Nominal = forced-on
+  entering Emergency Safety = forced-on
+  entering Nominal Nominal = refl
+  entering Nominal Safety = others-off
+  entering Safety Nominal = refl
+  entering Safety Safety = refl
+
+  -- a command on the channels leaves it, or switches it on and clears its latch
+  commanding : (o : of-channels.Command) → (chan (of-channels.obeyed (p .fitted) (p .forced) o s) k ≡ chan s k) ⊎ (chan (of-channels.obeyed (p .fitted) (p .forced) o s) k ≡ onAndCleared (chan s k))
+  commanding o = by-cases (of-channels.meantFor (p .fitted) (p .forced) o k) (λ e. inr (one ∙ meant o e)) (λ e. inl (of-channels.command-untouched (p .fitted) (p .forced) o s k (fe .a-channel) e))
+    where
+      one : chan (of-channels.obeyed (p .fitted) (p .forced) o s) k ≡ of-channels.obeyedOne (p .fitted) (p .forced) o k (chan s k)
+      one = of-channels.each (p .fitted) (p .forced) (of-channels.commanded o) s k (fe .a-channel)
+
+      meant : (o : of-channels.Command) → of-channels.meantFor (p .fitted) (p .forced) o k ≡ true → of-channels.obeyedOne (p .fitted) (p .forced) o k (chan s k) ≡ onAndCleared (chan s k)
+      meant (of-channels.group-on spoken mask) e = rw e
+      meant (of-channels.group-off spoken mask) e = absurd (false≢true (rw (fe .fitted, fe .forced) at e))
+      meant (of-channels.group-state spoken mask) e = rw (fe .fitted, fe .forced, rw (fe .fitted, fe .forced) at e)
+      meant (of-channels.switch-on one) e = rw (fe .fitted, rw (fe .fitted) at e)
+      meant (of-channels.switch-off one) e = absurd (false≢true (rw (fe .fitted, fe .forced) at e))
+      meant of-channels.command-enabled-off e = absurd (false≢true (rw (fe .fitted, fe .forced) at e))
+
+-- ---- the step at channel k
+module _ (k : ℕ) (b : Board) (fe : ForceEnabledBy (b .profile) k) where
+  moved : (next : ModeAge) (s : Channels) (c : Board) → Becomes next s b c → chan s k ≡ chan (b .channels) k → Moved k next b c
+  moved next s c q e =
+      record {
+        phase = q .phase;
+        on = ap (λ (x : Channels). has (x .on) k) (q .channels) ∙ ap (λ (x : Chan). x .on) e;
+        latched = ap (λ (x : Channels). has (x .latched) k) (q .channels) ∙ ap (λ (x : Chan). x .latched) e;
+      }
+
+  lighted : (s : Channels) (c : Board) → modeOf b ≡ Nominal → Becomes (b .phase) s b c → chan s k ≡ onAndCleared (chan (b .channels) k) → Lit k b c
+  lighted s c n q e =
+      record {
+        nominal = n;
+        phase = q .phase;
+        on = ap (λ (x : Channels). has (x .on) k) (q .channels) ∙ ap (λ (x : Chan). x .on) e;
+        unlatched = ap (λ (x : Channels). has (x .latched) k) (q .channels) ∙ ap (λ (x : Chan). x .latched) e;
+      }
+
+  stays : (c : Board) → Stays b c → Moved k (b .phase) b c
+  stays c q = moved (b .phase) (b .channels) c q refl
+
+  -- 0x30 and 0x32 lead from a lit mode to a lit one, if anywhere
+  abbrev BothLit : change.Commanded → Type 0
+  BothLit (change.Commanded.Accepted next) = (small.isLit (modeOf b) ≡ true) × (small.isLit (next .mode) ≡ true)
+  BothLit change.Commanded.Unavailable = Unit {0}
+
+  changed : (x : change.Commanded) (c : Board) → BothLit x → Changes x b c → Moved k (leaves x (b .phase)) b c
+  changed (change.Commanded.Accepted next) c lit q = moved next _ c q (entering (b .profile) k fe (b .channels) (modeOf b) (next .mode) ∙ rw (lit .0, lit .1))
+  changed change.Commanded.Unavailable c lit q = stays c q
+
+  safety-lit : (m : Mode) → modeOf b ≡ m → BothLit (toSafetyFrom m (b .phase))
+  safety-lit Startup e = tt
+  safety-lit Nominal e = (rw e, refl)
+  safety-lit Safety e = (rw e, rw e)
+  safety-lit Emergency e = tt
+
+  nominal-lit : (m : Mode) (rail : ℤ) (limits : Limits) → modeOf b ≡ m → BothLit (toNominalFrom m (b .phase) rail limits)
+  nominal-lit Startup rail limits e = tt
+  nominal-lit Nominal rail limits e = (rw e, rw e)
+  nominal-lit Safety rail limits e = by-cases (rail at-least limits .«safety_low») (λ d. rw d (rw e, refl)) (λ d. rw d tt)
+  nominal-lit Emergency rail limits e = tt
+
+  pub at-channel : (rail : ℤ) (limits : Limits) (d : Decoded) (ask : small.Command) (c : Commanded) → Does rail limits d ask b c → DoesAt k rail limits d ask b c
+  unfolding toSafety toNominal
+  at-channel rail limits d ask c (idles e q) = idle e (stays (c .board) q)
+  at-channel rail limits d ask c (leaves-both e q) = left e (stays (c .board) q)
+  at-channel rail limits d ask c (refuses e q) = switched e (inl (stays (c .board) q))
+  at-channel rail limits d ask c (switches e n o q) =
+      switched e
+      (⊎-elim
+      (λ (w : chan (of-channels.obeyed (b .profile .fitted) (b .profile .forced) o (b .channels)) k ≡ chan (b .channels) k). inl (moved (b .phase) _ (c .board) q w))
+      (λ (w : chan (of-channels.obeyed (b .profile .fitted) (b .profile .forced) o (b .channels)) k ≡ onAndCleared (chan (b .channels) k)). inr (lighted _ (c .board) n q w))
+      (commanding (b .profile) k fe (b .channels) o))
+  at-channel rail limits d ask c (cancels e q) = left e (moved (b .phase) _ (c .board) q (others-off (b .profile) k fe (b .channels)))
+  at-channel rail limits d ask c (to-safety e q) = made-safe e (changed (toSafety (b .phase)) (c .board) (safety-lit (modeOf b) refl) q)
+  at-channel rail limits d ask c (to-nominal e q) = made-nominal e (changed (toNominal (b .phase) rail limits) (c .board) (nominal-lit (modeOf b) rail limits refl) q)
+  at-channel rail limits d ask c (restarts e o r) = restarted e o r

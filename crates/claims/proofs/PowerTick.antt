@@ -1,0 +1,257 @@
+-- A whole tick at one force-enabled channel: the channel stays as `Standing` says, whatever happens, and without a reset and an overcurrent of that channel it is the small machine's. Assumes nothing.
+use Prim.Native.Nat.{ℕ, _<_}
+use mathlib.Core.Path.{_≡_, refl, sym, ap, _∙_, subst}
+use mathlib.Core.Bool.{Bool, true, false, cond, not, _&&_, _||_, and-false, false≢true}
+use mathlib.Core.List.{List}
+use mathlib.Core.Logic.{_⊎_, ⊎-elim}
+use lib.IntN.{ℤ}
+use lib.ListN.{length}
+use Rattle.modes.specs.Table.{_at-least_, _aged_, same, stepOf, olderOf}
+use Rattle.modes.specs.Commands.{toSafetyFrom, toSafety, toNominalFrom, toNominal, leaves}
+use Rattle.modes.specs.declared.Mode.{Mode}
+use Rattle.modes.specs.declared.Mode.the-variants.{Startup, Nominal, Safety, Emergency}
+use Rattle.modes.specs.declared.ModeAge.{ModeAge}
+use Rattle.modes.specs.declared.Limits.{Limits}
+use Rattle.channels.specs.Sets.{has}
+use Rattle.channels.specs.Chan.{Chan, chan}
+use Rattle.channels.specs.Operations.{overcurrentOne}
+use Rattle.channels.proofs.Laws as of-channels
+use Rattle.watchdog.specs.Watchdog as dog
+use Rattle.watchdog.specs.declared.Event.{Event}
+use Rattle.watchdog.specs.declared.Event.the-variants.{NoEvent, PeripheralReset, WatchdogReset}
+use Rattle.power.specs.Machine as small
+use Rattle.power.specs.Machine.{isLit}
+use Rattle.power.proofs.Step.{by-cases}
+use Rattle.command.specs.Decode.{decodeOf}
+use Rattle.command.specs.declared.Command.the-variants.{SystemReset}
+use Rattle.command.specs.declared.Decoded.{Decoded}
+use Rattle.command.specs.declared.Decoded.the-variants.{Run}
+use Rattle.memory.specs.Limits.{timeoutOf, limitsOf}
+use Rattle.memory.specs.declared.Store.{Store}
+use Rattle.state.specs.Parts.{modeOf}
+use Rattle.state.specs.Start.{freshOf, commandResetOf, watchdogResetOf}
+use Rattle.state.specs.declared.parts.Board.{Board}
+use Rattle.state.specs.declared.parts.Profile.{Profile}
+use Rattle.state.specs.declared.parts.Resets.{Resets}
+use Rattle.answers.specs.Answers.{headerOf}
+use Rattle.answers.specs.declared.Answer.the-variants.{Accepted}
+use Rattle.answers.specs.declared.Outcome.the-variants.{Answered}
+use Rattle.answers.specs.declared.Commanded.{Commanded}
+use Rattle.commands.specs.Step.{isStartup, commandedOf}
+use Rattle.board.specs.Tick.{risenOf, changedOf, trippedOf, watchedAs, watchedIn, tickWith, allowedCount, tickOf}
+use Rattle.board.specs.declared.Ticked.{Ticked}
+use Rattle.claims.specs.Power.{ForceEnabledBy}
+use Rattle.claims.specs.Standing.{Stands}
+use Rattle.claims.proofs.CommandStep.{asked, step}
+use Rattle.claims.proofs.PowerCommand.{Moved, Lit, DoesAt, idle, left, switched, made-safe, made-nominal, restarted, enteredOne, entering, at-channel}
+
+-- ---- a start, and a reset of either kind: off, unlatched, in startup
+pub fresh-stands : (k : ℕ) → k < 32 → (p : Profile) (store : Store) (resets : Resets) → Stands k (freshOf p store resets)
+unfolding freshOf
+fresh-stands k h p store resets = ap (λ (x : Chan). x .on) (of-channels.cleared-each k h)
+
+-- ---- the two commands on the mode keep it lit, or dark
+safety-lit : (m : Mode) (s : ModeAge) → s .mode ≡ m → isLit (leaves (toSafetyFrom m s) s .mode) ≡ isLit (s .mode)
+safety-lit Startup s e = refl
+safety-lit Nominal s e = rw e
+safety-lit Safety s e = refl
+safety-lit Emergency s e = refl
+
+to-safety-lit : (s : ModeAge) → isLit (leaves (toSafety s) s .mode) ≡ isLit (s .mode)
+unfolding toSafety
+to-safety-lit s = safety-lit (s .mode) s refl
+
+nominal-lit : (m : Mode) (s : ModeAge) (rail : ℤ) (limits : Limits) → s .mode ≡ m → isLit (leaves (toNominalFrom m s rail limits) s .mode) ≡ isLit (s .mode)
+nominal-lit Startup s rail limits e = refl
+nominal-lit Nominal s rail limits e = refl
+nominal-lit Safety s rail limits e = by-cases (rail at-least limits .«safety_low») (λ d. rw (d, e)) (λ d. rw d)
+nominal-lit Emergency s rail limits e = refl
+
+to-nominal-lit : (s : ModeAge) (rail : ℤ) (limits : Limits) → isLit (leaves (toNominal s rail limits) s .mode) ≡ isLit (s .mode)
+unfolding toNominal
+to-nominal-lit s rail limits = nominal-lit (s .mode) s rail limits refl
+
+-- ---- the channel alone
+-- a change of mode leaves a channel as it stands in the new mode
+entered-stands : (before after : Mode) (x : Chan) → x .on ≡ (isLit before && not (x .latched)) → enteredOne before after x .on ≡ (isLit after && not (enteredOne before after x .latched))
+entered-stands before after x e = by-cases (isLit after) (λ a. by-cases (isLit before) (λ b. rw (a, b) (rw b at e)) (λ b. rw (a, b))) (λ a. rw a)
+
+-- an overcurrent latches what it turns off
+tripped-stands : (named lit : Bool) (x : Chan) → x .on ≡ (lit && not (x .latched)) → overcurrentOne named x .on ≡ (lit && not (overcurrentOne named x .latched))
+tripped-stands named lit x e = by-cases (named && x .on) (λ a. rw a (sym (and-false lit))) (λ a. rw a e)
+
+-- without one, the change of mode is all
+entered-on : (before after : Mode) (x : Chan) → overcurrentOne false (enteredOne before after x) .on ≡ cond (isLit after) (cond (isLit before) (x .on) true) false
+entered-on before after x = by-cases (isLit after) (λ a. by-cases (isLit before) (λ b. rw (a, b)) (λ b. rw (a, b))) (λ a. rw a)
+
+-- what the small machine sees of a board
+abbrev pub seen : ℕ → Board → small.State
+seen k b = record { phase = b .phase; on = has (b .channels .on) k }
+
+-- a channel in step is so after a change of mode
+enters-in-step : (next : ModeAge) (s : small.State) → small.InStep s → small.InStep (small.enters next s)
+enters-in-step next s h = by-cases (isLit (next .mode)) (λ a. by-cases (isLit (s .phase .mode)) (λ b. rw (a, b) (h ∙ b)) (λ b. rw (a, b))) (λ a. rw a)
+
+-- a mode that stays lit, or dark, leaves the channel
+enters-lit : (next : ModeAge) (s : small.State) → small.InStep s → isLit (next .mode) ≡ isLit (s .phase .mode) → small.enters next s ≡ record { phase = next; on = s .on }
+enters-lit next s h e = ap (λ (o : Bool). record { phase = next; on = o }) (by-cases (isLit (s .phase .mode)) (λ a. rw (e, a)) (λ a. rw (e, a) (sym (h ∙ a))))
+
+-- a command on channels in nominal finds the channel on
+nominal-on : (m : Mode) (o : Bool) → o ≡ isLit m → (same m Nominal || o) ≡ o
+nominal-on Startup o h = refl
+nominal-on Nominal o h = sym h
+nominal-on Safety o h = refl
+nominal-on Emergency o h = refl
+
+-- in startup no command moves the small machine
+unmoved : (rail : ℤ) (limits : Limits) (c : small.Command) (s : small.State) → s .phase .mode ≡ Startup → small.InStep s → small.obeyed c rail limits s ≡ s
+unfolding toSafety toNominal
+unmoved rail limits small.other s e h = refl
+unmoved rail limits small.switchOn s e h = ap (λ (o : Bool). record { phase = s .phase; on = o }) (nominal-on (s .phase .mode) (s .on) h)
+unmoved rail limits small.switchToSafety s e h = rw e (ap (λ (o : Bool). record { phase = Startup aged (s .phase .age); on = o }) (sym (h ∙ ap isLit e)))
+unmoved rail limits small.switchToNominal s e h = rw e (ap (λ (o : Bool). record { phase = Startup aged (s .phase .age); on = o }) (sym (h ∙ ap isLit e)))
+
+startup-is : (m : Mode) → isStartup m ≡ true → m ≡ Startup
+unfolding isStartup
+startup-is Startup e = refl
+startup-is Nominal e = absurd (false≢true e)
+startup-is Safety e = absurd (false≢true e)
+startup-is Emergency e = absurd (false≢true e)
+
+-- ---- step 4
+module _ (k : ℕ) (b c : Board) where
+  moved-stands : (next : ModeAge) → isLit (next .mode) ≡ isLit (modeOf b) → Moved k next b c → Stands k b → Stands k c
+  moved-stands next e q w = rw (q .on, q .phase, q .latched, e) w
+
+  lit-stands : Lit k b c → Stands k c
+  lit-stands q = rw (q .on, q .phase, q .unlatched, q .nominal)
+
+  moved-seen : (next : ModeAge) → Moved k next b c → seen k c ≡ record { phase = next; on = has (b .channels .on) k }
+  moved-seen next q = rw (q .phase, q .on)
+
+  lit-seen : Lit k b c → seen k c ≡ record { phase = b .phase; on = true }
+  lit-seen q = rw (q .phase, q .on)
+
+module _ (k : ℕ) (rail : ℤ) (limits : Limits) (d : Decoded) (ask : small.Command) (b : Board) (c : Commanded) where
+  -- it leaves the channel standing
+  obeyed-stands : k < 32 → DoesAt k rail limits d ask b c → Stands k b → Stands k (c .board)
+  unfolding commandResetOf
+  obeyed-stands h (idle e q) w = moved-stands k b (c .board) (b .phase) refl q w
+  obeyed-stands h (left e q) w = moved-stands k b (c .board) (b .phase) refl q w
+  obeyed-stands h (switched e q) w = ⊎-elim (λ (p : Moved k (b .phase) b (c .board)). moved-stands k b (c .board) (b .phase) refl p w) (λ (p : Lit k b (c .board)). lit-stands k b (c .board) p) q
+  obeyed-stands h (made-safe e q) w = moved-stands k b (c .board) (leaves (toSafety (b .phase)) (b .phase)) (to-safety-lit (b .phase)) q w
+  obeyed-stands h (made-nominal e q) w = moved-stands k b (c .board) (leaves (toNominal (b .phase) rail limits) (b .phase)) (to-nominal-lit (b .phase) rail limits) q w
+  obeyed-stands h (restarted e o r) w = rw r (fresh-stands k h _ _ _)
+
+  -- without a reset it is what the small machine does
+  obeyed-seen : DoesAt k rail limits d ask b c → small.InStep (seen k b) → (d ≡ Run SystemReset → c .outcome ≡ Answered Accepted → ⊥) → seen k (c .board) ≡ small.obeyed ask rail limits (seen k b)
+  obeyed-seen (idle e q) h n = moved-seen k b (c .board) (b .phase) q ∙ sym (unmoved rail limits ask (seen k b) (startup-is (modeOf b) e) h)
+  obeyed-seen (left e q) h n = rw e (moved-seen k b (c .board) (b .phase) q)
+  obeyed-seen (switched e q) h n =
+      let on : Bool → small.State = λ o. record { phase = b .phase; on = o } in
+      rw e
+      (⊎-elim
+      (λ (p : Moved k (b .phase) b (c .board)). moved-seen k b (c .board) (b .phase) p ∙ ap on (sym (nominal-on (modeOf b) (has (b .channels .on) k) h)))
+      (λ (p : Lit k b (c .board)). lit-seen k b (c .board) p ∙ ap on (rw (p .nominal)))
+      q)
+  obeyed-seen (made-safe e q) h n =
+      let next = leaves (toSafety (b .phase)) (b .phase) in
+      rw e (moved-seen k b (c .board) next q ∙ sym (enters-lit next (seen k b) h (to-safety-lit (b .phase))))
+  obeyed-seen (made-nominal e q) h n =
+      let next = leaves (toNominal (b .phase) rail limits) (b .phase) in
+      rw e (moved-seen k b (c .board) next q ∙ sym (enters-lit next (seen k b) h (to-nominal-lit (b .phase) rail limits)))
+  obeyed-seen (restarted e o r) h n = absurd (n e o)
+
+-- ---- step 5
+-- what holds of the board that the command leaves and of its reset holds after the watchdog
+watched-by : (P : Board → Type 0) (e : Event) (c : Commanded) → P (c .board) → P (watchdogResetOf (c .board)) → P (watchedAs e c .board)
+watched-by P NoEvent c p r = p
+watched-by P PeripheralReset c p r = p
+watched-by P WatchdogReset c p r = r
+
+unreset : (e : Event) (c : Commanded) → (watchedAs e c .event ≡ WatchdogReset → ⊥) → watchedAs e c .board ≡ c .board
+unreset NoEvent c n = refl
+unreset PeripheralReset c n = refl
+unreset WatchdogReset c n = absurd (n refl)
+
+watched-outcome : (e : Event) (c : Commanded) → watchedAs e c .outcome ≡ c .outcome
+watched-outcome NoEvent c = refl
+watched-outcome PeripheralReset c = refl
+watched-outcome WatchdogReset c = refl
+
+-- ---- the whole tick
+module _ (k : ℕ) (rail : ℤ) (named : ℕ) (words : List ℕ) (sent : Bool) (s : List ℕ) (b : Board) (fe : ForceEnabledBy (b .profile) k) where
+  abbrev own : Limits
+  own = limitsOf (b .memory)
+
+  abbrev next : ModeAge
+  next = stepOf (olderOf (b .phase)) rail own
+
+  -- the board as the command finds it
+  abbrev found : Board
+  found = trippedOf named (changedOf rail own (risenOf words b))
+
+  abbrev obeyed : Commanded
+  obeyed = commandedOf rail own sent s found
+
+  abbrev reading : Decoded
+  reading = decodeOf (headerOf (b .profile)) s
+
+  abbrev ask : small.Command
+  ask = cond sent (asked reading) small.other
+
+  -- steps 1 to 3
+  found-channel : chan (found .channels) k ≡ overcurrentOne (has named k) (enteredOne (modeOf b) (next .mode) (chan (b .channels) k))
+  unfolding trippedOf changedOf risenOf olderOf
+  found-channel =
+      of-channels.each (b .profile .fitted) (b .profile .forced) (of-channels.overcurrent named) _ k (fe .a-channel)
+      ∙ ap (overcurrentOne (has named k)) (entering (b .profile) k fe (b .channels) (modeOf b) (next .mode))
+
+  pub found-phase : found .phase ≡ next
+  unfolding trippedOf changedOf risenOf
+  found-phase = refl
+
+  found-stands : Stands k b → Stands k found
+  found-stands w =
+      rw (ap (λ (x : Chan). x .on) found-channel, found-phase, ap (λ (x : Chan). x .latched) found-channel)
+      (tripped-stands (has named k) (isLit (next .mode)) (enteredOne (modeOf b) (next .mode) (chan (b .channels) k)) (entered-stands (modeOf b) (next .mode) (chan (b .channels) k) w))
+
+  pub found-seen : has named k ≡ false → seen k found ≡ small.enters next (seen k b)
+  found-seen e =
+      rw (found-phase, ap (λ (x : Chan). x .on) found-channel, e)
+      (ap (λ (o : Bool). record { phase = next; on = o }) (entered-on (modeOf b) (next .mode) (chan (b .channels) k)))
+
+  -- step 4
+  does : DoesAt k rail own reading ask found obeyed
+  unfolding trippedOf changedOf risenOf
+  does = at-channel k found fe rail own reading ask obeyed (step rail own found s sent)
+
+  -- step 5
+  abbrev happening : Event
+  happening = dog.watchedOf (obeyed .board .timer) (dog.secondsInTicks (timeoutOf (obeyed .board .memory)))
+
+  module _ (allowed : allowedCount (length words) ≡ true) where
+    abbrev after : Ticked
+    after = tickOf rail named words sent s b
+
+    after-is : after ≡ watchedAs happening obeyed
+    unfolding tickOf tickWith watchedIn
+    after-is = rw allowed
+
+    -- whatever happens, the channel stands
+    pub tick-stands : Stands k b → Stands k (after .board)
+    unfolding watchdogResetOf
+    tick-stands w =
+        rw after-is
+        (watched-by (Stands k) happening obeyed (obeyed-stands k rail own reading ask found obeyed (fe .a-channel) does (found-stands w)) (fresh-stands k (fe .a-channel) _ _ _))
+
+    -- without a reset, and where the channel is not named, it is the small machine's
+    pub tick-seen : small.InStep (seen k b) → has named k ≡ false → (after .event ≡ WatchdogReset → ⊥) → (reading ≡ Run SystemReset → after .outcome ≡ Answered Accepted → ⊥)
+        → seen k (after .board) ≡ small.obeyed ask rail own (small.enters next (seen k b))
+    tick-seen h e n r =
+        let there : seen k found ≡ small.enters next (seen k b) = found-seen e in
+        let in-step : small.InStep (seen k found) = subst small.InStep (sym there) (enters-in-step next (seen k b) h) in
+        ap (λ (t : Ticked). seen k (t .board)) after-is
+        ∙ ap (seen k) (unreset happening obeyed (λ w. n (rw after-is w)))
+        ∙ obeyed-seen k rail own reading ask found obeyed does in-step (λ d o. r d (rw after-is (watched-outcome happening obeyed ∙ o)))
+        ∙ ap (small.obeyed ask rail own) there

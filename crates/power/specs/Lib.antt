@@ -1,0 +1,4 @@
+pub mod Runs
+pub mod Machine
+pub mod Claim
+pub mod Tight
