@@ -1,6 +1,6 @@
 -- Why each wrong program is caught: its run and the machine's are worked out, from a board that has just come into nominal. Assumes nothing.
 use Prim.Native.Nat.{ℕ}
-use mathlib.Core.Path.{_≡_, refl, ap, _∙_}
+use mathlib.Core.Path.{_≡_, refl, sym, ap, _∙_}
 use mathlib.Core.List.{List, []}
 use mathlib.Core.Option.{some}
 use lib.ListN.{replicate}
@@ -19,9 +19,6 @@ use Rattle.channels.specs.Counting.{countAll}
 use Rattle.command.specs.Table as commands
 use Rattle.command.specs.Codes.{isIn, baseCodes}
 use Rattle.command.specs.Decode.{fewerThanFour, headerIs, groupIn, carried, listed, decodeBy, decodeOf}
-use Rattle.command.specs.Answers.{numberOf}
-use Rattle.command.specs.declared.Refusal.{Refusal}
-use Rattle.command.specs.declared.Refusal.the-variants.{FewerThanFourBytes, NotThisBoard, CodeNotListed, TooShort, WrongKey, WrongParameter, NotANumber}
 use Rattle.watchdog.specs.Watchdog as dog
 use Rattle.memory.specs.Limits.{limitsOf, safetyLow, safetyHigh, timeoutOf}
 use Rattle.memory.specs.Memory.{emptyStore, loadedFrom}
@@ -29,9 +26,11 @@ use Rattle.replies.specs.Layouts.{shortReply, faultsReply, channelWords}
 use Rattle.state.specs.Parts.{withPhase, withChannels}
 use Rattle.state.specs.Start.{freshOf, keepsTheRules, startOf, neverReset}
 use Rattle.state.specs.Change.{isDark, fromNominalToSafety, enteringOf, timerAfter, resetsAfter, leavesEmergency}
-use Rattle.answers.specs.Answers.{acceptedWith, acceptedOf, refusedOf, notThisBoardOf}
+use Rattle.answers.specs.Answers.{numberOf, acceptedWith, acceptedOf, refusedOf, notThisBoardOf}
+use Rattle.answers.specs.declared.Answer.{Answer}
+use Rattle.answers.specs.declared.Answer.the-variants.{Accepted, FewerThanFourBytes, InStartup, NotThisBoard, CodeNotListed, TooShort, NotAvailable, Wrong}
 use Rattle.commands.specs.Effects.{isNominal, switchedOf, groupOnOf, switchedModeOf, faultsOf, runOf}
-use Rattle.commands.specs.Step.{isStartup, turnedDown, decodedOf, transferredOf, commandedOf}
+use Rattle.commands.specs.Step.{isStartup, decodedOf, transferredOf, commandedOf}
 use Rattle.board.specs.Tick.{broughtBy, risenOf, changedOf, trippedOf, watchedIn, tickWith, allowedCount, tickOf}
 use Rattle.text.specs.declared.framing.Due.the-variants.{Nothing}
 use Rattle.unit.specs.Machine.{noMachine, begunOf, toldOf}
@@ -69,22 +68,12 @@ caught {p} {sees} {before} {last} r w d =
       differ = d;
     }
 
--- no refusal has the number 0
-no-zero : (r : Refusal) → some 0 ≡ some (numberOf r) → ⊥
-no-zero FewerThanFourBytes e = let z : _≡_ {A = ℕ} 0 1 = cc in omega arith
-no-zero NotThisBoard e = let z : _≡_ {A = ℕ} 0 3 = cc in omega arith
-no-zero CodeNotListed e = let z : _≡_ {A = ℕ} 0 4 = cc in omega arith
-no-zero TooShort e = let z : _≡_ {A = ℕ} 0 5 = cc in omega arith
-no-zero WrongKey e = let z : _≡_ {A = ℕ} 0 7 = cc in omega arith
-no-zero WrongParameter e = let z : _≡_ {A = ℕ} 0 7 = cc in omega arith
-no-zero NotANumber e = let z : _≡_ {A = ℕ} 0 7 = cc in omega arith
-
 -- each run, worked out
 pub all-caught : AllCaught
-unfolding stateAfter tickedWith refusing replyingNoop stayingInSafety unchanged countingAllNamed countAll groupOn groupIn number bytesOf shown written replyOf room laidOut replyCode shortReply faultsReply channelWords commands.table commands.find isIn baseCodes fewerThanFour headerIs carried listed decodeBy decodeOf acceptedWith acceptedOf refusedOf notThisBoardOf isNominal switchedOf groupOnOf switchedModeOf faultsOf runOf isStartup turnedDown decodedOf transferredOf toNominal has setOf listOf whole cleared forcedOn allOff overcurrentAt commandEnabledOff freshOf loadedFrom emptyStore toldOf tickOf tickWith allowedCount broughtBy risenOf changedOf trippedOf watchedIn commandedOf olderOf stepOf dog.risenOf dog.watchedOf isDark fromNominalToSafety enteringOf timerAfter resetsAfter leavesEmergency limitsOf safetyLow safetyHigh timeoutOf settingOf parameterOf rowOf find readWriteRows readOnlyRows lies defaultsOf defaultN column defaultOf clampOf atLeast atMost lowOf highOf
+unfolding stateAfter tickedWith refusing replyingNoop stayingInSafety unchanged countingAllNamed countAll groupOn groupIn number bytesOf shown written replyOf room laidOut replyCode shortReply faultsReply channelWords commands.table commands.find isIn baseCodes fewerThanFour headerIs carried listed decodeBy decodeOf acceptedWith acceptedOf refusedOf notThisBoardOf isNominal switchedOf groupOnOf switchedModeOf faultsOf runOf isStartup decodedOf transferredOf toNominal has setOf listOf whole cleared forcedOn allOff overcurrentAt commandEnabledOff freshOf loadedFrom emptyStore toldOf tickOf tickWith allowedCount broughtBy risenOf changedOf trippedOf watchedIn commandedOf olderOf stepOf dog.risenOf dog.watchedOf isDark fromNominalToSafety enteringOf timerAfter resetsAfter leavesEmergency limitsOf safetyLow safetyHigh timeoutOf settingOf parameterOf rowOf find readWriteRows readOnlyRows lies defaultsOf defaultN column defaultOf clampOf atLeast atMost lowOf highOf
 all-caught =
     record {
-      refuses-all = λ r. caught refl (refused r) (no-zero r);
+      refuses-all = λ a refusal. caught refl (refused a refusal) (λ e. refusal (let z : 0 ≡ numberOf a = cc in sym z));
       answers-noop = caught refl refl (λ e. let z : _≡_ {A = ℕ} 0x11 0x03 = cc in omega arith);
       stays-in-safety = caught refl refl (λ e. let z : _≡_ {A = ℕ} 0 1 = cc in omega arith);
       changes-nothing = caught refl refl (λ e. omega arith);
@@ -92,11 +81,12 @@ all-caught =
       makes-up-counts = caught refl refl (λ e. omega arith);
     }
   where
-    refused : (r : Refusal) → answer (lastTold (refusesAll r) woken [] (sending 15000 noop)) ≡ some (numberOf r)
-    refused FewerThanFourBytes = refl
-    refused NotThisBoard = refl
-    refused CodeNotListed = refl
-    refused TooShort = refl
-    refused WrongKey = refl
-    refused WrongParameter = refl
-    refused NotANumber = refl
+    refused : (a : Answer) → (numberOf a ≡ 0 → ⊥) → answer (lastTold (refusesAll a) woken [] (sending 15000 noop)) ≡ some (numberOf a)
+    refused Accepted refusal = absurd (refusal refl)
+    refused FewerThanFourBytes refusal = refl
+    refused InStartup refusal = refl
+    refused NotThisBoard refusal = refl
+    refused CodeNotListed refusal = refl
+    refused TooShort refusal = refl
+    refused NotAvailable refusal = refl
+    refused Wrong refusal = refl

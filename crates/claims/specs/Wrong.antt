@@ -17,17 +17,17 @@ use Rattle.channels.specs.Operations.{overcurrentAt}
 use Rattle.channels.specs.Counting.{countAll}
 use Rattle.channels.specs.declared.Channels.{Channels}
 use Rattle.command.specs.Decode.{codeOf}
-use Rattle.command.specs.Answers.{numberOf}
-use Rattle.command.specs.declared.Refusal.{Refusal}
 use Rattle.memory.specs.Limits.{limitsOf}
 use Rattle.memory.specs.Memory.{emptyStore}
 use Rattle.state.specs.Parts.{modeOf, withPhase, withChannels, withReply}
 use Rattle.state.specs.declared.parts.Board.{Board}
 use Rattle.state.specs.declared.parts.Profile.{Profile}
-use Rattle.answers.specs.Answers.{toldNumber, shortTo}
-use Rattle.answers.specs.declared.Answer.the-variants.{Accepted}
+use Rattle.answers.specs.Answers.{numberOf, toldNumber, shortTo, silentOf, notThisBoardOf, refusedOf}
+use Rattle.answers.specs.declared.Answer.{Answer}
+use Rattle.answers.specs.declared.Answer.the-variants.{Accepted, FewerThanFourBytes, InStartup, NotThisBoard, CodeNotListed, TooShort, NotAvailable, Wrong}
+use Rattle.answers.specs.declared.Outcome.the-variants.{Answered}
 use Rattle.answers.specs.declared.Commanded.{Commanded}
-use Rattle.commands.specs.Step.{turnedDown, commandedOf}
+use Rattle.commands.specs.Step.{commandedOf}
 use Rattle.board.specs.Tick.{risenOf, changedOf, trippedOf, watchedIn, allowedCount, notHappened}
 use Rattle.board.specs.declared.Ticked.{Ticked}
 use Rattle.unit.specs.Machine.{noMachine, begunOf, toldBy}
@@ -73,13 +73,23 @@ module _ (three : ℕ → Board → Board) (four : ℤ → Limits → Bool → L
   toldWith m i = toldBy (tickedWith i (m .board)) (m .due)
 
 -- ---- the six
--- 1. refuses all: what the machine accepts is refused, with a refusal r; all else is the machine's
-unfoldable pub refusing : Refusal → ℤ → Limits → Bool → List ℕ → Board → Commanded
-refusing r rail limits sent s b =
-    cond (isAccepted (toldNumber (commandedOf rail limits sent s b .outcome))) (turnedDown (codeOf s) r b) (commandedOf rail limits sent s b)
+-- 1. refuses all: what the machine accepts is refused with a, whichever answer but 0 that is, and leaves what a leaves; all else is the machine's
+abbrev pub refusedAs : Answer → ℕ → Board → Commanded
+refusedAs Accepted code b = refusedOf Wrong code b
+refusedAs FewerThanFourBytes code b = silentOf (Answered FewerThanFourBytes) b
+refusedAs InStartup code b = silentOf (Answered InStartup) b
+refusedAs NotThisBoard code b = notThisBoardOf code b
+refusedAs CodeNotListed code b = refusedOf CodeNotListed code b
+refusedAs TooShort code b = refusedOf TooShort code b
+refusedAs NotAvailable code b = refusedOf NotAvailable code b
+refusedAs Wrong code b = refusedOf Wrong code b
 
-abbrev pub refusesAll : Refusal → Program
-refusesAll r = showing (toldWith trippedOf (refusing r))
+unfoldable pub refusing : Answer → ℤ → Limits → Bool → List ℕ → Board → Commanded
+refusing a rail limits sent s b =
+    cond (isAccepted (toldNumber (commandedOf rail limits sent s b .outcome))) (refusedAs a (codeOf s) b) (commandedOf rail limits sent s b)
+
+abbrev pub refusesAll : Answer → Program
+refusesAll a = showing (toldWith trippedOf (refusing a))
 
 -- 2. has the NOOP reply for every command: each command does what it should, and where it makes a reply, that is the reply of an accepted 0x02
 abbrev pub noopFor : Commanded → Board → Commanded
@@ -196,7 +206,7 @@ pub record Caught {A : Type 0} (p : Program) (sees : Told → A) (before : List 
 
 pub record AllCaught : Type 0 where
   -- a NOOP is answered 0, and by the first program with its refusal, whichever that is
-  pub refuses-all : (r : Refusal) → Caught (refusesAll r) answer [] (sending 15000 noop) (some 0) (some (numberOf r))
+  pub refuses-all : (a : Answer) → (numberOf a ≡ 0 → ⊥) → Caught (refusesAll a) answer [] (sending 15000 noop) (some 0) (some (numberOf a))
   -- the reply to 0x10 has the code 0x11, and that of the second program 0x03
   pub answers-noop : Caught answersNoop reply [] (sending 15000 groupOn) (0x11 ∷ 0x07 ∷ 0x11 ∷ 0x01 ∷ 0x80 ∷ []) (0x11 ∷ 0x07 ∷ 0x03 ∷ 0x01 ∷ 0x80 ∷ [])
   -- a rail of 0 mV leads into safety, and 0x30 at a good rail out of it

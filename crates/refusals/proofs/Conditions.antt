@@ -30,7 +30,7 @@ use Rattle.order.specs.Checks.{unavailable, channelCodes, channelWrong, checksu
 use Rattle.order.proofs.Order.{at-code, in-order}
 use Rattle.commands.specs.Step.{commandedOf}
 use Rattle.refusals.specs.Conditions as claim
-use Rattle.refusals.specs.Conditions.{Sent, _at_, code, id, lengths, neededBy, valueShort, keyWrong, isNaN, valueNaN, refusals, noneOf, table, condition, Given, answer}
+use Rattle.refusals.specs.Conditions.{Sent, _at_, code, id, lengths, neededBy, codesIn, valueShort, keyWrong, isNaN, valueNaN, refusals, noneOf, table, condition, Given, answer}
 
 -- ---- rows numbered one after the other: the number of the first that applies is given, and it alone
 unfoldable numbered : ℕ → List Bool → List Check
@@ -224,17 +224,17 @@ module _ (t : Sent) where
   Agree = first (checksBy (t .rail) (t .limits) (t .board) (code t) s) ≡ first (drop 3 (refusals t))
 
   set-agrees : code t ≡ 0x84 → Agree
-  unfolding first checksBy baseCodes isIn commandTable.find commandTable.table neededBy unavailable channelCodes keyWrong channelWrong checksumWrong
+  unfolding first checksBy baseCodes codesIn isIn commandTable.find commandTable.table neededBy unavailable channelCodes keyWrong channelWrong checksumWrong
   set-agrees e = rw e (parameter-checked (parameterOf (id t)))
 
   other-agrees : isIn (code t) baseCodes ≡ true → eqb (code t) 0x84 ≡ false → Agree
-  unfolding first checksBy
+  unfolding first checksBy baseCodes codesIn
   other-agrees h e =
       rw (h, e, lengths-agree (code t) h, keys-agree (code t) h)
       (joined (ltb (length s) (neededBy lengths (code t))) (claim.notAvailable t) (keyWrong (code t) (t at 4)) (checks.idWrong (code t) (parameterOf (id t))) false (claim.channelWrong t) (claim.checksumWrong t))
 
   from-4 : Agree
-  unfolding first checksBy
+  unfolding first checksBy baseCodes codesIn
   from-4 =
       cases (isIn (code t) baseCodes)
       (λ h. cases (eqb (code t) 0x84) (λ e. set-agrees (eqb-true (code t) 0x84 e)) (λ e. other-agrees h e))

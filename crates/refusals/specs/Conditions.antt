@@ -21,7 +21,7 @@ use Rattle.settings.specs.declared.Parameter.{Parameter}
 use Rattle.settings.specs.declared.Parameter.the-variants.{ReadWrite, ReadOnly, Unknown}
 use Rattle.modes.specs.declared.Mode.the-variants.{Startup}
 use Rattle.modes.specs.declared.Limits.{Limits}
-use Rattle.command.specs.Codes.{isIn, baseCodes}
+use Rattle.command.specs.Codes.{isIn}
 use Rattle.command.specs.Checks.{Check, _when_, idWrong}
 use Rattle.memory.specs.Limits.{limitsOf}
 use Rattle.state.specs.Parts.{modeOf}
@@ -69,7 +69,7 @@ t has-fewer-than n bytes = ltb (length (t .bytes)) n
 abbrev pub notTheBoards : Sent → Bool
 notTheBoards t = (t at 0) differs-from 0x11 || (t at 1) differs-from 7 || (t at 3) differs-from (t .board .profile .bid)
 
--- ---- 5: the bytes that each command needs, its header included, as the ICD's command pages give them
+-- ---- 4 and 5: the codes, and the bytes that each command needs, its header included, as the ICD's command pages give them
 infix 70 _needs_
 pub data Need : Type 0 where
   _needs_ : ℕ → ℕ → Need
@@ -82,6 +82,11 @@ lengths =
     ∷ (0x82 needs 6) ∷ (0x84 needs 6) ∷ (0x86 needs 6)
     ∷ (0x90 needs 5) ∷ (0x92 needs 5) ∷ (0x94 needs 7)
     ∷ []
+
+-- no other code is of the base list
+unfoldable pub codesIn : List Need → List ℕ
+codesIn [] = []
+codesIn ((k needs n) ∷ more) = k ∷ codesIn more
 
 unfoldable pub neededBy : List Need → ℕ → ℕ
 neededBy [] c = 0
@@ -97,7 +102,7 @@ valueShort Unknown t = false
 abbrev pub shorterThanNeeded : Sent → Bool
 shorterThanNeeded t = t has-fewer-than neededBy lengths (code t) bytes || eqb (code t) 0x84 && valueShort (parameterOf (id t)) t
 
--- ---- 6: the channel commands outside nominal, 0x32 in emergency, 0x30 in emergency, or in safety with the rail below safety low: `order` has it as a table
+-- ---- 6: the channel commands outside nominal, 0x32 in emergency, 0x30 in emergency, or in safety with the rail below safety low: `order` spells it out
 abbrev pub notAvailable : Sent → Bool
 notAvailable t = order.unavailable (code t) (modeOf (t .board)) (t .rail) (t .limits)
 
@@ -141,7 +146,7 @@ refusals t =
     1 when (t has-fewer-than 4 bytes)
     ∷ 2 when (modeOf (t .board) is Startup)
     ∷ 3 when notTheBoards t
-    ∷ 4 when not (isIn (code t) baseCodes)
+    ∷ 4 when not (isIn (code t) (codesIn lengths))
     ∷ 5 when shorterThanNeeded t
     ∷ 6 when notAvailable t
     ∷ 7 when (keyWrong (code t) (t at 4) || channelWrong t || parameterWrong t || checksumWrong t)
