@@ -1,7 +1,7 @@
 -- Why a tick tells of a reset exactly where the board starts over: step 1 makes every age at least 1, no row of the table and no command but 0xAA leads into startup, and both
 -- kinds of reset do so at age 0. Assumes nothing.
-use Prim.Native.Nat.{ℕ, _<_, _≤_}
-use mathlib.Core.Path.{_≡_, refl, sym, ap, _∙_}
+use Prim.Native.Nat.{ℕ, _+_, _<_, _≤_, min}
+use mathlib.Core.Path.{_≡_, refl, sym, ap, _∙_, subst}
 use mathlib.Core.Bool.{Bool, true, false, cond, _&&_, _||_, and-false, false≢true}
 use mathlib.Core.List.{List, [], _∷_}
 use mathlib.Core.Logic.{⊎-elim}
@@ -14,7 +14,9 @@ use Rattle.modes.specs.declared.Mode.{Mode}
 use Rattle.modes.specs.declared.Mode.the-variants.{Startup, Nominal, Safety, Emergency}
 use Rattle.modes.specs.declared.ModeAge.{ModeAge}
 use Rattle.modes.specs.declared.Limits.{Limits}
+use Rattle.wire.specs.Replies.{shown, written, replyOf, room}
 use Rattle.channels.proofs.Cases.{cases}
+use Rattle.channels.proofs.Laws.{cleared-each}
 use Rattle.command.specs.Decode.{codeOf}
 use Rattle.laws.proofs.Lists.{lt-or-le}
 use Rattle.watchdog.specs.Watchdog as dog
@@ -22,7 +24,9 @@ use Rattle.watchdog.proofs.Laws.{early, disabled}
 use Rattle.watchdog.specs.declared.Event.{Event}
 use Rattle.watchdog.specs.declared.Event.the-variants.{NoEvent, PeripheralReset, WatchdogReset}
 use Rattle.memory.specs.Limits.{timeoutOf, limitsOf}
-use Rattle.state.specs.Start.{freshOf, watchdogResetOf, commandResetOf}
+use Rattle.memory.specs.Memory.{oneMore}
+use Rattle.state.specs.Start.{freshOf, byWatchdog, byCommand, watchdogResetOf, commandResetOf}
+use Rattle.state.specs.declared.parts.Resets.{Resets}
 use Rattle.state.specs.declared.parts.Board.{Board}
 use Rattle.answers.specs.Answers.{toldNumber}
 use Rattle.answers.specs.declared.Commanded.{Commanded}
@@ -30,8 +34,8 @@ use Rattle.commands.specs.Step.{commandedOf}
 use Rattle.board.specs.Tick.{risenOf, changedOf, trippedOf, watchedAs, watchedIn, tickWith, tickOf}
 use Rattle.unit.specs.Machine.{toldOf}
 use Rattle.unit.specs.declared.Machine.{Machine}
-use Rattle.unit.specs.Runs.{Sample}
-use Rattle.groups.specs.Resets.{happens, afterStep3, isByWatchdog, isAccepted, tellsWatchdogReset, tellsCommandReset, tellsReset, ResetIsTold}
+use Rattle.unit.specs.Runs.{Sample, told}
+use Rattle.groups.specs.Resets.{happens, afterStep3, afterStep4, isByWatchdog, isAccepted, tellsWatchdogReset, tellsCommandReset, tellsReset, startsOver, StartedOver, ResetIsTold}
 use Rattle.groups.proofs.Groups.{Leaves, refusing, accepting, leaves}
 use Rattle.groups.proofs.Altered.{failed}
 use Rattle.groups.proofs.Counts.{not-accepted, watched-tells}
@@ -175,13 +179,66 @@ commanded-reset m i x q e =
     command-resets x (afterStep3 m i)
     (rw q (obeyed-reset (i .rail) (limitsOf (m .board .memory)) (i .sent) (i .transfer) (afterStep3 m i) (rw (watched-tells x, q) at e)))
 
+-- a board as a reset leaves it, part by part
+parts : (b : Board) (r : Resets) → StartedOver b (freshOf (b .profile) (b .memory .store) r)
+unfolding freshOf shown written replyOf room
+parts b r =
+    record {
+      startup = refl;
+      timer = refl;
+      no-reply = refl;
+      settings = refl;
+      channels = λ c h. cleared-each c h;
+      profile = refl;
+      words = refl;
+      form = refl;
+    }
+
+watchdog-parts : (b : Board) → StartedOver b (watchdogResetOf b)
+unfolding watchdogResetOf
+watchdog-parts b = parts b (byWatchdog (b .resets))
+
+watchdog-count : (b : Board) → watchdogResetOf b .resets .watchdog ≡ min (b .resets .watchdog + 1) 65535
+unfolding watchdogResetOf freshOf byWatchdog oneMore
+watchdog-count b = refl
+
+command-parts : (b : Board) → StartedOver b (commandResetOf b)
+unfolding commandResetOf
+command-parts b = parts b (byCommand (b .resets))
+
+command-count : (b : Board) → commandResetOf b .resets .command ≡ min (b .resets .command + 1) 65535
+unfolding commandResetOf freshOf byCommand oneMore
+command-count b = refl
+
+module _ (m : Machine) (i : Sample) where
+  exactly : happens i ≡ true → tellsReset m i ≡ startsOver (told m i .machine .board)
+  unfolding toldOf tellsReset tellsWatchdogReset tellsCommandReset tickOf tickWith
+  exactly e = rw e (happened m i _ refl)
+
+  by-watchdog : tellsWatchdogReset m i ≡ true → told m i .machine .board ≡ watchdogResetOf (afterStep4 m i)
+  unfolding toldOf tellsWatchdogReset tickOf tickWith
+  by-watchdog e = cases (happens i) (λ a. rw a (watchdog-resets _ (rw a at e))) (λ a. failed (rw a at e))
+
+  by-command : tellsCommandReset m i ≡ true → told m i .machine .board ≡ commandResetOf (afterStep3 m i)
+  unfolding toldOf tellsCommandReset tickOf tickWith
+  by-command e = cases (happens i) (λ a. rw a (commanded-reset m i _ refl (rw a at e))) (λ a. failed (rw a at e))
+
+  not-happened : happens i ≡ false → tellsReset m i ≡ false
+  unfolding toldOf tellsReset tellsWatchdogReset tellsCommandReset tickOf tickWith
+  not-happened e = rw e
+
 -- any tick: one that does not happen tells of no reset
 pub reset-is-told : (m : Machine) (i : Sample) → ResetIsTold m i
-unfolding toldOf tellsReset tellsWatchdogReset tellsCommandReset tickOf tickWith
 reset-is-told m i =
+    let w = by-watchdog m i in
+    let c = by-command m i in
     record {
-      exactly = λ e. rw e (happened m i _ refl);
-      by-watchdog = λ e. cases (happens i) (λ a. rw a (watchdog-resets _ (rw a at e))) (λ a. failed (rw a at e));
-      by-command = λ e. cases (happens i) (λ a. rw a (commanded-reset m i _ refl (rw a at e))) (λ a. failed (rw a at e));
-      not-happened = λ e. rw e;
+      exactly = exactly m i;
+      by-watchdog = w;
+      by-command = c;
+      not-happened = not-happened m i;
+      watchdog-parts = λ e. subst (StartedOver (afterStep4 m i)) (sym (w e)) (watchdog-parts (afterStep4 m i));
+      watchdog-count = λ e. ap (λ (b : Board). b .resets .watchdog) (w e) ∙ watchdog-count (afterStep4 m i);
+      command-parts = λ e. subst (StartedOver (afterStep3 m i)) (sym (c e)) (command-parts (afterStep3 m i));
+      command-count = λ e. ap (λ (b : Board). b .resets .command) (c e) ∙ command-count (afterStep3 m i);
     }

@@ -1,18 +1,23 @@
 -- When a tick resets the machine, by what it tells: by a watchdog reset as its event, or by a command 0xAA that it accepted; and that this is so. Of every machine, reachable or
 -- not, a tick that happens leaves the board in startup at age 0 exactly where it tells of a reset, and the board is then the one that document 01 says. A tick refused with 9
 -- resets nothing. `m` is the machine before the tick. Assumes nothing: these are definitions.
-use Prim.Native.Nat.{ℕ}
+use Prim.Native.Nat.{ℕ, _+_, _<_, min}
 use mathlib.Core.Path.{_≡_}
 use mathlib.Core.Bool.{Bool, true, false, _&&_, _||_}
+use mathlib.Core.List.{[]}
 use mathlib.Core.Option.{Option, none, some}
 use lib.Dec.{eqb}
-use lib.ListN.{length}
-use Rattle.modes.specs.Table.{same}
+use lib.ListN.{length, replicate}
+use Rattle.wire.specs.Replies.{shown}
+use Rattle.wire.specs.declared.forms.Form.the-variants.{Raw}
+use Rattle.modes.specs.Table.{same, entered}
 use Rattle.modes.specs.declared.Mode.the-variants.{Startup}
+use Rattle.channels.specs.Chan.{chan}
 use Rattle.command.specs.Decode.{codeOf}
 use Rattle.watchdog.specs.declared.Event.{Event}
 use Rattle.watchdog.specs.declared.Event.the-variants.{NoEvent, PeripheralReset, WatchdogReset}
 use Rattle.memory.specs.Limits.{limitsOf}
+use Rattle.memory.specs.Memory.{loadedFrom}
 use Rattle.state.specs.Start.{watchdogResetOf, commandResetOf}
 use Rattle.state.specs.declared.parts.Board.{Board}
 use Rattle.answers.specs.Answers.{toldNumber}
@@ -60,8 +65,24 @@ tellsReset m i = tellsWatchdogReset m i || tellsCommandReset m i
 abbrev pub startsOver : Board → Bool
 startsOver b = same (b .phase .mode) Startup && eqb (b .phase .age) 0
 
+-- what a reset leaves of a board, part by part; the profile and the store outlive it, and so do the other reset counts
+pub record StartedOver (before after : Board) : Type 0 where
+  pub startup : after .phase ≡ entered Startup
+  pub timer : after .timer ≡ 0
+  pub no-reply : shown (after .reply) ≡ []
+  pub settings : after .memory ≡ loadedFrom (before .memory .store)
+  pub channels : (c : ℕ) → c < 32 → chan (after .channels) c ≡ record { on = false; latched = false; count = 0 }
+  pub profile : after .profile ≡ before .profile
+  pub words : after .measured ≡ record { words = replicate 122 0; fresh = false }
+  pub form : after .form ≡ Raw
+
 pub record ResetIsTold (m : Machine) (i : Sample) : Type 0 where
   pub exactly : happens i ≡ true → tellsReset m i ≡ startsOver (told m i .machine .board)
   pub by-watchdog : tellsWatchdogReset m i ≡ true → told m i .machine .board ≡ watchdogResetOf (afterStep4 m i)
   pub by-command : tellsCommandReset m i ≡ true → told m i .machine .board ≡ commandResetOf (afterStep3 m i)
   pub not-happened : happens i ≡ false → tellsReset m i ≡ false
+  -- the same, part by part
+  pub watchdog-parts : tellsWatchdogReset m i ≡ true → StartedOver (afterStep4 m i) (told m i .machine .board)
+  pub watchdog-count : tellsWatchdogReset m i ≡ true → told m i .machine .board .resets .watchdog ≡ min (afterStep4 m i .resets .watchdog + 1) 65535
+  pub command-parts : tellsCommandReset m i ≡ true → StartedOver (afterStep3 m i) (told m i .machine .board)
+  pub command-count : tellsCommandReset m i ≡ true → told m i .machine .board .resets .command ≡ min (afterStep3 m i .resets .command + 1) 65535
