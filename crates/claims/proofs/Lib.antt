@@ -1,3 +1,4 @@
+pub mod Calls
 pub mod CommandStep
 pub mod Profiles
 pub mod PowerCommand
