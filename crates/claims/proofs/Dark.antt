@@ -1,8 +1,8 @@
 -- On a machine that can be reached no channel is on in startup or emergency. Assumes nothing.
 use Prim.Native.Nat.{ℕ, _<_}
-use mathlib.Core.Path.{_≡_, refl, sym, ap, _∙_, subst}
+use mathlib.Core.Path.{_≡_, refl, ap, _∙_}
 use mathlib.Core.Bool.{Bool, true, false, cond, and-false, false≢true}
-use mathlib.Core.List.{List, [], _∷_}
+use mathlib.Core.List.{List}
 use lib.IntN.{ℤ}
 use Rattle.modes.specs.Table.{stepOf, olderOf}
 use Rattle.modes.specs.Commands.{toSafety, toNominal}
@@ -16,12 +16,8 @@ use Rattle.channels.specs.Operations.{offAndLatchKept, overcurrentOne, commandE
 use Rattle.channels.specs.declared.Channels.{Channels}
 use Rattle.channels.proofs.Laws as of-channels
 use Rattle.power.specs.Machine as small
-use Rattle.watchdog.specs.Watchdog as dog
-use Rattle.watchdog.specs.declared.Event.{Event}
-use Rattle.watchdog.specs.declared.Event.the-variants.{NoEvent, PeripheralReset, WatchdogReset}
-use Rattle.power.proofs.Step.{by-cases}
 use Rattle.command.specs.declared.Decoded.{Decoded}
-use Rattle.memory.specs.Limits.{timeoutOf, limitsOf}
+use Rattle.memory.specs.Limits.{limitsOf}
 use Rattle.memory.specs.declared.Store.{Store}
 use Rattle.state.specs.Parts.{modeOf}
 use Rattle.state.specs.Start.{freshOf, neverReset, commandResetOf, watchdogResetOf}
@@ -31,18 +27,14 @@ use Rattle.state.specs.declared.parts.Profile.{Profile}
 use Rattle.state.specs.declared.parts.Resets.{Resets}
 use Rattle.answers.specs.declared.Commanded.{Commanded}
 use Rattle.commands.specs.Step.{commandedOf}
-use Rattle.board.specs.Tick.{risenOf, changedOf, trippedOf, watchedAs, watchedIn, tickWith, tickOf}
-use Rattle.text.specs.Lines.{lineOf}
-use Rattle.text.specs.declared.reading.Line.{Line}
-use Rattle.text.specs.declared.reading.Line.the-variants.{Command as ACommand, Switch, NoFrame, TooLong, NotOfForm, ScratchTooShort}
-use Rattle.unit.specs.Machine.{begunOf, toldOf, afterLine, heardOf}
+use Rattle.board.specs.Tick.{risenOf, changedOf, trippedOf}
+use Rattle.unit.specs.Machine.{toldOf}
 use Rattle.unit.specs.declared.Machine.{Machine}
-use Rattle.unit.proofs.Laws.{refused-tick-leaves}
-use Rattle.unit.specs.Runs.{Sample, told, Call, tick, line, afterCall, after, Reached}
+use Rattle.unit.specs.Runs.{Sample, told, tick, Reached}
 use Rattle.claims.specs.Power.{isTick}
 use Rattle.claims.specs.Dark.{OffInTheDark, Dark}
 use Rattle.claims.proofs.CommandStep.{Becomes, Stays, Changes, obeying, Does, idles, leaves-both, refuses, switches, cancels, to-safety, to-nominal, restarts, step}
-use Rattle.claims.proofs.Standing.{begun-is}
+use Rattle.claims.proofs.Calls.{by-tick, by-reach}
 
 module _ (k : ℕ) (h : k < 32) where
   -- a start and a reset
@@ -94,7 +86,7 @@ module _ (k : ℕ) (h : k < 32) where
   commanded : (rail : ℤ) (limits : Limits) (sent : Bool) (s : List ℕ) (b : Board) → OffInTheDark k b → OffInTheDark k (commandedOf rail limits sent s b .board)
   commanded rail limits sent s b = done rail limits _ _ b _ (step rail limits b s sent)
 
-  -- ---- steps 1 to 3, whatever the board was, and step 5
+  -- ---- steps 1 to 3, whatever the board was, and the tick
   untripped : (named : Bool) (x : Chan) → x .on ≡ false → overcurrentOne named x .on ≡ false
   untripped named x e = rw (e, and-false named)
 
@@ -105,51 +97,15 @@ module _ (k : ℕ) (h : k < 32) where
       ap (λ (x : Chan). x .on) (of-channels.each (b .profile .fitted) (b .profile .forced) (of-channels.overcurrent named) entered k h)
       ∙ untripped (has named k) (chan entered k) (entering-off (olderOf (b .phase) .mode) (stepOf (olderOf (b .phase)) rail limits .mode) (b .profile) (b .channels) d)
 
-  watched : (e : Event) (c : Commanded) → OffInTheDark k (c .board) → OffInTheDark k (watchedAs e c .board)
-  unfolding watchdogResetOf
-  watched NoEvent c w = w
-  watched PeripheralReset c w = w
-  watched WatchdogReset c w = fresh-off _ _ _
-
-  tick-with : (limits : Limits) (rail : ℤ) (named : ℕ) (words : List ℕ) (sent : Bool) (s : List ℕ) (b : Board) → OffInTheDark k (tickWith limits rail named words sent s b .board)
-  unfolding tickWith watchedIn
-  tick-with limits rail named words sent s b =
-      let found = trippedOf named (changedOf rail limits (risenOf words b)) in
-      let obeyed = commandedOf rail limits sent s found in
-      watched (dog.watchedOf (obeyed .board .timer) (dog.secondsInTicks (timeoutOf (obeyed .board .memory)))) obeyed
-      (commanded rail limits sent s found (settled-off limits rail named words b))
-
   pub after-a-tick : (m : Machine) (i : Sample) → isTick (tick i) ≡ true → OffInTheDark k (told m i .machine .board)
-  unfolding toldOf tickOf
-  after-a-tick m i happens = rw happens (tick-with (limitsOf (m .board .memory)) (i .rail) (i .named) (i .words) (i .sent) (i .transfer) (m .board))
-
-  -- ---- the calls
-  line-off : (l : Line) (m : Machine) → OffInTheDark k (m .board) → OffInTheDark k (afterLine l m .board)
-  line-off (Switch form behind) m w = w
-  line-off (ACommand start end behind) m w = w
-  line-off NoFrame m w = w
-  line-off (TooLong behind) m w = w
-  line-off (NotOfForm behind) m w = w
-  line-off (ScratchTooShort behind) m w = w
-
-  call-off : (m : Machine) (call : Call) → OffInTheDark k (m .board) → OffInTheDark k (afterCall m call .board)
-  unfolding heardOf
-  call-off m (tick i) w =
-      by-cases (isTick (tick i))
-      (λ e. after-a-tick m i e)
-      (λ e. subst (λ (x : Machine). OffInTheDark k (x .board)) (sym (refused-tick-leaves (i .rail) (i .named) (i .words) (i .sent) (i .transfer) m e)) w)
-  call-off m (line received room) w = line-off (lineOf (m .board .form) received room) m w
-
-  after-off : (calls : List Call) (m : Machine) → OffInTheDark k (m .board) → OffInTheDark k (after m calls .board)
-  unfolding after
-  after-off [] m w = w
-  after-off (call ∷ calls) m w = after-off calls (afterCall m call) (call-off m call w)
+  unfolding toldOf watchdogResetOf
+  after-a-tick m i happens =
+      by-tick (i .rail) (i .named) (i .words) (i .sent) (i .transfer) (m .board) (OffInTheDark k) happens
+      (commanded (i .rail) (limitsOf (m .board .memory)) (i .sent) (i .transfer) _ (settled-off (limitsOf (m .board .memory)) (i .rail) (i .named) (i .words) (m .board)))
+      (fresh-off _ _ _)
 
   reached : (m : Machine) → Reached m → OffInTheDark k (m .board)
-  reached m r =
-      let begun = begunOf (r .there) (r .profile) (r .store) .machine in
-      let fresh : OffInTheDark k (begun .board) = subst (OffInTheDark k) (sym (begun-is (r .there) (r .profile) (r .store) (r .accepted))) (fresh-off (r .profile) (r .store) neverReset) in
-      subst (λ (x : Machine). OffInTheDark k (x .board)) (sym (r .is)) (after-off (r .past) begun fresh)
+  reached m r = by-reach (OffInTheDark k) (λ profile store. fresh-off profile store neverReset) (λ form b w. w) (λ x i happens w. after-a-tick x i happens) m r
 
 pub dark : Dark
 dark = record { after-a-tick = after-a-tick; reached = reached }

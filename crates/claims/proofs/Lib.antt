@@ -1,4 +1,5 @@
 pub mod Boundary
+pub mod Calls
 pub mod CommandStep
 pub mod Profiles
 pub mod PowerCommand

@@ -20,15 +20,13 @@ use Rattle.memory.specs.declared.Memory.{Memory}
 use Rattle.state.specs.Parts.{modeOf}
 use Rattle.state.specs.declared.parts.Profile.{Profile}
 use Rattle.answers.specs.Answers.{headerOf}
-use Rattle.text.specs.Lines.{lineOf}
-use Rattle.text.specs.declared.reading.Line.{Line}
-use Rattle.text.specs.declared.reading.Line.the-variants.{Command, Switch, NoFrame, TooLong, NotOfForm, ScratchTooShort}
-use Rattle.unit.specs.Machine.{toldOf, afterLine, heardOf}
+use Rattle.text.specs.declared.reading.Line.the-variants.{Command}
+use Rattle.unit.specs.Machine.{toldOf}
 use Rattle.unit.specs.declared.Machine.{Machine}
-use Rattle.unit.proofs.Laws.{refused-tick-leaves}
 use Rattle.unit.specs.Runs.{Call, tick, line, afterCall, Reached}
 use Rattle.claims.specs.Power.{ForceEnabledBy, ForceEnabled, isTick, channelOf, Undisturbed, AtTicks, EachTick, limits, Power}
 use Rattle.claims.specs.PowerOfOne.{Spared, Unlatched, Lasts, PowerOfOne}
+use Rattle.claims.proofs.Calls.{rests}
 use Rattle.claims.proofs.Profiles.{call-profile}
 use Rattle.claims.proofs.CommandStep.{asked}
 use Rattle.claims.proofs.PowerTick.{seen, tick-seen}
@@ -73,18 +71,8 @@ module _ (k : ℕ) where
       (λ w. spared .no-reset (inl w)) (λ d o. spared .no-reset (inr (d, o)))
   ticks m (line received room) h a e = absurd (false≢true e)
 
-  line-rests : (l : Line) (m : Machine) → small-of k (afterLine l m) ≡ small-of k m
-  line-rests (Switch form behind) m = refl
-  line-rests (Command start end behind) m = refl
-  line-rests NoFrame m = refl
-  line-rests (TooLong behind) m = refl
-  line-rests (NotOfForm behind) m = refl
-  line-rests (ScratchTooShort behind) m = refl
-
-  rests : (m : Machine) (call : Call) → isTick call ≡ false → small-of k (afterCall m call) ≡ small-of k m
-  unfolding heardOf
-  rests m (tick i) e = ap (small-of k) (refused-tick-leaves (i .rail) (i .named) (i .words) (i .sent) (i .transfer) m e)
-  rests m (line received room) e = line-rests (lineOf (m .board .form) received room) m
+  unchanged : (m : Machine) (call : Call) → isTick call ≡ false → small-of k (afterCall m call) ≡ small-of k m
+  unchanged m call e = ap (seen k) (rests m call e .is)
 
   kept : (m : Machine) (call : Call) → InTouch k m → AtTicks (Spared k) m call → InTouch k (afterCall m call)
   kept m call h a =
@@ -93,11 +81,11 @@ module _ (k : ℕ) where
         in-step =
             by-cases (isTick call)
             (λ e. subst small.InStep (sym (ticks m call h a e)) (good times (omega arith) (small-of k m) (input m call) (h .in-step) .in-step))
-            (λ e. subst small.InStep (sym (rests m call e)) (h .in-step));
+            (λ e. subst small.InStep (sym (unchanged m call e)) (h .in-step));
       }
 
   simulates : Simulates afterCall isTick (small.tick times) (InTouch k) (AtTicks (Spared k)) (small-of k) input
-  simulates = record { kept = kept; ticks = ticks; rests = rests }
+  simulates = record { kept = kept; ticks = ticks; rests = unchanged }
 
   -- a reached machine is in touch where no latch keeps the channel off
   pub in-touch : (m : Machine) → Reached m → ForceEnabled k m → Unlatched k m → InTouch k m

@@ -1,6 +1,6 @@
 -- What the command step can do to the mode and to one force-enabled channel: it never turns the channel off, but by a reset. Assumes nothing.
 use Prim.Native.Nat.{ℕ}
-use mathlib.Core.Path.{_≡_, refl, ap, _∙_}
+use mathlib.Core.Path.{_≡_, refl, sym, ap, _∙_}
 use mathlib.Core.Bool.{true, false, cond, false≢true}
 use mathlib.Core.Logic.{_⊎_, inl, inr, ⊎-elim}
 use lib.IntN.{ℤ}
@@ -98,6 +98,36 @@ module _ (p : Profile) (k : ℕ) (fe : ForceEnabledBy p k) (s : Channels) where
       meant (of-channels.switch-off one) e = absurd (false≢true (rw (fe .fitted, fe .forced) at e))
       meant of-channels.command-enabled-off e = absurd (false≢true (rw (fe .fitted, fe .forced) at e))
 
+-- ---- 0x30 and 0x32 lead from a lit mode to a lit one, if anywhere
+module _ (s : ModeAge) where
+  abbrev pub BothLit : change.Commanded → Type 0
+  BothLit (change.Commanded.Accepted next) = (small.isLit (s .mode) ≡ true) × (small.isLit (next .mode) ≡ true)
+  BothLit change.Commanded.Unavailable = Unit {0}
+
+  safety-lit : (m : Mode) → s .mode ≡ m → BothLit (toSafetyFrom m s)
+  safety-lit Startup e = tt
+  safety-lit Nominal e = (rw e, refl)
+  safety-lit Safety e = (rw e, rw e)
+  safety-lit Emergency e = tt
+
+  pub to-safety-lit : BothLit (toSafety s)
+  unfolding toSafety
+  to-safety-lit = safety-lit (s .mode) refl
+
+  nominal-lit : (m : Mode) (rail : ℤ) (limits : Limits) → s .mode ≡ m → BothLit (toNominalFrom m s rail limits)
+  nominal-lit Startup rail limits e = tt
+  nominal-lit Nominal rail limits e = (rw e, rw e)
+  nominal-lit Safety rail limits e = by-cases (rail at-least limits .«safety_low») (λ d. rw d (rw e, refl)) (λ d. rw d tt)
+  nominal-lit Emergency rail limits e = tt
+
+  pub to-nominal-lit : (rail : ℤ) (limits : Limits) → BothLit (toNominal s rail limits)
+  unfolding toNominal
+  to-nominal-lit rail limits = nominal-lit (s .mode) rail limits refl
+
+  pub stays-lit : (x : change.Commanded) → BothLit x → small.isLit (leaves x s .mode) ≡ small.isLit (s .mode)
+  stays-lit (change.Commanded.Accepted next) lit = lit .1 ∙ sym (lit .0)
+  stays-lit change.Commanded.Unavailable lit = refl
+
 -- ---- the step at channel k
 module _ (k : ℕ) (b : Board) (fe : ForceEnabledBy (b .profile) k) where
   moved : (next : ModeAge) (s : Channels) (c : Board) → Becomes next s b c → chan s k ≡ chan (b .channels) k → Moved k next b c
@@ -120,29 +150,11 @@ module _ (k : ℕ) (b : Board) (fe : ForceEnabledBy (b .profile) k) where
   stays : (c : Board) → Stays b c → Moved k (b .phase) b c
   stays c q = moved (b .phase) (b .channels) c q refl
 
-  -- 0x30 and 0x32 lead from a lit mode to a lit one, if anywhere
-  abbrev BothLit : change.Commanded → Type 0
-  BothLit (change.Commanded.Accepted next) = (small.isLit (modeOf b) ≡ true) × (small.isLit (next .mode) ≡ true)
-  BothLit change.Commanded.Unavailable = Unit {0}
-
-  changed : (x : change.Commanded) (c : Board) → BothLit x → Changes x b c → Moved k (leaves x (b .phase)) b c
+  changed : (x : change.Commanded) (c : Board) → BothLit (b .phase) x → Changes x b c → Moved k (leaves x (b .phase)) b c
   changed (change.Commanded.Accepted next) c lit q = moved next _ c q (entering (b .profile) k fe (b .channels) (modeOf b) (next .mode) ∙ rw (lit .0, lit .1))
   changed change.Commanded.Unavailable c lit q = stays c q
 
-  safety-lit : (m : Mode) → modeOf b ≡ m → BothLit (toSafetyFrom m (b .phase))
-  safety-lit Startup e = tt
-  safety-lit Nominal e = (rw e, refl)
-  safety-lit Safety e = (rw e, rw e)
-  safety-lit Emergency e = tt
-
-  nominal-lit : (m : Mode) (rail : ℤ) (limits : Limits) → modeOf b ≡ m → BothLit (toNominalFrom m (b .phase) rail limits)
-  nominal-lit Startup rail limits e = tt
-  nominal-lit Nominal rail limits e = (rw e, rw e)
-  nominal-lit Safety rail limits e = by-cases (rail at-least limits .«safety_low») (λ d. rw d (rw e, refl)) (λ d. rw d tt)
-  nominal-lit Emergency rail limits e = tt
-
   pub at-channel : (rail : ℤ) (limits : Limits) (d : Decoded) (ask : small.Command) (c : Commanded) → Does rail limits d ask b c → DoesAt k rail limits d ask b c
-  unfolding toSafety toNominal
   at-channel rail limits d ask c (idles e q) = idle e (stays (c .board) q)
   at-channel rail limits d ask c (leaves-both e q) = left e (stays (c .board) q)
   at-channel rail limits d ask c (refuses e q) = switched e (inl (stays (c .board) q))
@@ -153,6 +165,6 @@ module _ (k : ℕ) (b : Board) (fe : ForceEnabledBy (b .profile) k) where
       (λ (w : chan (of-channels.obeyed (b .profile .fitted) (b .profile .forced) o (b .channels)) k ≡ onAndCleared (chan (b .channels) k)). inr (lighted _ (c .board) n q w))
       (commanding (b .profile) k fe (b .channels) o))
   at-channel rail limits d ask c (cancels e q) = left e (moved (b .phase) _ (c .board) q (others-off (b .profile) k fe (b .channels)))
-  at-channel rail limits d ask c (to-safety e q) = made-safe e (changed (toSafety (b .phase)) (c .board) (safety-lit (modeOf b) refl) q)
-  at-channel rail limits d ask c (to-nominal e q) = made-nominal e (changed (toNominal (b .phase) rail limits) (c .board) (nominal-lit (modeOf b) rail limits refl) q)
+  at-channel rail limits d ask c (to-safety e q) = made-safe e (changed (toSafety (b .phase)) (c .board) (to-safety-lit (b .phase)) q)
+  at-channel rail limits d ask c (to-nominal e q) = made-nominal e (changed (toNominal (b .phase) rail limits) (c .board) (to-nominal-lit (b .phase) rail limits) q)
   at-channel rail limits d ask c (restarts e o r) = restarted e o r

@@ -56,7 +56,7 @@ use Rattle.claims.specs.PowerReal.{profile, started, dead}
 use Rattle.claims.specs.PowerNeeded.{Fails, ButReset, ButOvercurrent, PowerNeeded}
 use Rattle.claims.proofs.Profiles.{after-profile}
 use Rattle.claims.proofs.Power.{numbers}
-use Rattle.claims.proofs.PowerTick.{found-phase, found-seen}
+use Rattle.claims.proofs.PowerTick.{settled-phase as settled-phase-is, settled-seen}
 use Rattle.claims.proofs.PowerReal.{defaults, accepted, zero-of, zero-forced, started-is, uneventful, Calm, started-calm, still-calm, undisturbed}
 
 -- ---- one tick before startup ends
@@ -218,8 +218,8 @@ module _ (b : Board) (nominal : modeOf b ≡ Nominal) (kept : b .memory ≡ defa
   settled-off : has (b .channels .on) 0 ≡ false → has (settled .channels .on) 0 ≡ false
   settled-off off =
       let fe : ForceEnabledBy (b .profile) 0 = subst (λ (p : Profile). ForceEnabledBy p 0) (sym of) zero-of in
-      let next-is : stepOf (olderOf (b .phase)) (pos 20000) (limitsOf (b .memory)) .mode ≡ Nominal = ap (λ (s : ModeAge). s .mode) (sym (found-phase 0 (pos 20000) 0 [] true (fed .transfer) b fe)) ∙ mode-is in
-      ap (λ (s : small.State). s .on) (found-seen 0 (pos 20000) 0 [] true (fed .transfer) b fe (has-none 0)) ∙ rw (next-is, nominal) off
+      let next-is : stepOf (olderOf (b .phase)) (pos 20000) (limitsOf (b .memory)) .mode ≡ Nominal = ap (λ (s : ModeAge). s .mode) (sym (settled-phase-is 0 (pos 20000) 0 [] true (fed .transfer) b fe)) ∙ mode-is in
+      ap (λ (s : small.State). s .on) (settled-seen 0 (pos 20000) 0 [] true (fed .transfer) b fe (has-none 0)) ∙ rw (next-is, nominal) off
 
   ticking : tickOf (pos 20000) 0 [] true (fed .transfer) b ≡ watchedAs NoEvent (acceptedOf 0x02 settled)
   unfolding tickOf tickWith watchedIn allowedCount

@@ -45,7 +45,7 @@ use Rattle.unit.specs.Runs.{Sample, told, tick, afterCall, after, Reached}
 use Rattle.claims.specs.Power.{ForceEnabledBy, ForceEnabled, channelOf, isTick, Resets, Undisturbed, EachTick, NoneLatched}
 use Rattle.claims.specs.PowerReal.{profile, started, dead, ticks, expected, PowerReal}
 use Rattle.claims.proofs.PowerTick.{seen}
-use Rattle.claims.proofs.Standing.{begun-is}
+use Rattle.claims.proofs.Calls.{begun-is}
 use Rattle.claims.proofs.Power.{numbers, times, input, small-of, in-touch, same-line, spares-each}
 
 -- ---- the defaults

@@ -6,8 +6,8 @@ use mathlib.Core.List.{List}
 use mathlib.Core.Logic.{_⊎_, ⊎-elim}
 use lib.IntN.{ℤ}
 use lib.ListN.{length}
-use Rattle.modes.specs.Table.{_at-least_, _aged_, same, stepOf, olderOf}
-use Rattle.modes.specs.Commands.{toSafetyFrom, toSafety, toNominalFrom, toNominal, leaves}
+use Rattle.modes.specs.Table.{_aged_, same, stepOf, olderOf}
+use Rattle.modes.specs.Commands.{toSafety, toNominal, leaves}
 use Rattle.modes.specs.declared.Mode.{Mode}
 use Rattle.modes.specs.declared.Mode.the-variants.{Startup, Nominal, Safety, Emergency}
 use Rattle.modes.specs.declared.ModeAge.{ModeAge}
@@ -16,7 +16,6 @@ use Rattle.channels.specs.Sets.{has}
 use Rattle.channels.specs.Chan.{Chan, chan}
 use Rattle.channels.specs.Operations.{overcurrentOne}
 use Rattle.channels.proofs.Laws as of-channels
-use Rattle.watchdog.specs.Watchdog as dog
 use Rattle.watchdog.specs.declared.Event.{Event}
 use Rattle.watchdog.specs.declared.Event.the-variants.{NoEvent, PeripheralReset, WatchdogReset}
 use Rattle.power.specs.Machine as small
@@ -26,7 +25,7 @@ use Rattle.command.specs.Decode.{decodeOf}
 use Rattle.command.specs.declared.Command.the-variants.{SystemReset}
 use Rattle.command.specs.declared.Decoded.{Decoded}
 use Rattle.command.specs.declared.Decoded.the-variants.{Run}
-use Rattle.memory.specs.Limits.{timeoutOf, limitsOf}
+use Rattle.memory.specs.Limits.{limitsOf}
 use Rattle.memory.specs.declared.Store.{Store}
 use Rattle.state.specs.Parts.{modeOf}
 use Rattle.state.specs.Start.{freshOf, commandResetOf, watchdogResetOf}
@@ -37,39 +36,19 @@ use Rattle.answers.specs.Answers.{headerOf}
 use Rattle.answers.specs.declared.Answer.the-variants.{Accepted}
 use Rattle.answers.specs.declared.Outcome.the-variants.{Answered}
 use Rattle.answers.specs.declared.Commanded.{Commanded}
-use Rattle.commands.specs.Step.{isStartup, commandedOf}
-use Rattle.board.specs.Tick.{risenOf, changedOf, trippedOf, watchedAs, watchedIn, tickWith, allowedCount, tickOf}
+use Rattle.commands.specs.Step.{isStartup}
+use Rattle.board.specs.Tick.{risenOf, changedOf, trippedOf, watchedAs, allowedCount, tickOf}
 use Rattle.board.specs.declared.Ticked.{Ticked}
 use Rattle.claims.specs.Power.{ForceEnabledBy}
 use Rattle.claims.specs.Standing.{Stands}
+use Rattle.claims.proofs.Calls.{found, obeyed, happening, tick-is, by-tick}
 use Rattle.claims.proofs.CommandStep.{asked, step}
-use Rattle.claims.proofs.PowerCommand.{Moved, Lit, DoesAt, idle, left, switched, made-safe, made-nominal, restarted, enteredOne, entering, at-channel}
+use Rattle.claims.proofs.PowerCommand.{Moved, Lit, DoesAt, idle, left, switched, made-safe, made-nominal, restarted, enteredOne, entering, stays-lit, to-safety-lit, to-nominal-lit, at-channel}
 
 -- ---- a start, and a reset of either kind: off, unlatched, in startup
 pub fresh-stands : (k : ℕ) → k < 32 → (p : Profile) (store : Store) (resets : Resets) → Stands k (freshOf p store resets)
 unfolding freshOf
 fresh-stands k h p store resets = ap (λ (x : Chan). x .on) (of-channels.cleared-each k h)
-
--- ---- the two commands on the mode keep it lit, or dark
-safety-lit : (m : Mode) (s : ModeAge) → s .mode ≡ m → isLit (leaves (toSafetyFrom m s) s .mode) ≡ isLit (s .mode)
-safety-lit Startup s e = refl
-safety-lit Nominal s e = rw e
-safety-lit Safety s e = refl
-safety-lit Emergency s e = refl
-
-to-safety-lit : (s : ModeAge) → isLit (leaves (toSafety s) s .mode) ≡ isLit (s .mode)
-unfolding toSafety
-to-safety-lit s = safety-lit (s .mode) s refl
-
-nominal-lit : (m : Mode) (s : ModeAge) (rail : ℤ) (limits : Limits) → s .mode ≡ m → isLit (leaves (toNominalFrom m s rail limits) s .mode) ≡ isLit (s .mode)
-nominal-lit Startup s rail limits e = refl
-nominal-lit Nominal s rail limits e = refl
-nominal-lit Safety s rail limits e = by-cases (rail at-least limits .«safety_low») (λ d. rw (d, e)) (λ d. rw d)
-nominal-lit Emergency s rail limits e = refl
-
-to-nominal-lit : (s : ModeAge) (rail : ℤ) (limits : Limits) → isLit (leaves (toNominal s rail limits) s .mode) ≡ isLit (s .mode)
-unfolding toNominal
-to-nominal-lit s rail limits = nominal-lit (s .mode) s rail limits refl
 
 -- ---- the channel alone
 -- a change of mode leaves a channel as it stands in the new mode
@@ -139,8 +118,8 @@ module _ (k : ℕ) (rail : ℤ) (limits : Limits) (d : Decoded) (ask : small.Com
   obeyed-stands h (idle e q) w = moved-stands k b (c .board) (b .phase) refl q w
   obeyed-stands h (left e q) w = moved-stands k b (c .board) (b .phase) refl q w
   obeyed-stands h (switched e q) w = ⊎-elim (λ (p : Moved k (b .phase) b (c .board)). moved-stands k b (c .board) (b .phase) refl p w) (λ (p : Lit k b (c .board)). lit-stands k b (c .board) p) q
-  obeyed-stands h (made-safe e q) w = moved-stands k b (c .board) (leaves (toSafety (b .phase)) (b .phase)) (to-safety-lit (b .phase)) q w
-  obeyed-stands h (made-nominal e q) w = moved-stands k b (c .board) (leaves (toNominal (b .phase) rail limits) (b .phase)) (to-nominal-lit (b .phase) rail limits) q w
+  obeyed-stands h (made-safe e q) w = moved-stands k b (c .board) (leaves (toSafety (b .phase)) (b .phase)) (stays-lit (b .phase) (toSafety (b .phase)) (to-safety-lit (b .phase))) q w
+  obeyed-stands h (made-nominal e q) w = moved-stands k b (c .board) (leaves (toNominal (b .phase) rail limits) (b .phase)) (stays-lit (b .phase) (toNominal (b .phase) rail limits) (to-nominal-lit (b .phase) rail limits)) q w
   obeyed-stands h (restarted e o r) w = rw r (fresh-stands k h _ _ _)
 
   -- without a reset it is what the small machine does
@@ -156,19 +135,13 @@ module _ (k : ℕ) (rail : ℤ) (limits : Limits) (d : Decoded) (ask : small.Com
       q)
   obeyed-seen (made-safe e q) h n =
       let next = leaves (toSafety (b .phase)) (b .phase) in
-      rw e (moved-seen k b (c .board) next q ∙ sym (enters-lit next (seen k b) h (to-safety-lit (b .phase))))
+      rw e (moved-seen k b (c .board) next q ∙ sym (enters-lit next (seen k b) h (stays-lit (b .phase) (toSafety (b .phase)) (to-safety-lit (b .phase)))))
   obeyed-seen (made-nominal e q) h n =
       let next = leaves (toNominal (b .phase) rail limits) (b .phase) in
-      rw e (moved-seen k b (c .board) next q ∙ sym (enters-lit next (seen k b) h (to-nominal-lit (b .phase) rail limits)))
+      rw e (moved-seen k b (c .board) next q ∙ sym (enters-lit next (seen k b) h (stays-lit (b .phase) (toNominal (b .phase) rail limits) (to-nominal-lit (b .phase) rail limits))))
   obeyed-seen (restarted e o r) h n = absurd (n e o)
 
 -- ---- step 5
--- what holds of the board that the command leaves and of its reset holds after the watchdog
-watched-by : (P : Board → Type 0) (e : Event) (c : Commanded) → P (c .board) → P (watchdogResetOf (c .board)) → P (watchedAs e c .board)
-watched-by P NoEvent c p r = p
-watched-by P PeripheralReset c p r = p
-watched-by P WatchdogReset c p r = r
-
 unreset : (e : Event) (c : Commanded) → (watchedAs e c .event ≡ WatchdogReset → ⊥) → watchedAs e c .board ≡ c .board
 unreset NoEvent c n = refl
 unreset PeripheralReset c n = refl
@@ -187,12 +160,11 @@ module _ (k : ℕ) (rail : ℤ) (named : ℕ) (words : List ℕ) (sent : Bool) (
   abbrev next : ModeAge
   next = stepOf (olderOf (b .phase)) rail own
 
-  -- the board as the command finds it
-  abbrev found : Board
-  found = trippedOf named (changedOf rail own (risenOf words b))
+  abbrev settled : Board
+  settled = found rail named words sent s b
 
-  abbrev obeyed : Commanded
-  obeyed = commandedOf rail own sent s found
+  abbrev answered : Commanded
+  answered = obeyed rail named words sent s b
 
   abbrev reading : Decoded
   reading = decodeOf (headerOf (b .profile)) s
@@ -201,57 +173,56 @@ module _ (k : ℕ) (rail : ℤ) (named : ℕ) (words : List ℕ) (sent : Bool) (
   ask = cond sent (asked reading) small.other
 
   -- steps 1 to 3
-  found-channel : chan (found .channels) k ≡ overcurrentOne (has named k) (enteredOne (modeOf b) (next .mode) (chan (b .channels) k))
+  settled-channel : chan (settled .channels) k ≡ overcurrentOne (has named k) (enteredOne (modeOf b) (next .mode) (chan (b .channels) k))
   unfolding trippedOf changedOf risenOf olderOf
-  found-channel =
+  settled-channel =
       of-channels.each (b .profile .fitted) (b .profile .forced) (of-channels.overcurrent named) _ k (fe .a-channel)
       ∙ ap (overcurrentOne (has named k)) (entering (b .profile) k fe (b .channels) (modeOf b) (next .mode))
 
-  pub found-phase : found .phase ≡ next
+  pub settled-phase : settled .phase ≡ next
   unfolding trippedOf changedOf risenOf
-  found-phase = refl
+  settled-phase = refl
 
-  found-stands : Stands k b → Stands k found
-  found-stands w =
-      rw (ap (λ (x : Chan). x .on) found-channel, found-phase, ap (λ (x : Chan). x .latched) found-channel)
+  settled-stands : Stands k b → Stands k settled
+  settled-stands w =
+      rw (ap (λ (x : Chan). x .on) settled-channel, settled-phase, ap (λ (x : Chan). x .latched) settled-channel)
       (tripped-stands (has named k) (isLit (next .mode)) (enteredOne (modeOf b) (next .mode) (chan (b .channels) k)) (entered-stands (modeOf b) (next .mode) (chan (b .channels) k) w))
 
-  pub found-seen : has named k ≡ false → seen k found ≡ small.enters next (seen k b)
-  found-seen e =
-      rw (found-phase, ap (λ (x : Chan). x .on) found-channel, e)
+  pub settled-seen : has named k ≡ false → seen k settled ≡ small.enters next (seen k b)
+  settled-seen e =
+      rw (settled-phase, ap (λ (x : Chan). x .on) settled-channel, e)
       (ap (λ (o : Bool). record { phase = next; on = o }) (entered-on (modeOf b) (next .mode) (chan (b .channels) k)))
 
   -- step 4
-  does : DoesAt k rail own reading ask found obeyed
+  does : DoesAt k rail own reading ask settled answered
   unfolding trippedOf changedOf risenOf
-  does = at-channel k found fe rail own reading ask obeyed (step rail own found s sent)
+  does = at-channel k settled fe rail own reading ask answered (step rail own settled s sent)
 
   -- step 5
-  abbrev happening : Event
-  happening = dog.watchedOf (obeyed .board .timer) (dog.secondsInTicks (timeoutOf (obeyed .board .memory)))
-
   module _ (allowed : allowedCount (length words) ≡ true) where
     abbrev after : Ticked
     after = tickOf rail named words sent s b
 
-    after-is : after ≡ watchedAs happening obeyed
-    unfolding tickOf tickWith watchedIn
-    after-is = rw allowed
+    abbrev event : Event
+    event = happening rail named words sent s b
+
+    after-is : after ≡ watchedAs event answered
+    after-is = tick-is rail named words sent s b allowed
 
     -- whatever happens, the channel stands
     pub tick-stands : Stands k b → Stands k (after .board)
     unfolding watchdogResetOf
     tick-stands w =
-        rw after-is
-        (watched-by (Stands k) happening obeyed (obeyed-stands k rail own reading ask found obeyed (fe .a-channel) does (found-stands w)) (fresh-stands k (fe .a-channel) _ _ _))
+        by-tick rail named words sent s b (Stands k) allowed
+        (obeyed-stands k rail own reading ask settled answered (fe .a-channel) does (settled-stands w)) (fresh-stands k (fe .a-channel) _ _ _)
 
     -- without a reset, and where the channel is not named, it is the small machine's
     pub tick-seen : small.InStep (seen k b) → has named k ≡ false → (after .event ≡ WatchdogReset → ⊥) → (reading ≡ Run SystemReset → after .outcome ≡ Answered Accepted → ⊥)
         → seen k (after .board) ≡ small.obeyed ask rail own (small.enters next (seen k b))
     tick-seen h e n r =
-        let there : seen k found ≡ small.enters next (seen k b) = found-seen e in
-        let in-step : small.InStep (seen k found) = subst small.InStep (sym there) (enters-in-step next (seen k b) h) in
+        let there : seen k settled ≡ small.enters next (seen k b) = settled-seen e in
+        let in-step : small.InStep (seen k settled) = subst small.InStep (sym there) (enters-in-step next (seen k b) h) in
         ap (λ (t : Ticked). seen k (t .board)) after-is
-        ∙ ap (seen k) (unreset happening obeyed (λ w. n (rw after-is w)))
-        ∙ obeyed-seen k rail own reading ask found obeyed does in-step (λ d o. r d (rw after-is (watched-outcome happening obeyed ∙ o)))
+        ∙ ap (seen k) (unreset event answered (λ w. n (rw after-is w)))
+        ∙ obeyed-seen k rail own reading ask settled answered does in-step (λ d o. r d (rw after-is (watched-outcome event answered ∙ o)))
         ∙ ap (small.obeyed ask rail own) there
