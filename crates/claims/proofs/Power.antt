@@ -4,9 +4,9 @@ use lib.IntN.{ℤ, pos}
 use mathlib.Core.Path.{_≡_, refl, sym, ap, _∙_, subst}
 use mathlib.Core.Bool.{Bool, true, false, cond, false≢true}
 use mathlib.Core.List.{List, [], _∷_}
-use mathlib.Core.Logic.{inl, inr}
 use native.Mathlib.Omega.{arith}
 use Rattle.watchdog.specs.Watchdog.{secondsInTicks}
+use Rattle.watchdog.specs.declared.Event.the-variants.{WatchdogReset}
 use Rattle.power.specs.Runs.{channel}
 use Rattle.power.specs.Claim.{mostOff, leastOn, Powered}
 use Rattle.power.specs.Machine as small
@@ -18,13 +18,17 @@ use Rattle.command.specs.Decode.{decodeOf}
 use Rattle.memory.specs.Limits.{linger, emergencyPeriod, limitsOf}
 use Rattle.memory.specs.declared.Memory.{Memory}
 use Rattle.state.specs.Parts.{modeOf}
+use Rattle.state.specs.Start.{freshOf, commandResetOf}
+use Rattle.state.specs.declared.parts.Board.{Board}
 use Rattle.state.specs.declared.parts.Profile.{Profile}
 use Rattle.answers.specs.Answers.{headerOf}
 use Rattle.text.specs.declared.reading.Line.the-variants.{Command}
 use Rattle.unit.specs.Machine.{toldOf}
 use Rattle.unit.specs.declared.Machine.{Machine}
-use Rattle.unit.specs.Runs.{Call, tick, line, afterCall, Reached}
-use Rattle.claims.specs.Power.{ForceEnabledBy, ForceEnabled, isTick, channelOf, Undisturbed, AtTicks, EachTick, limits, Power}
+use Rattle.groups.specs.Resets.{happens, tellsWatchdogReset, tellsReset, startsOver}
+use Rattle.groups.proofs.Resets.{reset-is-told}
+use Rattle.unit.specs.Runs.{Sample, told, Call, tick, line, afterCall, Reached}
+use Rattle.claims.specs.Power.{ForceEnabledBy, ForceEnabled, isTick, channelOf, Resets, Undisturbed, AtTicks, EachTick, limits, Power}
 use Rattle.claims.specs.PowerOfOne.{Spared, Unlatched, Lasts, PowerOfOne}
 use Rattle.claims.proofs.Calls.{rests}
 use Rattle.claims.proofs.Profiles.{call-profile}
@@ -62,13 +66,25 @@ pub record InTouch (k : ℕ) (m : Machine) : Type 0 where
   pub force-enabled : ForceEnabled k m
   pub in-step : small.InStep (small-of k m)
 
+-- a reset is told, by the watchdog and by a command
+told-by-watchdog : (m : Machine) (i : Sample) → told m i .event ≡ WatchdogReset → Resets m i
+unfolding tellsReset tellsWatchdogReset
+told-by-watchdog m i w = rw w refl
+
+starts-over : (b : Board) → startsOver (commandResetOf b) ≡ true
+unfolding commandResetOf freshOf
+starts-over b = refl
+
+told-by-command : (m : Machine) (i : Sample) (b : Board) → happens i ≡ true → told m i .machine .board ≡ commandResetOf b → Resets m i
+told-by-command m i b e q = reset-is-told m i .exactly e ∙ ap startsOver q ∙ starts-over b
+
 module _ (k : ℕ) where
   ticks : (m : Machine) (call : Call) → InTouch k m → AtTicks (Spared k) m call → isTick call ≡ true → small-of k (afterCall m call) ≡ small.tick times (small-of k m) (input m call)
   unfolding toldOf limitsOf small.tick
   ticks m (tick i) h a e =
       let spared = a e in
       tick-seen k (i .rail) (i .named) (i .words) (i .sent) (i .transfer) (m .board) (h .force-enabled) e (h .in-step) (spared .no-overcurrent)
-      (λ w. spared .no-reset (inl w)) (λ d o. spared .no-reset (inr (d, o)))
+      (λ w. spared .no-reset (told-by-watchdog m i w)) (λ q. spared .no-reset (told-by-command m i _ e q))
   ticks m (line received room) h a e = absurd (false≢true e)
 
   unchanged : (m : Machine) (call : Call) → isTick call ≡ false → small-of k (afterCall m call) ≡ small-of k m

@@ -1,7 +1,7 @@
 -- A run for each premise of demand 3 that is needed, which breaks the demand without it: two short ones, computed, and two long ones in nominal, by a law for each tick. Assumes nothing.
 use Prim.Native.Nat.{ℕ, zero, suc, _+_, _≤_}
 use mathlib.Core.Path.{_≡_, refl, sym, ap, _∙_, subst}
-use mathlib.Core.Bool.{Bool, true, false, false≢true}
+use mathlib.Core.Bool.{Bool, true, false, false≢true, and-false}
 use mathlib.Core.List.{List, [], _∷_, _++_, append-nil}
 use mathlib.Core.Logic.{_⊎_, ⊎-elim}
 use native.Mathlib.Omega.{arith}
@@ -50,6 +50,7 @@ use Rattle.unit.specs.Machine.{noMachine, begunOf, toldBy, toldOf}
 use Rattle.text.specs.declared.framing.Due.the-variants.{Nothing}
 use Rattle.unit.specs.declared.Machine.{Machine}
 use Rattle.unit.specs.declared.Told.{Told}
+use Rattle.groups.specs.Resets.{tellsWatchdogReset, tellsCommandReset, tellsReset}
 use Rattle.unit.specs.Runs.{Sample, told, Call, tick, afterCall, after, Reached}
 use Rattle.claims.specs.Power.{isOn, ForceEnabledBy, ForceEnabled, channelOf, Undisturbed, EachTick, AtLeastOne, NoneLatched, limits}
 use Rattle.claims.specs.PowerReal.{profile, started, dead}
@@ -246,13 +247,10 @@ module _ (m : Machine) (stuck : Stuck m) where
       })
 
   fed-undisturbed : Undisturbed m fed
-  unfolding acceptedOf acceptedWith
+  unfolding acceptedOf acceptedWith tellsReset tellsWatchdogReset tellsCommandReset
   fed-undisturbed =
       record {
-        no-reset =
-            ⊎-elim
-            (λ (w : told m fed .event ≡ WatchdogReset). let e = ap (λ (t : Told). t .event) telling in let z : _≡_ {A = ℕ} 0 1 = cc in omega arith)
-            (λ w. let e : decodeOf (headerOf (m .board .profile)) (fed .transfer) ≡ Run SystemReset = w .0 in let d = reads-noop (m .board .profile) (stuck .of) in let z : _≡_ {A = ℕ} 0 1 = cc in omega arith);
+        no-reset = λ e. false≢true (rw (ap (λ (t : Told). t .event) telling, and-false) at e);
         no-change =
             ap (λ (t : Told). t .machine .board .memory .current) telling
             ∙ ap (λ (x : Memory). x .current) (settled-memory (m .board) (stuck .nominal) (stuck .kept) (stuck .of) ∙ sym (stuck .kept));

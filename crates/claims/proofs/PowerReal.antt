@@ -1,7 +1,7 @@
 -- The long stretch of a rail at 0 mV on a real board, by stages: a tick of it never resets, so the channels are the small machine's, whose run `power` shows. Assumes nothing.
 use Prim.Native.Nat.{ℕ, zero, suc, _+_, _^_, _-_, _≤_, min}
 use mathlib.Core.Path.{_≡_, refl, sym, ap, _∙_, subst}
-use mathlib.Core.Bool.{Bool, true, false}
+use mathlib.Core.Bool.{Bool, true, false, false≢true}
 use mathlib.Core.List.{List, [], _∷_}
 use mathlib.Core.Logic.{_⊎_, ⊎-elim}
 use native.Mathlib.Omega.{arith}
@@ -41,6 +41,7 @@ use Rattle.power.specs.Runs.{channel, turns}
 use Rattle.unit.specs.Machine.{noMachine, begunOf, toldBy, toldOf}
 use Rattle.unit.specs.declared.Machine.{Machine}
 use Rattle.unit.specs.declared.Told.{Told}
+use Rattle.groups.specs.Resets.{tellsWatchdogReset, tellsCommandReset, tellsReset}
 use Rattle.unit.specs.Runs.{Sample, told, tick, afterCall, after, Reached}
 use Rattle.claims.specs.Power.{ForceEnabledBy, ForceEnabled, channelOf, isTick, Resets, Undisturbed, EachTick, NoneLatched}
 use Rattle.claims.specs.PowerReal.{profile, started, dead, ticks, expected, PowerReal}
@@ -124,10 +125,8 @@ pub record Calm (m : Machine) : Type 0 where
 
 -- a tick without an event and without a transfer is no reset
 pub uneventful : (m : Machine) (i : Sample) → told m i .event ≡ NoEvent → told m i .outcome ≡ NoTransfer → Resets m i → ⊥
-uneventful m i quiet unsent =
-    ⊎-elim
-    (λ (w : told m i .event ≡ WatchdogReset). let z : _≡_ {A = ℕ} 0 1 = cc in omega arith)
-    (λ w. let e : told m i .outcome ≡ Answered Accepted = w .1 in let z : _≡_ {A = ℕ} 0 1 = cc in omega arith)
+unfolding tellsReset tellsWatchdogReset tellsCommandReset
+uneventful m i quiet unsent e = false≢true (rw (quiet, unsent) at e)
 
 module _ (m : Machine) (calm : Calm m) where
   abbrev told-so : Ticked

@@ -123,7 +123,7 @@ module _ (k : ℕ) (rail : ℤ) (limits : Limits) (d : Decoded) (ask : small.Com
   obeyed-stands h (restarted e o r) w = rw r (fresh-stands k h _ _ _)
 
   -- without a reset it is what the small machine does
-  obeyed-seen : DoesAt k rail limits d ask b c → small.InStep (seen k b) → (d ≡ Run SystemReset → c .outcome ≡ Answered Accepted → ⊥) → seen k (c .board) ≡ small.obeyed ask rail limits (seen k b)
+  obeyed-seen : DoesAt k rail limits d ask b c → small.InStep (seen k b) → (c .board ≡ commandResetOf b → ⊥) → seen k (c .board) ≡ small.obeyed ask rail limits (seen k b)
   obeyed-seen (idle e q) h n = moved-seen k b (c .board) (b .phase) q ∙ sym (unmoved rail limits ask (seen k b) (startup-is (modeOf b) e) h)
   obeyed-seen (left e q) h n = rw e (moved-seen k b (c .board) (b .phase) q)
   obeyed-seen (switched e q) h n =
@@ -139,18 +139,13 @@ module _ (k : ℕ) (rail : ℤ) (limits : Limits) (d : Decoded) (ask : small.Com
   obeyed-seen (made-nominal e q) h n =
       let next = leaves (toNominal (b .phase) rail limits) (b .phase) in
       rw e (moved-seen k b (c .board) next q ∙ sym (enters-lit next (seen k b) h (stays-lit (b .phase) (toNominal (b .phase) rail limits) (to-nominal-lit (b .phase) rail limits))))
-  obeyed-seen (restarted e o r) h n = absurd (n e o)
+  obeyed-seen (restarted e o r) h n = absurd (n r)
 
 -- ---- step 5
 unreset : (e : Event) (c : Commanded) → (watchedAs e c .event ≡ WatchdogReset → ⊥) → watchedAs e c .board ≡ c .board
 unreset NoEvent c n = refl
 unreset PeripheralReset c n = refl
 unreset WatchdogReset c n = absurd (n refl)
-
-watched-outcome : (e : Event) (c : Commanded) → watchedAs e c .outcome ≡ c .outcome
-watched-outcome NoEvent c = refl
-watched-outcome PeripheralReset c = refl
-watched-outcome WatchdogReset c = refl
 
 -- ---- the whole tick
 module _ (k : ℕ) (rail : ℤ) (named : ℕ) (words : List ℕ) (sent : Bool) (s : List ℕ) (b : Board) (fe : ForceEnabledBy (b .profile) k) where
@@ -217,12 +212,12 @@ module _ (k : ℕ) (rail : ℤ) (named : ℕ) (words : List ℕ) (sent : Bool) (
         (obeyed-stands k rail own reading ask settled answered (fe .a-channel) does (settled-stands w)) (fresh-stands k (fe .a-channel) _ _ _)
 
     -- without a reset, and where the channel is not named, it is the small machine's
-    pub tick-seen : small.InStep (seen k b) → has named k ≡ false → (after .event ≡ WatchdogReset → ⊥) → (reading ≡ Run SystemReset → after .outcome ≡ Answered Accepted → ⊥)
+    pub tick-seen : small.InStep (seen k b) → has named k ≡ false → (after .event ≡ WatchdogReset → ⊥) → (after .board ≡ commandResetOf settled → ⊥)
         → seen k (after .board) ≡ small.obeyed ask rail own (small.enters next (seen k b))
     tick-seen h e n r =
         let there : seen k settled ≡ small.enters next (seen k b) = settled-seen e in
         let in-step : small.InStep (seen k settled) = subst small.InStep (sym there) (enters-in-step next (seen k b) h) in
-        ap (λ (t : Ticked). seen k (t .board)) after-is
-        ∙ ap (seen k) (unreset event answered (λ w. n (rw after-is w)))
-        ∙ obeyed-seen k rail own reading ask settled answered does in-step (λ d o. r d (rw after-is (watched-outcome event answered ∙ o)))
+        let as-obeyed : after .board ≡ answered .board = ap (λ (t : Ticked). t .board) after-is ∙ unreset event answered (λ w. n (rw after-is w)) in
+        ap (seen k) as-obeyed
+        ∙ obeyed-seen k rail own reading ask settled answered does in-step (λ q. r (as-obeyed ∙ q))
         ∙ ap (small.obeyed ask rail own) there

@@ -8,23 +8,16 @@ use mathlib.Core.Path.{_≡_}
 use Prim.Native.Nat.{ℕ, _<_}
 use mathlib.Core.Bool.{Bool, true, false}
 use mathlib.Core.List.{List}
-use mathlib.Core.Logic.{_⊎_}
 use lib.ListN.{length}
 use Rattle.modes.specs.declared.Limits.{Limits}
 use Rattle.channels.specs.Sets.{has}
-use Rattle.watchdog.specs.declared.Event.the-variants.{WatchdogReset}
 use Rattle.power.specs.Runs.{ends, channel, Stretch}
 use Rattle.power.specs.Claim.{Powered}
-use Rattle.command.specs.Decode.{decodeOf}
-use Rattle.command.specs.declared.Command.the-variants.{SystemReset}
-use Rattle.command.specs.declared.Decoded.the-variants.{Run}
 use Rattle.memory.specs.Limits.{limitsOf}
 use Rattle.state.specs.declared.parts.Profile.{Profile}
-use Rattle.answers.specs.Answers.{headerOf}
-use Rattle.answers.specs.declared.Answer.the-variants.{Accepted}
-use Rattle.answers.specs.declared.Outcome.the-variants.{Answered}
 use Rattle.board.specs.Tick.{allowedCount}
 use Rattle.unit.specs.declared.Machine.{Machine}
+use Rattle.groups.specs.Resets.{tellsReset}
 use Rattle.unit.specs.Runs.{Sample, told, Call, tick, line, afterCall, Reached}
 
 -- ---- what is looked at
@@ -54,9 +47,9 @@ abbrev pub channelOf : ℕ → Machine → List Call → List Bool
 channelOf k m calls = channel afterCall isTick (isOn k) m calls
 
 -- ---- the stretch
--- a tick resets the machine: the watchdog does, or the transfer is a 0xAA with its key and is accepted
+-- a tick resets the machine, by what it tells: a watchdog reset, or a 0xAA that it accepted. `ResetIsTold` of `groups` says that the board then starts over, and only then
 abbrev pub Resets : Machine → Sample → Type 0
-Resets m i = (told m i .event ≡ WatchdogReset) ⊎ ((decodeOf (headerOf (m .board .profile)) (i .transfer) ≡ Run SystemReset) × (told m i .outcome ≡ Answered Accepted))
+Resets m i = tellsReset m i ≡ true
 
 -- a tick without a reset, after which every setting has the value that it had, and which names no force-enabled channel
 pub record Undisturbed (m : Machine) (i : Sample) : Type 0 where
