@@ -1,5 +1,6 @@
 pub mod Calls
 pub mod CommandStep
+pub mod Resetting
 pub mod Profiles
 pub mod PowerCommand
 pub mod PowerTick

@@ -55,6 +55,7 @@ use Rattle.claims.specs.Power.{isOn, ForceEnabledBy, ForceEnabled, chann
 use Rattle.claims.specs.PowerReal.{profile, started, dead}
 use Rattle.claims.specs.PowerNeeded.{Fails, ButReset, ButOvercurrent, PowerNeeded}
 use Rattle.claims.proofs.Profiles.{after-profile}
+use Rattle.claims.proofs.Resetting.{is-a-reset}
 use Rattle.claims.proofs.Power.{numbers}
 use Rattle.claims.proofs.PowerTick.{settled-phase as settled-phase-is, settled-seen}
 use Rattle.claims.proofs.PowerReal.{defaults, accepted, zero-of, zero-forced, started-is, uneventful, Calm, started-calm, still-calm, undisturbed}
@@ -322,4 +323,4 @@ reached =
     }
 
 pub power-needed : PowerNeeded
-power-needed = record { no-reset = without-reset; no-overcurrent = without-overcurrent; none-latched = unlatched; reached = reached }
+power-needed = record { no-reset = without-reset; no-overcurrent = without-overcurrent; none-latched = unlatched; reached = reached; is-a-reset = is-a-reset }

@@ -42,6 +42,7 @@ use Rattle.board.specs.declared.Ticked.{Ticked}
 use Rattle.claims.specs.Power.{ForceEnabledBy}
 use Rattle.claims.specs.Standing.{Stands}
 use Rattle.claims.proofs.Calls.{found, obeyed, happening, tick-is, by-tick}
+use Rattle.claims.proofs.Resetting.{outcome-is}
 use Rattle.claims.proofs.CommandStep.{asked, step}
 use Rattle.claims.proofs.PowerCommand.{Moved, Lit, DoesAt, idle, left, switched, made-safe, made-nominal, restarted, enteredOne, entering, stays-lit, to-safety-lit, to-nominal-lit, at-channel}
 
@@ -147,11 +148,6 @@ unreset NoEvent c n = refl
 unreset PeripheralReset c n = refl
 unreset WatchdogReset c n = absurd (n refl)
 
-watched-outcome : (e : Event) (c : Commanded) → watchedAs e c .outcome ≡ c .outcome
-watched-outcome NoEvent c = refl
-watched-outcome PeripheralReset c = refl
-watched-outcome WatchdogReset c = refl
-
 -- ---- the whole tick
 module _ (k : ℕ) (rail : ℤ) (named : ℕ) (words : List ℕ) (sent : Bool) (s : List ℕ) (b : Board) (fe : ForceEnabledBy (b .profile) k) where
   abbrev own : Limits
@@ -224,5 +220,5 @@ module _ (k : ℕ) (rail : ℤ) (named : ℕ) (words : List ℕ) (sent : Bool) (
         let in-step : small.InStep (seen k settled) = subst small.InStep (sym there) (enters-in-step next (seen k b) h) in
         ap (λ (t : Ticked). seen k (t .board)) after-is
         ∙ ap (seen k) (unreset event answered (λ w. n (rw after-is w)))
-        ∙ obeyed-seen k rail own reading ask settled answered does in-step (λ d o. r d (rw after-is (watched-outcome event answered ∙ o)))
+        ∙ obeyed-seen k rail own reading ask settled answered does in-step (λ d o. r d (rw after-is (outcome-is event answered ∙ o)))
         ∙ ap (small.obeyed ask rail own) there

@@ -4,6 +4,8 @@ use mathlib.Core.Path.{_≡_}
 use Prim.Native.Nat.{ℕ}
 use mathlib.Core.Bool.{false}
 use mathlib.Core.List.{List}
+use Rattle.modes.specs.Table.{entered}
+use Rattle.modes.specs.declared.Mode.the-variants.{Startup}
 use Rattle.channels.specs.Sets.{has}
 use Rattle.power.specs.Claim.{Powered}
 use Rattle.unit.specs.declared.Machine.{Machine}
@@ -38,3 +40,5 @@ pub record PowerNeeded : Type 0 where
   pub none-latched : Fails (λ m. Reached m × AtLeastOne m) Undisturbed
   -- and so does one that is off and not latched, in nominal, where no run leads
   pub reached : Fails (λ m. AtLeastOne m × NoneLatched m) Undisturbed
+  -- and what is taken for a reset is one: startup is just entered
+  pub is-a-reset : (m : Machine) (i : Sample) → Resets m i → told m i .machine .board .phase ≡ entered Startup
