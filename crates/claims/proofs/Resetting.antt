@@ -68,6 +68,7 @@ module _ (m : Machine) (i : Sample) where
       (λ (w : told m i .event ≡ WatchdogReset). let v : NoEvent ≡ WatchdogReset = rw e at w in let z : _≡_ {A = ℕ} 0 1 = cc v in omega arith)
       (λ w. let v : WrongWordCount ≡ Answered Accepted = rw e at (w .1) in let z : _≡_ {A = ℕ} 0 1 = cc v in omega arith)
 
+  -- a tick that happens, of either kind
   happened : isTick (tick i) ≡ true → Resets m i → told m i .machine .board .phase ≡ entered Startup
   unfolding toldOf commandResetOf watchdogResetOf freshOf risenOf changedOf trippedOf
   happened e =
@@ -82,5 +83,6 @@ module _ (m : Machine) (i : Sample) where
       (ap (λ (b : Board). b .phase) (restarting (i .rail) (limitsOf (m .board .memory)) (i .sent) (i .transfer) (found (i .rail) (i .named) (i .words) (i .sent) (i .transfer) (m .board)) (w .0) accepted))
       refl)
 
+  -- any tick
   pub is-a-reset : Resets m i → told m i .machine .board .phase ≡ entered Startup
   is-a-reset r = by-cases (isTick (tick i)) (λ e. happened e r) (λ e. absurd (refused e r))
