@@ -41,6 +41,7 @@ module _ (rail : ℤ) (named : ℕ) (words : List ℕ) (sent : Bool) (s : List �
   abbrev pub happening : Event
   happening = dog.watchedOf (obeyed .board .timer) (dog.secondsInTicks (timeoutOf (obeyed .board .memory)))
 
+  -- the tick is what the watchdog makes of what the command leaves
   pub tick-is : allowedCount (length words) ≡ true → tickOf rail named words sent s b ≡ watchedAs happening obeyed
   unfolding tickOf tickWith watchedIn
   tick-is allowed = rw allowed
@@ -59,6 +60,7 @@ pub record AllButForm (b c : Board) : Type 0 where
   pub form : Form
   pub is : c ≡ withForm form b
 
+-- a read of the text line switches the form, at most
 line-rests : (l : Line) (m : Machine) → AllButForm (m .board) (afterLine l m .board)
 line-rests (Switch form behind) m = record { form = form; is = refl }
 line-rests (Command start end behind) m = record { form = m .board .form; is = refl }
@@ -67,6 +69,7 @@ line-rests (TooLong behind) m = record { form = m .board .form; is = refl }
 line-rests (NotOfForm behind) m = record { form = m .board .form; is = refl }
 line-rests (ScratchTooShort behind) m = record { form = m .board .form; is = refl }
 
+-- a tick that does not happen alters nothing
 pub rests : (m : Machine) (call : Call) → isTick call ≡ false → AllButForm (m .board) (afterCall m call .board)
 unfolding heardOf
 rests m (tick i) e = record { form = m .board .form; is = ap (λ (x : Machine). x .board) (refused-tick-leaves (i .rail) (i .named) (i .words) (i .sent) (i .transfer) m e) }
@@ -74,6 +77,7 @@ rests m (line received room) e = line-rests (lineOf (m .board .form) received ro
 
 -- ---- any calls, and what can be reached
 module _ (P : Board → Type 0) (of-form : (form : Form) (b : Board) → P b → P (withForm form b)) (of-tick : (m : Machine) (i : Sample) → isTick (tick i) ≡ true → P (m .board) → P (told m i .machine .board)) where
+  -- one call
   pub by-call : (m : Machine) (call : Call) → P (m .board) → P (afterCall m call .board)
   by-call m call p = by-cases (isTick call) (ticks call) (λ e. let r = rests m call e in subst P (sym (r .is)) (of-form (r .form) (m .board) p))
     where
@@ -81,11 +85,13 @@ module _ (P : Board → Type 0) (of-form : (form : Form) (b : Board) → P b →
       ticks (tick i) e = of-tick m i e p
       ticks (line received room) e = absurd (false≢true e)
 
+  -- any calls
   pub by-calls : (calls : List Call) (m : Machine) → P (m .board) → P (after m calls .board)
   unfolding after
   by-calls [] m p = p
   by-calls (call ∷ calls) m p = by-calls calls (afterCall m call) (by-call m call p)
 
+-- a start from an accepted profile is a fresh board
 pub begun-is : (there : Machine) (profile : Profile) (store : Store) → keepsTheRules profile store ≡ true → begunOf there profile store .machine .board ≡ freshOf profile store neverReset
 unfolding begunOf startOf
 begun-is there profile store accepted = rw accepted

@@ -99,12 +99,15 @@ nominal-is Safety e = absurd (false≢true e)
 nominal-is Emergency e = absurd (false≢true e)
 
 module _ (rail : ℤ) (limits : Limits) (b : Board) where
+  -- by what the decoded transfer asks for
   abbrev DoesIt : Decoded → Commanded → Type 0
   DoesIt d c = Does rail limits d (asked d) b c
 
+  -- the board itself
   stays : Stays b b
   stays = record { profile = refl; phase = refl; channels = refl }
 
+  -- a refusal alters neither
   refused : (a : Answer) (code : ℕ) → Stays b (refusedOf a code b .board)
   unfolding refusedOf
   refused a code = record { profile = refl; phase = refl; channels = refl }
@@ -119,10 +122,12 @@ module _ (rail : ℤ) (limits : Limits) (b : Board) where
   unfolding acceptedWith
   remembers reply x = record { profile = refl; phase = refl; channels = refl }
 
+  -- a save stores the settings, or is refused for its checksum
   saved : (code given : ℕ) → Stays b (savedIn code given b .board)
   unfolding savedIn rememberedOf acceptedOf
   saved code given = by-cases (savedOf given (b .memory) .right) (λ e. rw e (remembers _ (savedOf given (b .memory) .memory))) (λ e. rw e (refused Answer.Wrong code))
 
+  -- accepted, with these channels put in place
   takes : (code : ℕ) (s : Channels) → Becomes (b .phase) s b (acceptedOf code (withChannels s b) .board)
   unfolding acceptedOf acceptedWith
   takes code s = record { profile = refl; phase = refl; channels = refl }
@@ -141,10 +146,12 @@ module _ (rail : ℤ) (limits : Limits) (b : Board) where
   switched-mode code (change.Commanded.Accepted next) = record { profile = refl; phase = refl; channels = refl }
   switched-mode code change.Commanded.Unavailable = refused Answer.NotAvailable code
 
+  -- 0x50 forgets that the words are new
   measured : (reply : Reply) → Stays b (acceptedWith reply (withMeasured (seen (b .measured)) b) .board)
   unfolding acceptedWith
   measured reply = record { profile = refl; phase = refl; channels = refl }
 
+  -- every command of the list
   run : (code : ℕ) (c : Command) → DoesIt (Run c) (runOf rail limits code c b)
   unfolding runOf groupOnOf groupOffOf groupStateOf channelOnOf channelOffOf cancelledOf faultsOf housekeepingOf parameterOf rememberedOf restartedOf acceptedOf
   run code (Command.GroupOn g) = switched _ refl code _ (of-channels.group-on (g .spoken) (g .mask))
@@ -178,6 +185,7 @@ module _ (rail : ℤ) (limits : Limits) (b : Board) where
   turned-down code Refusal.WrongParameter = leaves-both refl (refused Answer.Wrong code)
   turned-down code Refusal.NotANumber = leaves-both refl (refused Answer.Wrong code)
 
+  -- run or refused
   decoded : (code : ℕ) (d : Decoded) → DoesIt d (decodedOf rail limits code d b)
   unfolding decodedOf
   decoded code (Run c) = run code c
@@ -188,10 +196,12 @@ module _ (rail : ℤ) (limits : Limits) (b : Board) where
     abbrev reading : Decoded
     reading = decodeOf (headerOf (b .profile)) s
 
+    -- fewer than four bytes are no command
     too-short : fewerThanFour s ≡ true → reading ≡ Refused Refusal.FewerThanFourBytes
     unfolding decodeOf decodeBy
     too-short short = rw short
 
+    -- a transfer, by the checks before the decoder
     transferred : DoesIt reading (transferredOf rail limits s b)
     unfolding transferredOf
     transferred =
@@ -199,6 +209,7 @@ module _ (rail : ℤ) (limits : Limits) (b : Board) where
         (λ short. rw (short, too-short short) (leaves-both refl stays))
         (λ long. by-cases (isStartup (modeOf b)) (λ e. rw (long, e) (idles e stays)) (λ e. rw (long, e) (decoded (codeOf s) reading)))
 
+    -- no transfer, or one
     pub step : (sent : Bool) → Does rail limits reading (cond sent (asked reading) small.other) b (commandedOf rail limits sent s b)
     unfolding commandedOf
     step true = transferred

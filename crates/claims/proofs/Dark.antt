@@ -48,9 +48,11 @@ module _ (k : ℕ) (h : k < 32) where
   entering-off before next p s dark = rw dark (ap (λ (x : Chan). x .on) (of-channels.each (p .fitted) (p .forced) of-channels.emergency-entered s k h))
 
   -- ---- step 4
+  -- where mode and channels stay, so does this
   stays : (b c : Board) → Stays b c → OffInTheDark k b → OffInTheDark k c
   stays b c q w = rw (q .phase, q .channels) w
 
+  -- a change of mode that leads into the dark turns every channel off
   changed : (x : change.Commanded) (b c : Board) → Changes x b c → OffInTheDark k b → OffInTheDark k c
   changed (change.Commanded.Accepted next) b c q w = rw (q .phase, q .channels) (λ d. entering-off (modeOf b) (next .mode) (b .profile) (b .channels) d)
   changed change.Commanded.Unavailable b c q w = stays b c q w
@@ -60,6 +62,7 @@ module _ (k : ℕ) (h : k < 32) where
   still-off true x e = refl
   still-off false x e = e
 
+  -- so a channel that is off stays off by it
   cancelled : (b c : Board) → Becomes (b .phase) (obeying of-channels.command-enabled-off b) b c → OffInTheDark k b → OffInTheDark k c
   cancelled b c q w =
       rw (q .phase, q .channels)
@@ -72,6 +75,7 @@ module _ (k : ℕ) (h : k < 32) where
   unfolding isDark
   lit b c s n q = rw (q .phase, n) (λ d. absurd (false≢true d))
 
+  -- whatever the step does
   done : (rail : ℤ) (limits : Limits) (d : Decoded) (ask : small.Command) (b : Board) (c : Commanded) → Does rail limits d ask b c → OffInTheDark k b → OffInTheDark k (c .board)
   unfolding commandResetOf
   done rail limits d ask b c (idles e q) w = stays b (c .board) q w
@@ -83,6 +87,7 @@ module _ (k : ℕ) (h : k < 32) where
   done rail limits d ask b c (to-nominal e q) w = changed (toNominal (b .phase) rail limits) b (c .board) q w
   done rail limits d ask b c (restarts e o r) w = rw r (fresh-off _ _ _)
 
+  -- the whole step
   commanded : (rail : ℤ) (limits : Limits) (sent : Bool) (s : List ℕ) (b : Board) → OffInTheDark k b → OffInTheDark k (commandedOf rail limits sent s b .board)
   commanded rail limits sent s b = done rail limits _ _ b _ (step rail limits b s sent)
 
@@ -90,6 +95,7 @@ module _ (k : ℕ) (h : k < 32) where
   untripped : (named : Bool) (x : Chan) → x .on ≡ false → overcurrentOne named x .on ≡ false
   untripped named x e = rw (e, and-false named)
 
+  -- the mode that the table leads to decides
   settled-off : (limits : Limits) (rail : ℤ) (named : ℕ) (words : List ℕ) (b : Board) → OffInTheDark k (trippedOf named (changedOf rail limits (risenOf words b)))
   unfolding trippedOf changedOf risenOf
   settled-off limits rail named words b d =
@@ -97,6 +103,7 @@ module _ (k : ℕ) (h : k < 32) where
       ap (λ (x : Chan). x .on) (of-channels.each (b .profile .fitted) (b .profile .forced) (of-channels.overcurrent named) entered k h)
       ∙ untripped (has named k) (chan entered k) (entering-off (olderOf (b .phase) .mode) (stepOf (olderOf (b .phase)) rail limits .mode) (b .profile) (b .channels) d)
 
+  -- the whole tick
   pub after-a-tick : (m : Machine) (i : Sample) → isTick (tick i) ≡ true → OffInTheDark k (told m i .machine .board)
   unfolding toldOf watchdogResetOf
   after-a-tick m i happens =
@@ -104,8 +111,10 @@ module _ (k : ℕ) (h : k < 32) where
       (commanded (i .rail) (limitsOf (m .board .memory)) (i .sent) (i .transfer) _ (settled-off (limitsOf (m .board .memory)) (i .rail) (i .named) (i .words) (m .board)))
       (fresh-off _ _ _)
 
+  -- every machine that can be reached
   reached : (m : Machine) → Reached m → OffInTheDark k (m .board)
   reached m r = by-reach (OffInTheDark k) (λ profile store. fresh-off profile store neverReset) (λ form b w. w) (λ x i happens w. after-a-tick x i happens) m r
 
+-- the claim
 pub dark : Dark
 dark = record { after-a-tick = after-a-tick; reached = reached }

@@ -54,10 +54,12 @@ brings memory rail command =
       command = command;
     }
 
+-- by the call: the rail, and what the transfer asks for
 abbrev pub input : Machine → Call → small.Input
 input m (tick i) = brings (m .board .memory) (i .rail) (cond (i .sent) (asked (decodeOf (headerOf (m .board .profile)) (i .transfer))) small.other)
 input m (line received room) = brings (m .board .memory) (pos 0) small.other
 
+-- what the small machine sees of channel k
 abbrev pub small-of : ℕ → Machine → small.State
 small-of k m = seen k (m .board)
 
@@ -79,6 +81,7 @@ told-by-command : (m : Machine) (i : Sample) (b : Board) → happens i ≡ true 
 told-by-command m i b e q = reset-is-told m i .exactly e ∙ ap startsOver q ∙ starts-over b
 
 module _ (k : ℕ) where
+  -- a tick that spares channel k is a tick of the small machine
   ticks : (m : Machine) (call : Call) → InTouch k m → AtTicks (Spared k) m call → isTick call ≡ true → small-of k (afterCall m call) ≡ small.tick times (small-of k m) (input m call)
   unfolding toldOf limitsOf small.tick
   ticks m (tick i) h a e =
@@ -87,9 +90,11 @@ module _ (k : ℕ) where
       (λ w. spared .no-reset (told-by-watchdog m i w)) (λ q. spared .no-reset (told-by-command m i _ e q))
   ticks m (line received room) h a e = absurd (false≢true e)
 
+  -- a call that is no tick does nothing to it
   unchanged : (m : Machine) (call : Call) → isTick call ≡ false → small-of k (afterCall m call) ≡ small-of k m
   unchanged m call e = ap (seen k) (rests m call e .is)
 
+  -- so the channel stays in touch
   kept : (m : Machine) (call : Call) → InTouch k m → AtTicks (Spared k) m call → InTouch k (afterCall m call)
   kept m call h a =
       record {
@@ -100,6 +105,7 @@ module _ (k : ℕ) where
             (λ e. subst small.InStep (sym (unchanged m call e)) (h .in-step));
       }
 
+  -- the small machine is simulated
   simulates : Simulates afterCall isTick (small.tick times) (InTouch k) (AtTicks (Spared k)) (small-of k) input
   simulates = record { kept = kept; ticks = ticks; rests = unchanged }
 
@@ -107,6 +113,7 @@ module _ (k : ℕ) where
   pub in-touch : (m : Machine) → Reached m → ForceEnabled k m → Unlatched k m → InTouch k m
   in-touch m r fe u = record { force-enabled = fe; in-step = standing k m r fe ∙ by-cases (isLit (modeOf (m .board))) (λ e. rw (u e, e)) (λ e. rw e) }
 
+  -- and its claim is inherited
   powered-from : (m : Machine) → InTouch k m → (calls : List Call) → EachTick (Spared k) m calls → Powered (times .linger) (times .period) (channelOf k m calls)
   powered-from m h calls a =
       inherits afterCall isTick (small.tick times) (InTouch k) (AtTicks (Spared k)) (small-of k) input simulates (λ x. x .on) (Powered (times .linger) (times .period)) m
@@ -122,6 +129,7 @@ module _ (k : ℕ) where
 alike : (j k : ℕ) (m : Machine) → InTouch j m → InTouch k m → small-of j m ≡ small-of k m
 alike j k m g h = ap (λ (o : Bool). record { phase = m .board .phase; on = o }) (g .in-step ∙ sym (h .in-step))
 
+-- so they have one list
 together : (j k : ℕ) (m : Machine) → InTouch j m → InTouch k m → (calls : List Call) → EachTick (Spared j) m calls → EachTick (Spared k) m calls → channelOf j m calls ≡ channelOf k m calls
 together j k m g h calls a b =
     same-line j m g calls a
@@ -138,6 +146,7 @@ lasts k m h calls a =
       powered-by-ends = of-small.looser (times .linger) _ (times .period) _ (omega arith) (omega arith) (of-small.without-first p);
     }
 
+-- the claim for one channel
 pub power-of-one : PowerOfOne
 power-of-one =
     record {
@@ -154,6 +163,7 @@ spares-each k (call ∷ calls) m fe a = (one call (a .0), spares-each k calls (a
     one (tick i) a = λ e. record { no-reset = a e .no-reset; no-overcurrent = a e .no-overcurrent k fe }
     one (line received room) a = tt
 
+-- the demand
 pub power : Power
 power m r some unlatched calls a =
     record {

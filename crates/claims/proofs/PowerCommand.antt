@@ -61,15 +61,19 @@ abbrev pub enteredOne : Mode → Mode → Chan → Chan
 enteredOne before after ch = cond (small.isLit after) (cond (small.isLit before) ch (onAndCleared ch)) (offAndLatchKept ch)
 
 module _ (p : Profile) (k : ℕ) (fe : ForceEnabledBy p k) (s : Channels) where
+  -- when a dark mode is left it comes on, with no latch
   forced-on : chan (forcedOn (p .fitted) (p .forced) s) k ≡ onAndCleared (chan s k)
   forced-on = of-channels.each (p .fitted) (p .forced) of-channels.forced-come-on s k (fe .a-channel) ∙ rw (fe .fitted, fe .forced)
 
+  -- in a dark mode it is off, its latch kept
   all-off : chan (allOff s) k ≡ offAndLatchKept (chan s k)
   all-off = of-channels.each (p .fitted) (p .forced) of-channels.emergency-entered s k (fe .a-channel)
 
+  -- from nominal to safety, and by 0x04, only the others go off
   others-off : chan (commandEnabledOff (p .fitted) (p .forced) s) k ≡ chan s k
   others-off = of-channels.command-untouched (p .fitted) (p .forced) of-channels.command-enabled-off s k (fe .a-channel) (rw (fe .fitted, fe .forced))
 
+  -- by the mode before and the mode after
   pub entering : (before after : Mode) → chan (enteringOf before after p s) k ≡ enteredOne before after (chan s k)
   unfolding enteringOf isDark fromNominalToSafety
   entering before Startup = all-off
@@ -100,36 +104,43 @@ module _ (p : Profile) (k : ℕ) (fe : ForceEnabledBy p k) (s : Channels) where
 
 -- ---- 0x30 and 0x32 lead from a lit mode to a lit one, if anywhere
 module _ (s : ModeAge) where
+  -- where a change is accepted, the mode was lit and is lit
   abbrev pub BothLit : change.Commanded → Type 0
   BothLit (change.Commanded.Accepted next) = (small.isLit (s .mode) ≡ true) × (small.isLit (next .mode) ≡ true)
   BothLit change.Commanded.Unavailable = Unit {0}
 
+  -- 0x32 is accepted in nominal and safety alone
   safety-lit : (m : Mode) → s .mode ≡ m → BothLit (toSafetyFrom m s)
   safety-lit Startup e = tt
   safety-lit Nominal e = (rw e, refl)
   safety-lit Safety e = (rw e, rw e)
   safety-lit Emergency e = tt
 
+  -- of any phase
   pub to-safety-lit : BothLit (toSafety s)
   unfolding toSafety
   to-safety-lit = safety-lit (s .mode) refl
 
+  -- 0x30 is accepted in nominal, and in safety by the rail
   nominal-lit : (m : Mode) (rail : ℤ) (limits : Limits) → s .mode ≡ m → BothLit (toNominalFrom m s rail limits)
   nominal-lit Startup rail limits e = tt
   nominal-lit Nominal rail limits e = (rw e, rw e)
   nominal-lit Safety rail limits e = by-cases (rail at-least limits .«safety_low») (λ d. rw d (rw e, refl)) (λ d. rw d tt)
   nominal-lit Emergency rail limits e = tt
 
+  -- of any phase
   pub to-nominal-lit : (rail : ℤ) (limits : Limits) → BothLit (toNominal s rail limits)
   unfolding toNominal
   to-nominal-lit rail limits = nominal-lit (s .mode) rail limits refl
 
+  -- so neither command leads into the dark or out of it
   pub stays-lit : (x : change.Commanded) → BothLit x → small.isLit (leaves x s .mode) ≡ small.isLit (s .mode)
   stays-lit (change.Commanded.Accepted next) lit = lit .1 ∙ sym (lit .0)
   stays-lit change.Commanded.Unavailable lit = refl
 
 -- ---- the step at channel k
 module _ (k : ℕ) (b : Board) (fe : ForceEnabledBy (b .profile) k) where
+  -- channels in which channel k is as it was
   moved : (next : ModeAge) (s : Channels) (c : Board) → Becomes next s b c → chan s k ≡ chan (b .channels) k → Moved k next b c
   moved next s c q e =
       record {
@@ -138,6 +149,7 @@ module _ (k : ℕ) (b : Board) (fe : ForceEnabledBy (b .profile) k) where
         latched = ap (λ (x : Channels). has (x .latched) k) (q .channels) ∙ ap (λ (x : Chan). x .latched) e;
       }
 
+  -- channels in which channel k was switched on
   lighted : (s : Channels) (c : Board) → modeOf b ≡ Nominal → Becomes (b .phase) s b c → chan s k ≡ onAndCleared (chan (b .channels) k) → Lit k b c
   lighted s c n q e =
       record {
@@ -147,13 +159,16 @@ module _ (k : ℕ) (b : Board) (fe : ForceEnabledBy (b .profile) k) where
         unlatched = ap (λ (x : Channels). has (x .latched) k) (q .channels) ∙ ap (λ (x : Chan). x .latched) e;
       }
 
+  -- nothing moved at all
   stays : (c : Board) → Stays b c → Moved k (b .phase) b c
   stays c q = moved (b .phase) (b .channels) c q refl
 
+  -- a change between lit modes leaves the channel
   changed : (x : change.Commanded) (c : Board) → BothLit (b .phase) x → Changes x b c → Moved k (leaves x (b .phase)) b c
   changed (change.Commanded.Accepted next) c lit q = moved next _ c q (entering (b .profile) k fe (b .channels) (modeOf b) (next .mode) ∙ rw (lit .0, lit .1))
   changed change.Commanded.Unavailable c lit q = stays c q
 
+  -- the law of the command step, at channel k
   pub at-channel : (rail : ℤ) (limits : Limits) (d : Decoded) (ask : small.Command) (c : Commanded) → Does rail limits d ask b c → DoesAt k rail limits d ask b c
   at-channel rail limits d ask c (idles e q) = idle e (stays (c .board) q)
   at-channel rail limits d ask c (leaves-both e q) = left e (stays (c .board) q)

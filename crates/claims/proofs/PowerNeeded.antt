@@ -3,7 +3,6 @@ use Prim.Native.Nat.{ℕ, zero, suc, _+_, _≤_}
 use mathlib.Core.Path.{_≡_, refl, sym, ap, _∙_, subst}
 use mathlib.Core.Bool.{Bool, true, false, false≢true, and-false}
 use mathlib.Core.List.{List, [], _∷_, _++_, append-nil}
-use mathlib.Core.Logic.{_⊎_, ⊎-elim}
 use native.Mathlib.Omega.{arith}
 use lib.IntN.{ℤ, pos}
 use lib.ListN.{replicate, length-replicate}
@@ -18,7 +17,7 @@ use Rattle.channels.specs.Operations.{overcurrentAt, allOff, forcedOn, commandE
 use Rattle.channels.proofs.Sets.{has-none}
 use Rattle.channels.proofs.Laws.{cleared-each}
 use Rattle.watchdog.specs.Watchdog as dog
-use Rattle.watchdog.specs.declared.Event.the-variants.{NoEvent, WatchdogReset}
+use Rattle.watchdog.specs.declared.Event.the-variants.{NoEvent}
 use Rattle.settings.specs.Table.{lies, rowOf, find, readWriteRows, readOnlyRows, parameterOf, column, defaultOf, clampOf, atLeast, atMost, lowOf, highOf}
 use Rattle.settings.specs.Values.{numberOf, defaultsOf, defaultN}
 use Rattle.watchdog.proofs.Laws.{disabled, early}
@@ -29,7 +28,7 @@ use Rattle.power.proofs.Tight.{all-off}
 use Rattle.command.specs.Table as codes
 use Rattle.command.specs.Codes.{isIn, baseCodes}
 use Rattle.command.specs.Decode.{fewerThanFour, headerIs, carried, listed, decodeBy, decodeOf}
-use Rattle.command.specs.declared.Command.the-variants.{NoOperation, SystemReset}
+use Rattle.command.specs.declared.Command.the-variants.{NoOperation}
 use Rattle.command.specs.declared.Decoded.the-variants.{Run}
 use Rattle.memory.specs.Memory.{emptyStore, loadedFrom}
 use Rattle.memory.specs.Limits.{safetyLow, safetyHigh, timeoutOf, limitsOf}
@@ -77,9 +76,11 @@ tripping = record { rail = pos 0; named = 1; words = []; sent = false; transfer 
 abbrev bright : ℕ → Sample
 bright named = record { rail = pos 20000; named = named; words = []; sent = false; transfer = [] }
 
+-- 50 such ticks lead to nominal, and the next takes channel 0 off
 abbrev before : List Call
 before = replicate 50 (tick (bright 0)) ++ (tick (bright 1) ∷ [])
 
+-- nominal, with channel 0 off and latched
 abbrev latched-off : Machine
 latched-off = after started before
 
@@ -96,6 +97,7 @@ record Computed : Type 0 where
   latched-memory : latched-off .board .memory ≡ defaults
   latched-off : isOn 0 latched-off ≡ false
 
+-- by computation alone
 computed : Computed
 unfolding after begunOf startOf keepsTheRules isWithin allBelow has setOf listOf whole overcurrentAt allOff forcedOn commandEnabledOff cleared freshOf neverReset loadedFrom emptyStore toldOf tickOf tickWith allowedCount broughtBy risenOf changedOf trippedOf watchedIn commandedOf isDark fromNominalToSafety leavesEmergency enteringOf timerAfter resetsAfter dog.risenOf dog.watchedOf timeoutOf limitsOf safetyLow safetyHigh numberOf parameterOf rowOf find readWriteRows readOnlyRows lies defaultsOf defaultN column defaultOf clampOf atLeast atMost lowOf highOf stepOf olderOf transferredOf decodedOf isStartup decodeOf decodeBy fewerThanFour headerIs isIn baseCodes listed carried codes.find codes.table runOf restartedOf commandResetOf byCommand
 computed =
@@ -116,17 +118,21 @@ computed =
 forced-after : (calls : List Call) → ForceEnabled 0 (after started calls)
 forced-after calls = subst (λ (p : Profile). ForceEnabledBy p 0) (sym (after-profile calls started)) zero-forced
 
+-- what calls lead to from the start is reached
 reached-by : (calls : List Call) → Reached (after started calls)
 reached-by calls = record { there = noMachine; profile = profile; store = emptyStore; accepted = accepted; past = calls; is = refl }
 
+-- ticks of a rail at 0 mV leave the machine calm
 calm-after : (n : ℕ) (m : Machine) → Calm m → Calm (after m (replicate n dead))
 unfolding after
 calm-after zero m calm = calm
 calm-after (suc n) m calm = calm-after n (afterCall m dead) (still-calm m calm)
 
+-- so it is one tick before startup ends
 nearly-calm : Calm nearly
 nearly-calm = calm-after 49 started started-calm
 
+-- and nothing is latched then
 nearly-unlatched : NoneLatched nearly
 nearly-unlatched k fe = rw (computed .none-latched) (has-none k)
 
@@ -135,6 +141,7 @@ too-short : (m : Machine) (calls : List Call) → channelOf 0 m calls ≡ false 
 unfolding limitsOf
 too-short m calls e d = false≢true (d .on-for-long .shown [] (false ∷ []) e .1 .0)
 
+-- on, and reset in the next tick
 pub without-reset : Fails (λ m. Reached m × AtLeastOne m × NoneLatched m) ButReset
 without-reset =
     record {
@@ -150,6 +157,7 @@ without-reset =
       fails = too-short nearly (dead ∷ tick restart ∷ []) (computed .restart-line);
     }
 
+-- on, and tripped in the next tick
 pub without-overcurrent : Fails (λ m. Reached m × AtLeastOne m × NoneLatched m) ButOvercurrent
 without-overcurrent =
     record {
@@ -187,15 +195,18 @@ accepts-noop : (rail : ℤ) (limits : Limits) (b : Board) → modeOf b ≡ Nomin
 unfolding commandedOf transferredOf decodedOf isStartup decodeOf decodeBy fewerThanFour headerIs isIn baseCodes listed carried codes.find codes.table runOf
 accepts-noop rail limits b nominal of = rw (nominal, ap (λ (p : Profile). p .bid) of)
 
+-- to this board the bytes are a NOOP
 reads-noop : (p : Profile) → p ≡ profile → decodeOf (headerOf p) (fed .transfer) ≡ Run NoOperation
 unfolding decodeOf decodeBy fewerThanFour headerIs isIn baseCodes listed carried codes.find codes.table
 reads-noop p of = rw of
 
+-- the timer that it leaves is 0, so nothing happens
 noop-watched : (b : Board) → watchedIn (acceptedOf 0x02 b) ≡ watchedAs NoEvent (acceptedOf 0x02 b)
 unfolding watchedIn acceptedOf acceptedWith
 noop-watched b = rw (at-zero (dog.secondsInTicks (timeoutOf (b .memory))))
 
 module _ (b : Board) (nominal : modeOf b ≡ Nominal) (kept : b .memory ≡ defaults) (of : b .profile ≡ profile) where
+  -- the board after steps 1 to 3
   abbrev settled : Board
   settled = trippedOf 0 (changedOf (pos 20000) (limitsOf (b .memory)) (risenOf [] b))
 
@@ -204,9 +215,11 @@ module _ (b : Board) (nominal : modeOf b ≡ Nominal) (kept : b .memory ≡ defa
   unfolding trippedOf changedOf risenOf
   phase-is = nominal-step (olderOf (b .phase)) (pos 20000) (limitsOf (b .memory)) (older-mode (b .phase) ∙ nominal) ∙ rw (ap limitsOf kept ∙ default-limits)
 
+  -- so the mode is nominal
   mode-is : modeOf settled ≡ Nominal
   mode-is = ap (λ (s : ModeAge). s .mode) phase-is ∙ older-mode (b .phase) ∙ nominal
 
+  -- the profile and the settings stay
   settled-profile : settled .profile ≡ profile
   unfolding trippedOf changedOf risenOf
   settled-profile = of
@@ -222,19 +235,23 @@ module _ (b : Board) (nominal : modeOf b ≡ Nominal) (kept : b .memory ≡ defa
       let next-is : stepOf (olderOf (b .phase)) (pos 20000) (limitsOf (b .memory)) .mode ≡ Nominal = ap (λ (s : ModeAge). s .mode) (sym (settled-phase-is 0 (pos 20000) 0 [] true (fed .transfer) b fe)) ∙ mode-is in
       ap (λ (s : small.State). s .on) (settled-seen 0 (pos 20000) 0 [] true (fed .transfer) b fe (has-none 0)) ∙ rw (next-is, nominal) off
 
+  -- so the tick ends with the NOOP accepted
   ticking : tickOf (pos 20000) 0 [] true (fed .transfer) b ≡ watchedAs NoEvent (acceptedOf 0x02 settled)
   unfolding tickOf tickWith watchedIn allowedCount
   ticking = ap watchedIn (accepts-noop (pos 20000) (limitsOf (b .memory)) settled mode-is settled-profile) ∙ noop-watched settled
 
 -- ---- the stretch
 module _ (m : Machine) (stuck : Stuck m) where
+  -- the board that the NOOP finds
   abbrev rested : Board
   rested = settled (m .board) (stuck .nominal) (stuck .kept) (stuck .of)
 
+  -- what the tick tells
   telling : toldOf (pos 20000) 0 [] true (fed .transfer) m ≡ toldBy (watchedAs NoEvent (acceptedOf 0x02 rested)) (m .due)
   unfolding toldOf
   telling = ap (λ (t : Ticked). toldBy t (m .due)) (ticking (m .board) (stuck .nominal) (stuck .kept) (stuck .of))
 
+  -- the machine is stuck as before
   still-stuck : Stuck (afterCall m (tick fed))
   unfolding acceptedOf acceptedWith
   still-stuck =
@@ -246,6 +263,7 @@ module _ (m : Machine) (stuck : Stuck m) where
         off = settled-off (m .board) (stuck .nominal) (stuck .kept) (stuck .of) (stuck .off);
       })
 
+  -- and the tick meets every premise of the demand
   fed-undisturbed : Undisturbed m fed
   unfolding acceptedOf acceptedWith tellsReset tellsWatchdogReset tellsCommandReset
   fed-undisturbed =
@@ -257,6 +275,7 @@ module _ (m : Machine) (stuck : Stuck m) where
         no-overcurrent = λ k fe. has-none k;
       }
 
+-- so does each of n such ticks
 stuck-ticks : (n : ℕ) (m : Machine) → Stuck m → EachTick Undisturbed m (replicate n (tick fed))
 stuck-ticks zero m stuck = tt
 stuck-ticks (suc n) m stuck = (λ e. fed-undisturbed m stuck, stuck-ticks n (afterCall m (tick fed)) (still-stuck m stuck))
@@ -267,6 +286,7 @@ unfolding allowedCount
 stuck-line zero m stuck = rw (stuck .off)
 stuck-line (suc n) m stuck = rw (stuck .off) (ap (λ (l : List Bool). false ∷ l) (stuck-line n (afterCall m (tick fed)) (still-stuck m stuck)))
 
+-- that is n ticks and the state before them
 off-for : (n most : ℕ) (m : Machine) → Stuck m → OffAtMost most (channelOf 0 m (replicate n (tick fed))) → suc n ≤ most
 off-for n most m stuck h =
     omega (arith, h .shown [] (replicate (suc n) false) [] (stuck-line n m stuck ∙ sym (append-nil (replicate (suc n) false))) (all-off (suc n)), length-replicate (suc n) false)
@@ -275,10 +295,12 @@ off-for n most m stuck h =
 too-long : (m : Machine) → Stuck m → Powered (limits m .linger) (limits m .period) (channelOf 0 m (replicate 60000 (tick fed))) → ⊥
 too-long m stuck d = omega (arith, off-for 60000 (mostOff (limits m .period)) m stuck (d .never-off-long), numbers m .0)
 
+-- the machine with the latch is stuck
 latched-stuck : Stuck latched-off
 unfolding freshOf
 latched-stuck = record { nominal = computed .latched-mode; kept = computed .latched-memory; of = after-profile before started ∙ ap (λ (b : Board). b .profile) started-is; off = computed .latched-off }
 
+-- a latched channel stays off
 pub unlatched : Fails (λ m. Reached m × AtLeastOne m) Undisturbed
 unlatched =
     record {
@@ -295,18 +317,22 @@ unlatched =
 abbrev made-up : Machine
 made-up = record { board = withPhase (entered Nominal) (freshOf profile emptyStore neverReset); due = Nothing }
 
+-- it is stuck as well
 made-up-stuck : Stuck made-up
 unfolding freshOf loadedFrom emptyStore
 made-up-stuck = record { nominal = refl; kept = refl; of = refl; off = ap (λ (x : Chan). x .on) (cleared-each 0 (omega arith)) }
 
+-- its channel 0 is force-enabled
 made-up-forced : ForceEnabled 0 made-up
 unfolding freshOf
 made-up-forced = zero-of
 
+-- and none of its channels is latched
 made-up-unlatched : NoneLatched made-up
 unfolding freshOf
 made-up-unlatched k fe = ap (λ (x : Chan). x .latched) (cleared-each k (fe .a-channel))
 
+-- a channel stays off that no run would leave so
 pub reached : Fails (λ m. AtLeastOne m × NoneLatched m) Undisturbed
 reached =
     record {
@@ -319,5 +345,6 @@ reached =
       fails = too-long made-up made-up-stuck;
     }
 
+-- the claim
 pub power-needed : PowerNeeded
 power-needed = record { no-reset = without-reset; no-overcurrent = without-overcurrent; none-latched = unlatched; reached = reached }

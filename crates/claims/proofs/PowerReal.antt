@@ -3,7 +3,6 @@ use Prim.Native.Nat.{ℕ, zero, suc, _+_, _^_, _-_, _≤_, min}
 use mathlib.Core.Path.{_≡_, refl, sym, ap, _∙_, subst}
 use mathlib.Core.Bool.{Bool, true, false, false≢true}
 use mathlib.Core.List.{List, [], _∷_}
-use mathlib.Core.Logic.{_⊎_, ⊎-elim}
 use native.Mathlib.Omega.{arith}
 use borrow.Author.Tests.{ltb-false}
 use lib.IntN.{pos}
@@ -18,7 +17,7 @@ use Rattle.channels.specs.Chan.{Chan}
 use Rattle.channels.proofs.Sets.{has-none}
 use Rattle.channels.proofs.Laws.{cleared-each}
 use Rattle.watchdog.specs.Watchdog as dog
-use Rattle.watchdog.specs.declared.Event.the-variants.{NoEvent, WatchdogReset}
+use Rattle.watchdog.specs.declared.Event.the-variants.{NoEvent}
 use Rattle.watchdog.proofs.Laws.{early}
 use Rattle.power.specs.Machine as small
 use Rattle.power.proofs.Step.{by-cases}
@@ -32,8 +31,7 @@ use Rattle.state.specs.Parts.{modeOf}
 use Rattle.state.specs.Change.{isDark, timerAfter}
 use Rattle.state.specs.declared.parts.Board.{Board}
 use Rattle.state.specs.Start.{freshOf, neverReset, keepsTheRules, startOf}
-use Rattle.answers.specs.declared.Answer.the-variants.{Accepted}
-use Rattle.answers.specs.declared.Outcome.the-variants.{NoTransfer, Answered}
+use Rattle.answers.specs.declared.Outcome.the-variants.{NoTransfer}
 use Rattle.commands.specs.Step.{commandedOf}
 use Rattle.board.specs.Tick.{risenOf, changedOf, trippedOf, watchedIn, tickWith, allowedCount, tickOf}
 use Rattle.board.specs.declared.Ticked.{Ticked}
@@ -53,6 +51,7 @@ use Rattle.claims.proofs.Power.{numbers, times, input, small-of, in-tou
 abbrev pub defaults : Memory
 defaults = withDefaults emptyStore
 
+-- linger, the emergency period and the thresholds by default
 abbrev default : Limits
 default = record { linger = 6000; period = 60000; «safety_low» = pos 12400; «safety_high» = pos 14000; «emergency_low» = pos 12000; «emergency_high» = pos 12400 }
 
@@ -68,6 +67,7 @@ Rests Emergency age timer = timer ≡ 0
 abbrev aged : ModeAge → ModeAge
 aged s = stepOf (olderOf s) (pos 0) default
 
+-- and the timer
 abbrev timed : ModeAge → ℕ → ℕ
 timed s timer = timerAfter (olderOf s .mode) (aged s .mode) (dog.risenOf timer)
 
@@ -81,6 +81,7 @@ rests-on Safety age timer h =
     (λ e. rw e (omega (arith, ltb-false 6000 (min (age + 1) (2 ^ 64 - 1)) e)))
 rests-on Emergency age timer h = by-cases (min (age + 1) (2 ^ 64 - 1) reaches 60000) (λ e. rw e (omega arith)) (λ e. rw e refl)
 
+-- so the timer is never above 6,000
 rests-low : (m : Mode) (age timer : ℕ) → Rests m age timer → timer ≤ 6000
 rests-low Startup age timer h = omega arith
 rests-low Nominal age timer h = absurd h
@@ -92,13 +93,16 @@ module _ (b : Board) (kept : b .memory ≡ defaults) (rests : Rests (modeOf b) (
   abbrev settled : Board
   settled = trippedOf 0 (changedOf (pos 0) (limitsOf (b .memory)) (risenOf [] b))
 
+  -- the limits are the defaults
   own : limitsOf (b .memory) ≡ default
   own = ap limitsOf kept ∙ default-limits
 
+  -- the timer rests after the tick too
   settled-rests : Rests (modeOf settled) (settled .phase .age) (settled .timer)
   unfolding trippedOf changedOf risenOf
   settled-rests = rw own (rests-on (modeOf b) (b .phase .age) (b .timer) rests)
 
+  -- the settings stay
   settled-memory : settled .memory ≡ defaults
   unfolding trippedOf changedOf risenOf
   settled-memory = kept
@@ -129,16 +133,20 @@ unfolding tellsReset tellsWatchdogReset tellsCommandReset
 uneventful m i quiet unsent e = false≢true (rw (quiet, unsent) at e)
 
 module _ (m : Machine) (calm : Calm m) where
+  -- what the tick comes to
   abbrev told-so : Ticked
   told-so = record { board = settled (m .board) (calm .kept) (calm .rests); outcome = NoTransfer; event = NoEvent; replied = false }
 
+  -- what it tells
   telling : toldOf (pos 0) 0 [] false [] m ≡ toldBy told-so (m .due)
   unfolding toldOf
   telling = ap (λ (t : Ticked). toldBy t (m .due)) (quiet (m .board) (calm .kept) (calm .rests))
 
+  -- the machine is calm after it
   pub still-calm : Calm (afterCall m dead)
   still-calm = subst Calm (sym (ap (λ (t : Told). t .machine) telling)) (record { kept = settled-memory (m .board) (calm .kept) (calm .rests); rests = settled-rests (m .board) (calm .kept) (calm .rests) })
 
+  -- and the tick meets every premise of the demand
   pub undisturbed : Undisturbed m quietly
   undisturbed =
       record {
@@ -149,6 +157,7 @@ module _ (m : Machine) (calm : Calm m) where
         no-overcurrent = λ k fe. has-none k;
       }
 
+-- so does each of n such ticks
 calm-ticks : (n : ℕ) (m : Machine) → Calm m → EachTick Undisturbed m (replicate n dead)
 calm-ticks zero m calm = tt
 calm-ticks (suc n) m calm = (λ e. undisturbed m calm, calm-ticks n (afterCall m dead) (still-calm m calm))
@@ -161,6 +170,7 @@ low =
 is-low : Low low
 is-low = record { below-safety-low = refl; below-safety-high = refl; below-emergency-low = refl; below-emergency-high = refl; no-command = refl }
 
+-- n ticks are n times that input
 calm-inputs : (n : ℕ) (m : Machine) → Calm m → inputs afterCall isTick input m (replicate n dead) ≡ replicate n low
 unfolding allowedCount
 calm-inputs zero m calm = refl
@@ -172,14 +182,17 @@ pub started-calm : Calm started
 unfolding begunOf startOf keepsTheRules isWithin allBelow has freshOf loadedFrom emptyStore
 started-calm = record { kept = refl; rests = refl }
 
+-- the profile keeps the rules
 pub accepted : keepsTheRules profile emptyStore ≡ true
 unfolding keepsTheRules isWithin allBelow has emptyStore
 accepted = refl
 
+-- the start alone is reached
 reached : Reached started
 unfolding after
 reached = record { there = noMachine; profile = profile; store = emptyStore; accepted = accepted; past = []; is = refl }
 
+-- a fresh board
 pub started-is : started .board ≡ freshOf profile emptyStore neverReset
 started-is = begun-is noMachine profile emptyStore accepted
 
@@ -188,14 +201,17 @@ pub zero-of : ForceEnabledBy profile 0
 unfolding has
 zero-of = record { a-channel = omega arith; fitted = refl; forced = refl }
 
+-- on the board that was started, too
 pub zero-forced : ForceEnabled 0 started
 unfolding freshOf
 zero-forced = subst (λ (b : Board). ForceEnabledBy (b .profile) 0) (sym started-is) zero-of
 
+-- nothing is latched at the start
 none-latched : NoneLatched started
 unfolding freshOf
 none-latched k fe = subst (λ (b : Board). has (b .channels .latched) k ≡ false) (sym started-is) (ap (λ (x : Chan). x .latched) (cleared-each k (fe .a-channel)))
 
+-- to the small machine it is the start
 started-small : (k : ℕ) → ForceEnabled k started → small-of k started ≡ small.start
 unfolding freshOf
 started-small k fe = ap (seen k) started-is ∙ ap (λ (o : Bool). record { phase = entered Startup; on = o }) (ap (λ (x : Chan). x .on) (cleared-each k (fe .a-channel)))
@@ -207,9 +223,11 @@ any-number k fe n =
     ∙ ap (λ (is : List small.Input). channel (small.tick times) (λ i. true) (λ x. x .on) (small-of k started) is) (calm-inputs n started started-calm)
     ∙ ap (λ (s : small.State). channel (small.tick times) (λ i. true) (λ x. x .on) s (replicate n low)) (started-small k fe)
 
+-- turns of equal lengths are the same
 same-turns : {a a′ b b′ c c′ d d′ : ℕ} → a ≡ a′ → b ≡ b′ → c ≡ c′ → d ≡ d′ → turns a b c d ≡ turns a′ b′ c′ d′
 same-turns e f g h = rw (e, f, g, h)
 
+-- the numbers are compared one by one
 exactly : (k : ℕ) → ForceEnabled k started → channelOf k started (replicate ticks dead) ≡ expected
 exactly k fe =
     let count : ticks ≡ lowTicks times = omega arith in
@@ -218,6 +236,7 @@ exactly k fe =
     ∙ low-run times low is-low (omega arith) (omega arith)
     ∙ same-turns (omega arith) (omega arith) (omega arith) (omega arith)
 
+-- the claim
 pub power-real : PowerReal
 power-real =
     record {

@@ -3,7 +3,7 @@ use Prim.Native.Nat.{ℕ, _<_}
 use mathlib.Core.Path.{_≡_, refl, sym, ap, _∙_, subst}
 use mathlib.Core.Bool.{Bool, true, false, cond, not, _&&_, _||_, and-false, false≢true}
 use mathlib.Core.List.{List}
-use mathlib.Core.Logic.{_⊎_, ⊎-elim}
+use mathlib.Core.Logic.{⊎-elim}
 use lib.IntN.{ℤ}
 use lib.ListN.{length}
 use Rattle.modes.specs.Table.{_aged_, same, stepOf, olderOf}
@@ -22,9 +22,7 @@ use Rattle.power.specs.Machine as small
 use Rattle.power.specs.Machine.{isLit}
 use Rattle.power.proofs.Step.{by-cases}
 use Rattle.command.specs.Decode.{decodeOf}
-use Rattle.command.specs.declared.Command.the-variants.{SystemReset}
 use Rattle.command.specs.declared.Decoded.{Decoded}
-use Rattle.command.specs.declared.Decoded.the-variants.{Run}
 use Rattle.memory.specs.Limits.{limitsOf}
 use Rattle.memory.specs.declared.Store.{Store}
 use Rattle.state.specs.Parts.{modeOf}
@@ -33,8 +31,6 @@ use Rattle.state.specs.declared.parts.Board.{Board}
 use Rattle.state.specs.declared.parts.Profile.{Profile}
 use Rattle.state.specs.declared.parts.Resets.{Resets}
 use Rattle.answers.specs.Answers.{headerOf}
-use Rattle.answers.specs.declared.Answer.the-variants.{Accepted}
-use Rattle.answers.specs.declared.Outcome.the-variants.{Answered}
 use Rattle.answers.specs.declared.Commanded.{Commanded}
 use Rattle.commands.specs.Step.{isStartup}
 use Rattle.board.specs.Tick.{risenOf, changedOf, trippedOf, watchedAs, allowedCount, tickOf}
@@ -90,6 +86,7 @@ unmoved rail limits small.switchOn s e h = ap (λ (o : Bool). record { phase = s
 unmoved rail limits small.switchToSafety s e h = rw e (ap (λ (o : Bool). record { phase = Startup aged (s .phase .age); on = o }) (sym (h ∙ ap isLit e)))
 unmoved rail limits small.switchToNominal s e h = rw e (ap (λ (o : Bool). record { phase = Startup aged (s .phase .age); on = o }) (sym (h ∙ ap isLit e)))
 
+-- startup is the one mode that is startup
 startup-is : (m : Mode) → isStartup m ≡ true → m ≡ Startup
 unfolding isStartup
 startup-is Startup e = refl
@@ -99,12 +96,15 @@ startup-is Emergency e = absurd (false≢true e)
 
 -- ---- step 4
 module _ (k : ℕ) (b c : Board) where
+  -- a channel that stays in a mode as lit as before stands
   moved-stands : (next : ModeAge) → isLit (next .mode) ≡ isLit (modeOf b) → Moved k next b c → Stands k b → Stands k c
   moved-stands next e q w = rw (q .on, q .phase, q .latched, e) w
 
+  -- a channel that was switched on stands
   lit-stands : Lit k b c → Stands k c
   lit-stands q = rw (q .on, q .phase, q .unlatched, q .nominal)
 
+  -- what the small machine sees of either
   moved-seen : (next : ModeAge) → Moved k next b c → seen k c ≡ record { phase = next; on = has (b .channels .on) k }
   moved-seen next q = rw (q .phase, q .on)
 
@@ -149,18 +149,21 @@ unreset WatchdogReset c n = absurd (n refl)
 
 -- ---- the whole tick
 module _ (k : ℕ) (rail : ℤ) (named : ℕ) (words : List ℕ) (sent : Bool) (s : List ℕ) (b : Board) (fe : ForceEnabledBy (b .profile) k) where
+  -- the board's own limits, and the phase that the table leads to
   abbrev own : Limits
   own = limitsOf (b .memory)
 
   abbrev next : ModeAge
   next = stepOf (olderOf (b .phase)) rail own
 
+  -- the board as the command finds it, and what the command leaves
   abbrev settled : Board
   settled = found rail named words sent s b
 
   abbrev answered : Commanded
   answered = obeyed rail named words sent s b
 
+  -- what the transfer is, and what it is to the small machine
   abbrev reading : Decoded
   reading = decodeOf (headerOf (b .profile)) s
 
@@ -174,15 +177,18 @@ module _ (k : ℕ) (rail : ℤ) (named : ℕ) (words : List ℕ) (sent : Bool) (
       of-channels.each (b .profile .fitted) (b .profile .forced) (of-channels.overcurrent named) _ k (fe .a-channel)
       ∙ ap (overcurrentOne (has named k)) (entering (b .profile) k fe (b .channels) (modeOf b) (next .mode))
 
+  -- the phase is the one that the table leads to
   pub settled-phase : settled .phase ≡ next
   unfolding trippedOf changedOf risenOf
   settled-phase = refl
 
+  -- the channel stands
   settled-stands : Stands k b → Stands k settled
   settled-stands w =
       rw (ap (λ (x : Chan). x .on) settled-channel, settled-phase, ap (λ (x : Chan). x .latched) settled-channel)
       (tripped-stands (has named k) (isLit (next .mode)) (enteredOne (modeOf b) (next .mode) (chan (b .channels) k)) (entered-stands (modeOf b) (next .mode) (chan (b .channels) k) w))
 
+  -- where the channel is not named, this is what the small machine does
   pub settled-seen : has named k ≡ false → seen k settled ≡ small.enters next (seen k b)
   settled-seen e =
       rw (settled-phase, ap (λ (x : Chan). x .on) settled-channel, e)
@@ -201,6 +207,7 @@ module _ (k : ℕ) (rail : ℤ) (named : ℕ) (words : List ℕ) (sent : Bool) (
     abbrev event : Event
     event = happening rail named words sent s b
 
+    -- the tick is what the watchdog makes of what the command leaves
     after-is : after ≡ watchedAs event answered
     after-is = tick-is rail named words sent s b allowed
 

@@ -27,6 +27,7 @@ changed : (x : change.Commanded) (b c : Board) → Changes x b c → c .profile 
 changed (change.Commanded.Accepted next) b c q = q .profile
 changed change.Commanded.Unavailable b c q = q .profile
 
+-- nothing that the step does alters it
 done : (rail : ℤ) (limits : Limits) (d : Decoded) (ask : small.Command) (b : Board) (c : Commanded) → Does rail limits d ask b c → c .board .profile ≡ b .profile
 unfolding commandResetOf freshOf
 done rail limits d ask b c (idles e q) = q .profile
@@ -38,6 +39,7 @@ done rail limits d ask b c (to-safety e q) = changed (toSafety (b .phase)) b (c 
 done rail limits d ask b c (to-nominal e q) = changed (toNominal (b .phase) rail limits) b (c .board) q
 done rail limits d ask b c (restarts e o r) = ap (λ (x : Board). x .profile) r
 
+-- the whole step
 commanded : (rail : ℤ) (limits : Limits) (sent : Bool) (s : List ℕ) (b : Board) → commandedOf rail limits sent s b .board .profile ≡ b .profile
 commanded rail limits sent s b = done rail limits _ _ b _ (step rail limits b s sent)
 
@@ -55,6 +57,7 @@ call-profile m call = by-call (λ b. b .profile ≡ m .board .profile) (λ form 
     ticks : (x : Machine) (i : Sample) → isTick (tick i) ≡ true → x .board .profile ≡ m .board .profile → told x i .machine .board .profile ≡ m .board .profile
     ticks x i happens e = tick-profile x i happens ∙ e
 
+-- nor do any calls
 pub after-profile : (calls : List Call) (m : Machine) → after m calls .board .profile ≡ m .board .profile
 unfolding after
 after-profile [] m = refl

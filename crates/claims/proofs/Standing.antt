@@ -20,5 +20,6 @@ ticks k m i happens w fe =
     let before : ForceEnabled k m = subst (λ (p : Profile). ForceEnabledBy p k) (tick-profile m i happens) fe in
     tick-stands k (i .rail) (i .named) (i .words) (i .sent) (i .transfer) (m .board) before happens (w before)
 
+-- so it stands on every machine that can be reached
 pub standing : Standing
 standing k m r fe = by-reach (λ b. ForceEnabledBy (b .profile) k → Stands k b) (λ profile store fe. fresh-stands k (fe .a-channel) profile store neverReset) (λ form b w. w) (ticks k) m r fe

@@ -20,6 +20,7 @@ pub record Ticks {S I : Type 0} (tick : S → I → S) (on : S → Bool) (Inv : 
   pub stays-on : (s : S) (i : I) → Inv s → on s ≡ true → 0 < held s → (on (tick s i) ≡ true) × (held s ≤ suc (held (tick s i)))
 
 module _ {S I : Type 0} (tick : S → I → S) (on : S → Bool) (Inv : S → Type 0) (most least : ℕ) (T : Ticks tick on Inv most least) where
+  -- the channel of a run, every input of which is a tick
   abbrev line : S → List I → List Bool
   line s is = channel tick (λ i. true) on s is
 
@@ -30,11 +31,13 @@ module _ {S I : Type 0} (tick : S → I → S) (on : S → Bool) (Inv : S → Ty
     pub inv : Inv from
     pub same : line from inputs ≡ rest
 
+  -- what stands behind a place of the list is the list of the rest of the run
   behind : (is : List I) (s : S) (before : List Bool) (x : Bool) (rest : List Bool) → Inv s → line s is ≡ before ++ x ∷ rest → Behind (x ∷ rest)
   behind is s [] x rest h e = record { from = s; inputs = is; inv = h; same = e }
   behind [] s (b ∷ bs) x rest h e = absurd (omega (arith, simp length-append at (ap length e)))
   behind (i ∷ is) s (b ∷ bs) x rest h e = behind is (tick s i) bs x rest (T .kept s i h) (cc)
 
+  -- from a state on, the list starts with no more offs than are left there
   off-here : (is : List I) (s : S) (during after : List Bool) → Inv s → line s is ≡ during ++ after → All Off during → length during ≤ T .left s
   off-here is s [] after h e a = omega arith
   off-here [] s (b ∷ []) after h e a = T .some-left s h (cc) .0
@@ -43,6 +46,7 @@ module _ {S I : Type 0} (tick : S → I → S) (on : S → Bool) (Inv : S → Ty
   off-here (i ∷ is) s (b ∷ (c ∷ bs)) after h e a =
       omega (arith, off-here is (tick s i) (c ∷ bs) after (T .kept s i h) (cc) (a .1), T .falls s i h (cc) (cc))
 
+  -- from a state that is on, the list stays on for as long as it is held there
   on-here : (is : List I) (s : S) (n : ℕ) (since : List Bool) → Inv s → n ≤ T .held s → line s is ≡ true ∷ since → All On (take n since)
   on-here is s zero since h m e = tt
   on-here is s (suc n) [] h m e = tt
@@ -51,6 +55,7 @@ module _ {S I : Type 0} (tick : S → I → S) (on : S → Bool) (Inv : S → Ty
       let k : (on (tick s i) ≡ true) × (T .held s ≤ suc (T .held (tick s i))) = T .stays-on s i h (cc) (omega arith) in
       (cc, on-here is (tick s i) n cs (T .kept s i h) (omega arith) (cc))
 
+  -- a list that starts with off and on stays on for `least` places
   came-on : (is : List I) (s : S) (since : List Bool) → Inv s → line s is ≡ false ∷ true ∷ since → All On (take least (true ∷ since))
   came-on [] s since h e = absurd (omega (arith, ap length e))
   came-on (i ∷ is) s since h e =
@@ -60,11 +65,13 @@ module _ {S I : Type 0} (tick : S → I → S) (on : S → Bool) (Inv : S → Ty
       go zero m = tt
       go (suc n) m = (refl, on-here is (tick s i) n since (T .kept s i h) (omega arith) (cc))
 
+  -- a part that is off throughout is no longer than `most`
   off-part : (d : Bool) (ds after : List Bool) → Behind (d ∷ (ds ++ after)) → All Off (d ∷ ds) → length (d ∷ ds) ≤ most
   off-part d ds after b a =
       omega
       (arith, off-here (b .inputs) (b .from) (d ∷ ds) after (b .inv) (b .same) a, T .some-left (b .from) (b .inv) (cc) .1)
 
+  -- both claims, for every run from a state with the invariant
   pub off-at-most : (s : S) → Inv s → (is : List I) → OffAtMost most (line s is)
   off-at-most s h is = record { shown = go }
     where

@@ -24,6 +24,7 @@ module _ {S I S′ I′ : Type 0} (call : S → I → S) (isTick : I → Bool) (
   abbrev theirs : S → List I → List I′
   theirs s is = inputs call isTick input s is
 
+  -- tick by tick, the two channels are the same; other calls leave no trace
   same-ends : (is : List I) (s : S) → Inv s → Stretch call Allowed s is → ends call isTick (λ x. on (project x)) s is ≡ ends tick′ (λ i. true) on (project s) (theirs s is)
   same-ends [] s h a = refl
   same-ends (i ∷ is) s h a =

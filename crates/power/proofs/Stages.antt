@@ -30,13 +30,16 @@ lowTicks t = 49 + (suc (t .linger) + (suc (t .period - 1) + (suc (t .linger) + 1
 adds : (i : Input) (n m : ℕ) {is : List Input} → is ≡ replicate m i → replicate n i ++ is ≡ replicate (n + m) i
 adds i n m e = rw e (replicate-append-replicate n m i)
 
+-- the five stages are one run
 joined : (i : Input) (lit dark : ℕ) → replicate 49 i ++ (replicate lit i ++ (replicate dark i ++ (replicate lit i ++ replicate 1 i))) ≡ replicate (49 + (lit + (dark + (lit + 1)))) i
 joined i lit dark = adds i 49 (lit + (dark + (lit + 1))) (adds i lit (dark + (lit + 1)) (adds i dark (lit + 1) (adds i lit 1 refl)))
 
+-- a state, by its mode, age and channel
 abbrev state : Mode → ℕ → Bool → State
 state m a o = record { phase = m aged a; on = o }
 
 module _ (t : Times) (i : Input) where
+  -- the channel at the ticks' ends
   abbrev pub line : State → List Input → List Bool
   line s is = ends (tick t) isTick isOn s is
 
@@ -55,6 +58,7 @@ module _ (t : Times) (i : Input) where
       rw enters (ap (λ (l : List Bool). o ∷ l) (rw zero-add at (staying m o top grows n 0 (omega arith) rest)))
 
   module _ (low : Low i) (l : t .linger < 2 ^ 64 - 1) (p : t .period < 2 ^ 64) where
+    -- startup is left at age 50, for safety
     startup-ages : (a : ℕ) → a < 49 → tick t (state Startup a false) i ≡ state Startup (suc a) false
     unfolding tick stepOf olderOf
     startup-ages a h =
@@ -66,6 +70,7 @@ module _ (t : Times) (i : Input) where
     startup-ends =
         rw (low .no-command, low .below-safety-low)
 
+    -- safety is left once linger is over, for emergency
     safety-ages : (a : ℕ) → a < t .linger → tick t (state Safety a true) i ≡ state Safety (suc a) true
     unfolding tick stepOf olderOf
     safety-ages a h =
@@ -77,6 +82,7 @@ module _ (t : Times) (i : Input) where
     safety-ends =
         rw (low .no-command, lt-ltb (t .linger) (min (t .linger + 1) (2 ^ 64 - 1)) (omega arith), low .below-safety-high, low .below-emergency-low)
 
+    -- emergency is left when its period is reached, for safety
     emergency-ages : (a : ℕ) → a < t .period - 1 → tick t (state Emergency a false) i ≡ state Emergency (suc a) false
     unfolding tick stepOf olderOf
     emergency-ages a h =
@@ -107,5 +113,6 @@ module _ (t : Times) (i : Input) where
         (staying Startup false 49 startup-ages 49 0 (omega arith) (replicate (suc (t .linger)) i ++ (replicate (suc (t .period - 1)) i ++ (replicate (suc (t .linger)) i ++ (i ∷ []))))
         ∙ ap (λ (l : List Bool). replicate 49 false ++ l) lit)
 
+    -- as one run of so many ticks
     pub low-run : channel (tick t) isTick isOn start (replicate (lowTicks t) i) ≡ turns 50 (suc (t .linger)) (suc (t .period - 1)) (suc (t .linger))
     low-run = ap (λ (is : List Input). channel (tick t) isTick isOn start is) (sym (joined i (suc (t .linger)) (suc (t .period - 1)))) ∙ by-stages

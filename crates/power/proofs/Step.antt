@@ -15,9 +15,11 @@ pub by-cases : {X : Type 0} (b : Bool) → (b ≡ true → X) → (b ≡ false �
 by-cases true y n = y refl
 by-cases false y n = n refl
 
+-- a test cannot come to both
 pub clash : {X : Type 0} {b : Bool} → b ≡ true → b ≡ false → X
 clash t f = absurd (true≢false (sym t ∙ f))
 
+-- where neither holds, the second does not
 or-false : (a b : Bool) → a || b ≡ false → b ≡ false
 or-false true b e = clash refl e
 or-false false b e = e
@@ -40,6 +42,7 @@ held t Nominal a = t .linger
 held t Safety a = t .linger - a
 held t Emergency a = 0
 
+-- the same two, of a state
 abbrev pub Left : Times → State → ℕ
 Left t s = left t (s .phase .mode) (s .phase .age)
 
@@ -67,6 +70,7 @@ module _ {t : Times} {s x : State} (v : InStep x) where
   on-off : s .on ≡ true → Held t s ≤ 0 → Good t s x
   on-off u m = record { in-step = v; falls = λ f _. clash u f; comes-on = λ f _. clash u f; stays-on = λ _ p. absurd (omega arith) }
 
+-- a state, by its mode, age and channel
 abbrev state : Mode → ℕ → Bool → State
 state m a o = record { phase = m aged a; on = o }
 
@@ -120,6 +124,7 @@ to-nominal g =
 as-lit : {t : Times} {s : State} {m : Mode} {a : ℕ} {o : Bool} → Good t s (state m a o) → Good t s (state m a (isLit m))
 as-lit {t} {s} {m} {a} g = subst (λ (o : Bool). Good t s (state m a o)) (g .in-step) g
 
+-- the command, after the table
 by-command : (t : Times) (i : Input) (c : Command) (s : State) (m : Mode) (a : ℕ) (o : Bool) → Good t s (state m a o) → Good t s (obeyed c (i .rail) (limitsIn t i) (state m a o))
 unfolding toSafety toNominal
 by-command t i other s m a o g = g
@@ -136,6 +141,7 @@ by-command t i switchToNominal s Nominal a o g = g
 by-command t i switchToNominal s Safety a o g = by-cases (i .rail at-least i .«safety_low») (λ e. rw e (to-nominal g)) (λ e. rw e g)
 by-command t i switchToNominal s Emergency a o g = as-lit g
 
+-- a whole tick
 pub good : (t : Times) → t .period < 2 ^ 64 → (s : State) (i : Input) → InStep s → Good t s (tick t s i)
 unfolding tick
 good t fits s i h =

@@ -20,6 +20,7 @@ some-left t Nominal a o h f = clash h f
 some-left t Safety a o h f = clash h f
 some-left t Emergency a o h f = omega arith
 
+-- the five facts of one tick, for the small machine
 ticks : (t : Times) → t .period < 2 ^ 64 → Ticks (tick t) isOn InStep (mostOff (t .period)) (leastOn (t .linger))
 ticks t fits =
     record {
@@ -32,6 +33,7 @@ ticks t fits =
       stays-on = λ s i h. good t fits s i h .stays-on;
     }
 
+-- the claim, with the state before the run in front
 pub with-before : (t : Times) → t .period < 2 ^ 64 → (s : State) → InStep s → (is : List Input) → Powered (t .linger) (t .period) (channel (tick t) isTick isOn s is)
 with-before t fits s h is =
     record {
@@ -62,5 +64,6 @@ looser linger linger′ period period′ l p h =
       on-for-long = record { shown = λ before since e. fewer-on (leastOn linger′) (leastOn linger) (true ∷ since) (omega arith) (h .on-for-long .shown before since e) };
     }
 
+-- the claim; a period that does not fit is refused here
 pub powered : Claim
 powered t fits s h is = let p = with-before t (omega arith) s h is in record { with-before = p; by-ends = without-first p }

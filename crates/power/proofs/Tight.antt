@@ -18,9 +18,11 @@ use Rattle.power.proofs.Stages.{Low, lowTicks, low-run}
 abbrev low : Input
 low = record { rail = pos 0; «safety_low» = pos 1; «safety_high» = pos 1; «emergency_low» = pos 1; «emergency_high» = pos 1; command = other }
 
+-- it is low by every threshold
 is-low : Low low
 is-low = record { below-safety-low = refl; below-safety-high = refl; below-emergency-low = refl; below-emergency-high = refl; no-command = refl }
 
+-- a list of offs is off throughout
 pub all-off : (n : ℕ) → All Off (replicate n false)
 all-off zero = tt
 all-off (suc n) = (refl, all-off n)
@@ -43,6 +45,7 @@ cut m zero rest a = omega arith
 cut zero (suc n) rest a = absurd (false≢true (a .0))
 cut (suc m) (suc n) rest a = omega (arith, cut m n rest (a .1))
 
+-- the first time on is over after linger + 1 places
 on-ends : (t : Times) (n : ℕ) → OnAtLeast n (turns 50 (suc (t .linger)) (suc (t .period - 1)) (suc (t .linger))) → n ≤ leastOn (t .linger)
 unfolding turns
 on-ends t n h =
@@ -53,20 +56,25 @@ on-ends t n h =
 abbrev endless : Times
 endless = record { linger = 0; period = 2 ^ 64 }
 
+-- emergency at the top of its age
 abbrev topmost : State
 topmost = record { phase = Emergency aged (2 ^ 64 - 1); on = false }
 
+-- a tick changes nothing
 stays-there : tick endless topmost low ≡ topmost
 unfolding tick stepOf olderOf
 stays-there = refl
 
+-- so the channel never comes on
 never-on : (n : ℕ) → channel (tick endless) isTick isOn topmost (replicate n low) ≡ replicate (suc n) false
 never-on zero = refl
 never-on (suc n) = rw stays-there (ap (λ (l : List Bool). false ∷ l) (never-on n))
 
+-- and no number bounds how long it is off
 too-long : (n most : ℕ) → OffAtMost most (channel (tick endless) isTick isOn topmost (replicate n low)) → suc n ≤ most
 too-long n most h = omega (arith, h .shown [] (replicate (suc n) false) [] (never-on n ∙ sym (append-nil (replicate (suc n) false))) (all-off (suc n)), length-replicate (suc n) false)
 
+-- the claim
 pub tight : Tight
 tight =
     record {

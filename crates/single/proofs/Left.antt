@@ -1,8 +1,8 @@
 -- What is left of a session or of a bench is the answer and the buffer, and nothing else. Assumes nothing.
 use Prim.Native.Nat.{ℕ}
-use mathlib.Core.Path.{_≡_, refl, ap}
+use mathlib.Core.Path.{_≡_, ap}
 use mathlib.Core.List.{List}
-use Rattle.script.specs.Printing.{Page, page}
+use Rattle.script.specs.Printing.{page}
 use Rattle.session.specs.Sessions.{Open, opens, Step, steps, opened, stepped}
 use Rattle.session.specs.declared.running.Opened.{Opened}
 use Rattle.session.specs.declared.running.Stepped.{Stepped}
