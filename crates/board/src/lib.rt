@@ -9,7 +9,7 @@ use state::Board;
 use state::Measured;
 use watchdog::Event;
 
-// The board after a tick, what the tick tells of its transfer, what the watchdog did, and whether a reply made in this tick still waits.
+// The board after a tick, what the tick tells of its transfer, what the watchdog did, and whether the tick made a reply that is still there.
 pub struct Ticked {
     pub board: Board,
     pub outcome: Outcome,

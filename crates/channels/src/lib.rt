@@ -158,7 +158,7 @@ impl Channels {
         self
     }
 
-    // The channels after 0x14. Of those that are fitted and spoken of, the ones in the mask are on and the command-enabled ones outside it are off,
+    // The channels after 0x14. Of those that are fitted and spoken of, whatever the mask has is on and what it lacks is off if command-enabled,
     // their latches cleared. A forced one outside the mask, and every channel that is not fitted or not spoken of, stays as it is, its latch too.
     pub fn group_state(mut self, fitted: u32, forced: u32, spoken: u32, mask: u32) -> Channels
         ensures { λ r. ⌜ r ≡ groupState fitted forced spoken mask self ⌝ }

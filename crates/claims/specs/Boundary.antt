@@ -1,6 +1,7 @@
--- Document 01's boundary table, row by row, as one claim over a list: each row gives a board, what one tick brings to it and what is then seen, and the tick is the one that the
--- contract of `board::tick_with` cites. Times are ticks and thresholds millivolts, with the numbers of the rows: linger 100, emergency period 300, safety low 6500. Where a row names no
--- rail, it stands twice, with a rail at safety low and with one below. `a ∷ b ∷ []` is a list of two. Assumes nothing: these are definitions and the statement of the claim.
+-- Document 01's boundary table, row by row, as one claim over a list: each row gives a board, what one tick brings to it and what is then seen, and the tick is `tickWith`, to which the
+-- contract of `board::tick` leads. Times are ticks and thresholds millivolts, with the numbers of the rows: linger 100, emergency period 300, safety low 6500. Rows 5 and 6 name no rail and
+-- stand twice, with one at safety low and one below; the other rows that name none have one at safety low; row 15 stands twice for its two values. `a ∷ b ∷ []` is a list of two.
+-- Assumes nothing: these are definitions and the statement of the claim.
 use Prim.Native.Nat.{ℕ, _+_, _-_, _/_, _^_}
 use mathlib.Core.Path.{_≡_}
 use mathlib.Core.Bool.{true, false, cond}

@@ -58,7 +58,7 @@ valuePart s = drop 6 s
 abbrev pub checksumIn : List ℕ → ℕ
 checksumIn s = number 2 (drop 5 s)
 
--- a mask (CH_BF) of channels 0 to 15 stands at 4, and one (CH_EXT_BF) of channels 16 to 31 at 6, which counts only where both its bytes are there
+-- a mask (CH_BF) of channels 0 to 15 stands at 4, and one (CH_EXT_BF) of channels 16 to 31 at 6, of which both bytes count, or none
 unfoldable pub groupIn : List ℕ → Group
 groupIn s =
     cond (ltb (length s) 8)

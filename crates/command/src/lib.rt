@@ -1,4 +1,4 @@
-// A transfer of any length and content to a command or a refusal, for the checks that need neither mode nor state.
+// Any transfer, decoded to a command or a refusal, for the checks that need neither mode nor state.
 ghost use mathlib.Core.Path.{_≡_};
 ghost use Rattle.command.specs.Codes.{isIn, baseCodes};
 ghost use Rattle.command.specs.Table.{table, find};
@@ -179,7 +179,7 @@ fn listed_as(code: u8) -> Listed
     }
 }
 
-// The channels that a group command names; the extended mask counts only where both its bytes are there.
+// The channels that a group command names; of the extended mask both bytes count, or none.
 fn group_in(transfer: &[u8]) -> Group
     ensures { λ r. ⌜ r ≡ groupIn (now (transfer .entry)) ⌝ }
 {

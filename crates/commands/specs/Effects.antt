@@ -92,7 +92,7 @@ housekeepingOf code b =
     (housekeepingReply (headerOf (b .profile)) code (newWhere (b .measured .fresh)) (b .channels .on) (b .channels .latched) (b .measured .words)))
     (withMeasured (seen (b .measured)) b)
 
--- ---- 0x82 get, 0x84 set, 0x86 reset one: the reply has the value that the id then reads
+-- ---- 0x82, 0x84 and 0x86: a parameter is read, set, or reset; the reply has the value that the id then reads
 unfoldable pub parameterOf : ℕ → ℕ → Memory → Board → Commanded
 parameterOf code id memory b =
     acceptedWith

@@ -116,7 +116,7 @@ pub enum Payload {
     TooShort,
 }
 
-// The bytes that a payload spells, into the front of a lent buffer. Where the payload is not of the form, or the buffer is too short for
+// The bytes that a payload spells, into the front of a lent buffer. Where a payload has another form, or the buffer cannot hold
 // its bytes, the buffer keeps what it held.
 pub fn read(text: &[u8], out: &mut [u8]) -> Payload
     ensures answer { λ r. ⌜ r ≡ readOf (payloadOf (now (text .entry))) (length (now (out .entry))) ⌝ }

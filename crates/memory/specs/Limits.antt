@@ -1,4 +1,4 @@
--- What the mode table and the watchdog read of the settings. Safety low, safety high and the timeout are the values of 0x4042, 0x4043 and 0x4000 as they
+-- What the mode table and the watchdog read of the settings. Safety low, safety high and the timeout are what 0x4042, 0x4043 and 0x4000 hold, as they
 -- stand; the other four are values of Table 3-26. Assumes nothing: these are definitions.
 use Prim.Native.Nat.{ℕ}
 use lib.IntN.{pos, natAbs}

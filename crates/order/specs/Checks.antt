@@ -1,5 +1,5 @@
 -- Document 01's command table as one list of checks in its order: the first that applies answers, and where none does the number is 0.
--- `7 when b` is a check with the number 7 that applies where b holds. The checks read the bytes, the mode, the profile, the rail and the settings, and nothing
+-- `7 when b` is a check with the number 7 that applies where b holds. The checks read the transfer's bytes, mode and profile, rail and settings, and nothing
 -- that a decoder makes of the bytes. Assumes nothing: these are definitions.
 use Prim.Native.Nat.{ℕ}
 use mathlib.Core.Bool.{Bool, false, cond, not, _&&_, _||_}
@@ -38,7 +38,7 @@ unavailable code mode rail limits =
     (cond (eqb code 0x30) (mode is Emergency || mode is Safety && not (rail at-least limits .«safety_low»))
     false))
 
--- 7, the channel is wrong: for 0x16 an index above 31 or not fitted, for 0x18 a force-enabled one too
+-- 7, the channel is wrong: for 0x16 one that is not there or not fitted, for 0x18 a force-enabled one too
 unfoldable pub channelWrong : ℕ → Profile → ℕ → Bool
 channelWrong code p channel =
     cond (eqb code 0x16) (wrongToSwitchOn (p .fitted) channel)

@@ -1,5 +1,5 @@
 -- Demand 3 for the small machine, whatever the rail, the thresholds and the commands do. The channel is never off for longer than 50 ticks, or than the emergency period where that is more; and whenever it
--- comes on, it is on for linger + 1 ticks, unless the run ends before. Assumes nothing: this is the claim.
+-- comes on, it is on for at least linger + 1 ticks, unless the run ends before. Assumes nothing: this is the claim.
 use mathlib.Core.Bool.{Bool, true}
 use mathlib.Core.List.{List}
 use Prim.Native.Nat.{ℕ, _+_, _^_, _<_, max}

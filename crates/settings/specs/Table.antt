@@ -195,7 +195,7 @@ rangeIn missing = any
 unfoldable pub rangeOf : ℕ → Range
 rangeOf id = rangeIn (rowOf id)
 
--- a range with one end takes the type's other end, and no range is any number of the type
+-- where a range gives one end, the other is that of the type; without a range every number of the type is in it
 abbrev pub lowEnd : ValueType → Range → ℤ
 lowEnd t any = lowest t
 lowEnd t (least a) = a

@@ -28,7 +28,7 @@ pub struct Begun {
     pub answer: StartAnswer,
 }
 
-// The machine after a tick, what the tick tells of its transfer, what the watchdog did, and whether a reply made in this tick still waits. After a tick that was refused
+// The machine after a tick, what the tick tells of its transfer, what the watchdog did, and whether the tick made a reply that is still there. After a tick that was refused
 // none was made in it, and the machine still has to say what it had to say before.
 pub struct Told {
     pub machine: Machine,
