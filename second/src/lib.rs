@@ -4,7 +4,7 @@
 //!
 //! `board` and `command` are the machine; `settings`, `mode`, `channels`,
 //! `reply` and `crc` are its parts; `text`, `sheet` and `replay` lead to it;
-//! `coverage` only watches.
+//! `coverage` only watches, and `pace` runs it for its speed.
 
 pub mod board;
 pub mod channels;
@@ -14,6 +14,7 @@ pub mod crc;
 pub mod hex;
 pub mod input;
 pub mod mode;
+pub mod pace;
 pub mod replay;
 pub mod reply;
 pub mod settings;
