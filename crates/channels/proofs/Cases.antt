@@ -1,6 +1,6 @@
--- Cases on what a channel is in, and the laws by which a set that is computed says what it holds of one channel. Assumes nothing.
-use mathlib.Core.Path.{_≡_, refl}
-use mathlib.Core.Bool.{Bool, true, false, not, and-true, and-false, or-true, or-false}
+-- The laws by which a set that is computed says what it holds of one channel. Assumes nothing.
+use mathlib.Core.Path.{_≡_}
+use mathlib.Core.Bool.{not, and-true, and-false, or-true, or-false}
 use Prim.Native.Nat.{ℕ, _-_, _^_, _%_, _<_}
 use native.Mathlib.Nat.{mod-lt}
 use lib.Bits as B
@@ -29,8 +29,3 @@ pub ruleset holds = (has-and, has-or, not-has, has-none, and-true, and-false, or
 
 -- a computed set is a set of 32 channels
 pub ruleset fits = (and-fits, or-fits, not-fits, shifted-fits)
-
-module _ {A : Type 0} where
-  pub cases : (x : Bool) → (x ≡ true → A) → (x ≡ false → A) → A
-  cases true t f = t refl
-  cases false t f = f refl

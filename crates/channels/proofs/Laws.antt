@@ -8,13 +8,13 @@ use native.Mathlib.Omega.{arith}
 use borrow.Author.Tests.{eqb-true, le-ltb}
 use lib.Dec.{eqb, ltb}
 use lib.ListN.{getD}
+use Rattle.laws.proofs.Cases.{cases}
 use Rattle.channels.specs.Sets.{has, isWithin}
 use Rattle.channels.specs.Chan.{Chan, chan, whole}
 use Rattle.channels.specs.Operations.{commandEnabled, forceEnabled, onAndCleared, offAndCleared, offAndLatchKept, overcurrentOne, groupOnOne, groupOffOne, groupStateOne, commandEnabledOffOne, forcedOnOne, overcurrentAt, groupOn, groupOff, groupState, switchOn, switchOff, commandEnabledOff, allOff, forcedOn, clearOne, cleared, wrongToSwitchOn, wrongToSwitchOff}
 use Rattle.channels.specs.declared.Channels.{Channels}
 use Rattle.channels.proofs.Sets.{ext, has-none, within-each, is-listOf}
 use Rattle.channels.proofs.Whole.{Held, whole-held, chan-whole, same-channels}
-use Rattle.channels.proofs.Cases.{cases}
 
 -- a command's work on the channels: 0x10, 0x12, 0x14 with the channels spoken of and the mask, 0x16 and 0x18 with the channel, and 0x04
 pub data Command : Type 0 where

@@ -5,11 +5,11 @@ use mathlib.Core.Bool.{Bool, true, false, false≢true}
 use mathlib.Core.List.{List, [], _∷_}
 use lib.IntN.{ℤ}
 use lib.ListN.{length}
+use Rattle.laws.proofs.Cases.{cases}
 use Rattle.wire.specs.declared.forms.Form.{Form}
 use Rattle.watchdog.specs.Watchdog as dog
 use Rattle.watchdog.specs.declared.Event.{Event}
 use Rattle.watchdog.specs.declared.Event.the-variants.{NoEvent, PeripheralReset, WatchdogReset}
-use Rattle.power.proofs.Step.{by-cases}
 use Rattle.memory.specs.Limits.{timeoutOf, limitsOf}
 use Rattle.memory.specs.declared.Store.{Store}
 use Rattle.state.specs.Parts.{withForm}
@@ -79,7 +79,7 @@ rests m (line received room) e = line-rests (lineOf (m .board .form) received ro
 module _ (P : Board → Type 0) (of-form : (form : Form) (b : Board) → P b → P (withForm form b)) (of-tick : (m : Machine) (i : Sample) → isTick (tick i) ≡ true → P (m .board) → P (told m i .machine .board)) where
   -- one call
   pub by-call : (m : Machine) (call : Call) → P (m .board) → P (afterCall m call .board)
-  by-call m call p = by-cases (isTick call) (ticks call) (λ e. let r = rests m call e in subst P (sym (r .is)) (of-form (r .form) (m .board) p))
+  by-call m call p = cases (isTick call) (ticks call) (λ e. let r = rests m call e in subst P (sym (r .is)) (of-form (r .form) (m .board) p))
     where
       ticks : (call : Call) → isTick call ≡ true → P (afterCall m call .board)
       ticks (tick i) e = of-tick m i e p

@@ -4,6 +4,7 @@ use mathlib.Core.Path.{_≡_, refl}
 use mathlib.Core.Bool.{Bool, true, false, cond, false≢true}
 use mathlib.Core.List.{List}
 use lib.IntN.{ℤ}
+use Rattle.laws.proofs.Cases.{cases}
 use Rattle.wire.specs.declared.reply.Reply.{Reply}
 use Rattle.modes.specs.Commands.{toSafety, toNominal}
 use Rattle.modes.specs.declared.Mode.{Mode}
@@ -15,7 +16,6 @@ use Rattle.channels.specs.Operations.{switchOn}
 use Rattle.channels.specs.declared.Channels.{Channels}
 use Rattle.channels.proofs.Laws as of-channels
 use Rattle.power.specs.Machine as small
-use Rattle.power.proofs.Step.{by-cases}
 use Rattle.command.specs.Decode.{fewerThanFour, codeOf, decodeBy, decodeOf}
 use Rattle.command.specs.declared.Command.{Command}
 use Rattle.command.specs.declared.Refusal.{Refusal}
@@ -125,7 +125,7 @@ module _ (rail : ℤ) (limits : Limits) (b : Board) where
   -- a save stores the settings, or is refused for its checksum
   saved : (code given : ℕ) → Stays b (savedIn code given b .board)
   unfolding savedIn rememberedOf acceptedOf
-  saved code given = by-cases (savedOf given (b .memory) .right) (λ e. rw e (remembers _ (savedOf given (b .memory) .memory))) (λ e. rw e (refused Answer.Wrong code))
+  saved code given = cases (savedOf given (b .memory) .right) (λ e. rw e (remembers _ (savedOf given (b .memory) .memory))) (λ e. rw e (refused Answer.Wrong code))
 
   -- accepted, with these channels put in place
   takes : (code : ℕ) (s : Channels) → Becomes (b .phase) s b (acceptedOf code (withChannels s b) .board)
@@ -136,8 +136,8 @@ module _ (rail : ℤ) (limits : Limits) (b : Board) where
   switched : (d : Decoded) → asked d ≡ small.switchOn → (code : ℕ) (right : Bool) (o : of-channels.Command) → DoesIt d (switchedOf code right (obeying o b) b)
   unfolding switchedOf
   switched d a code right o =
-      by-cases (isNominal (modeOf b))
-      (λ e. by-cases right (λ r. rw (e, r) (switches a (nominal-is (modeOf b) e) o (takes code (obeying o b)))) (λ r. rw (e, r) (refuses a (refused Answer.Wrong code))))
+      cases (isNominal (modeOf b))
+      (λ e. cases right (λ r. rw (e, r) (switches a (nominal-is (modeOf b) e) o (takes code (obeying o b)))) (λ r. rw (e, r) (refuses a (refused Answer.Wrong code))))
       (λ e. rw e (refuses a (refused Answer.NotAvailable code)))
 
   -- the two on the mode
@@ -205,9 +205,9 @@ module _ (rail : ℤ) (limits : Limits) (b : Board) where
     transferred : DoesIt reading (transferredOf rail limits s b)
     unfolding transferredOf
     transferred =
-        by-cases (fewerThanFour s)
+        cases (fewerThanFour s)
         (λ short. rw (short, too-short short) (leaves-both refl stays))
-        (λ long. by-cases (isStartup (modeOf b)) (λ e. rw (long, e) (idles e stays)) (λ e. rw (long, e) (decoded (codeOf s) reading)))
+        (λ long. cases (isStartup (modeOf b)) (λ e. rw (long, e) (idles e stays)) (λ e. rw (long, e) (decoded (codeOf s) reading)))
 
     -- no transfer, or one
     pub step : (sent : Bool) → Does rail limits reading (cond sent (asked reading) small.other) b (commandedOf rail limits sent s b)

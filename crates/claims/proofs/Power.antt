@@ -5,13 +5,14 @@ use mathlib.Core.Path.{_≡_, refl, sym, ap, _∙_, subst}
 use mathlib.Core.Bool.{Bool, true, false, cond, false≢true}
 use mathlib.Core.List.{List, [], _∷_}
 use native.Mathlib.Omega.{arith}
+use Rattle.laws.proofs.Cases.{cases}
 use Rattle.watchdog.specs.Watchdog.{secondsInTicks}
 use Rattle.watchdog.specs.declared.Event.the-variants.{WatchdogReset}
 use Rattle.power.specs.Runs.{channel}
 use Rattle.power.specs.Claim.{mostOff, leastOn, Powered}
 use Rattle.power.specs.Machine as small
 use Rattle.power.specs.Machine.{isLit}
-use Rattle.power.proofs.Step.{by-cases, good}
+use Rattle.power.proofs.Step.{good}
 use Rattle.power.proofs.Theorem as of-small
 use Rattle.power.proofs.Simulation.{Simulates, inputs, same-channel, inherits}
 use Rattle.command.specs.Decode.{decodeOf}
@@ -25,9 +26,9 @@ use Rattle.answers.specs.Answers.{headerOf}
 use Rattle.text.specs.declared.reading.Line.the-variants.{Command}
 use Rattle.unit.specs.Machine.{toldOf}
 use Rattle.unit.specs.declared.Machine.{Machine}
-use Rattle.groups.specs.Resets.{happens, tellsWatchdogReset, tellsReset, startsOver}
+use Rattle.groups.specs.Resets.{tellsWatchdogReset, tellsReset, startsOver}
 use Rattle.groups.proofs.Resets.{reset-is-told}
-use Rattle.unit.specs.Runs.{Sample, told, Call, tick, line, afterCall, Reached}
+use Rattle.unit.specs.Runs.{Sample, told, Call, tick, line, afterCall, Reached, happens}
 use Rattle.claims.specs.Power.{ForceEnabledBy, ForceEnabled, isTick, channelOf, Resets, Undisturbed, AtTicks, EachTick, limits, Power}
 use Rattle.claims.specs.PowerOfOne.{Spared, Unlatched, Lasts, PowerOfOne}
 use Rattle.claims.proofs.Calls.{rests}
@@ -100,7 +101,7 @@ module _ (k : ℕ) where
       record {
         force-enabled = subst (λ (p : Profile). ForceEnabledBy p k) (sym (call-profile m call)) (h .force-enabled);
         in-step =
-            by-cases (isTick call)
+            cases (isTick call)
             (λ e. subst small.InStep (sym (ticks m call h a e)) (good times (omega arith) (small-of k m) (input m call) (h .in-step) .in-step))
             (λ e. subst small.InStep (sym (unchanged m call e)) (h .in-step));
       }
@@ -111,7 +112,7 @@ module _ (k : ℕ) where
 
   -- a reached machine is in touch where no latch keeps the channel off
   pub in-touch : (m : Machine) → Reached m → ForceEnabled k m → Unlatched k m → InTouch k m
-  in-touch m r fe u = record { force-enabled = fe; in-step = standing k m r fe ∙ by-cases (isLit (modeOf (m .board))) (λ e. rw (u e, e)) (λ e. rw e) }
+  in-touch m r fe u = record { force-enabled = fe; in-step = standing k m r fe ∙ cases (isLit (modeOf (m .board))) (λ e. rw (u e, e)) (λ e. rw e) }
 
   -- and its claim is inherited
   powered-from : (m : Machine) → InTouch k m → (calls : List Call) → EachTick (Spared k) m calls → Powered (times .linger) (times .period) (channelOf k m calls)

@@ -4,6 +4,7 @@ use mathlib.Core.Path.{_≡_, refl, sym, ap, _∙_}
 use mathlib.Core.Bool.{true, false, cond, false≢true}
 use mathlib.Core.Logic.{_⊎_, inl, inr, ⊎-elim}
 use lib.IntN.{ℤ}
+use Rattle.laws.proofs.Cases.{cases}
 use Rattle.modes.specs.Table.{_at-least_}
 use Rattle.modes.specs.Commands.{toSafetyFrom, toSafety, toNominalFrom, toNominal, leaves}
 use Rattle.modes.specs.declared.Mode.{Mode}
@@ -17,7 +18,6 @@ use Rattle.channels.specs.Operations.{onAndCleared, offAndLatchKept, allOff, fo
 use Rattle.channels.specs.declared.Channels.{Channels}
 use Rattle.channels.proofs.Laws as of-channels
 use Rattle.power.specs.Machine as small
-use Rattle.power.proofs.Step.{by-cases}
 use Rattle.command.specs.declared.Command.the-variants.{SystemReset}
 use Rattle.command.specs.declared.Decoded.{Decoded}
 use Rattle.command.specs.declared.Decoded.the-variants.{Run}
@@ -89,7 +89,7 @@ module _ (p : Profile) (k : ℕ) (fe : ForceEnabledBy p k) (s : Channels) where
 
   -- a command on the channels leaves it, or switches it on and clears its latch
   commanding : (o : of-channels.Command) → (chan (of-channels.obeyed (p .fitted) (p .forced) o s) k ≡ chan s k) ⊎ (chan (of-channels.obeyed (p .fitted) (p .forced) o s) k ≡ onAndCleared (chan s k))
-  commanding o = by-cases (of-channels.meantFor (p .fitted) (p .forced) o k) (λ e. inr (one ∙ meant o e)) (λ e. inl (of-channels.command-untouched (p .fitted) (p .forced) o s k (fe .a-channel) e))
+  commanding o = cases (of-channels.meantFor (p .fitted) (p .forced) o k) (λ e. inr (one ∙ meant o e)) (λ e. inl (of-channels.command-untouched (p .fitted) (p .forced) o s k (fe .a-channel) e))
     where
       one : chan (of-channels.obeyed (p .fitted) (p .forced) o s) k ≡ of-channels.obeyedOne (p .fitted) (p .forced) o k (chan s k)
       one = of-channels.each (p .fitted) (p .forced) (of-channels.commanded o) s k (fe .a-channel)
@@ -125,7 +125,7 @@ module _ (s : ModeAge) where
   nominal-lit : (m : Mode) (rail : ℤ) (limits : Limits) → s .mode ≡ m → BothLit (toNominalFrom m s rail limits)
   nominal-lit Startup rail limits e = tt
   nominal-lit Nominal rail limits e = (rw e, rw e)
-  nominal-lit Safety rail limits e = by-cases (rail at-least limits .«safety_low») (λ d. rw d (rw e, refl)) (λ d. rw d tt)
+  nominal-lit Safety rail limits e = cases (rail at-least limits .«safety_low») (λ d. rw d (rw e, refl)) (λ d. rw d tt)
   nominal-lit Emergency rail limits e = tt
 
   -- of any phase

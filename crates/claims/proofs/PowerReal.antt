@@ -7,6 +7,7 @@ use native.Mathlib.Omega.{arith}
 use borrow.Author.Tests.{ltb-false}
 use lib.IntN.{pos}
 use lib.ListN.{replicate}
+use Rattle.laws.proofs.Cases.{cases}
 use Rattle.modes.specs.Table.{_reaches_, _exceeds_, entered, stepOf, olderOf}
 use Rattle.modes.specs.declared.Mode.{Mode}
 use Rattle.modes.specs.declared.Mode.the-variants.{Startup, Nominal, Safety, Emergency}
@@ -20,7 +21,6 @@ use Rattle.watchdog.specs.Watchdog as dog
 use Rattle.watchdog.specs.declared.Event.the-variants.{NoEvent}
 use Rattle.watchdog.proofs.Laws.{early}
 use Rattle.power.specs.Machine as small
-use Rattle.power.proofs.Step.{by-cases}
 use Rattle.power.proofs.Simulation.{inputs}
 use Rattle.power.proofs.Stages.{Low, lowTicks, low-run}
 use Rattle.memory.specs.Memory.{emptyStore, withDefaults, loadedFrom}
@@ -73,13 +73,13 @@ timed s timer = timerAfter (olderOf s .mode) (aged s .mode) (dog.risenOf timer)
 
 rests-on : (m : Mode) (age timer : ℕ) → Rests m age timer → let s : ModeAge = record { mode = m; age = age } in Rests (aged s .mode) (aged s .age) (timed s timer)
 unfolding stepOf olderOf timerAfter isDark dog.risenOf
-rests-on Startup age timer h = by-cases (min (age + 1) (2 ^ 64 - 1) reaches 50) (λ e. rw e (omega arith)) (λ e. rw e refl)
+rests-on Startup age timer h = cases (min (age + 1) (2 ^ 64 - 1) reaches 50) (λ e. rw e (omega arith)) (λ e. rw e refl)
 rests-on Nominal age timer h = absurd h
 rests-on Safety age timer h =
-    by-cases (min (age + 1) (2 ^ 64 - 1) exceeds 6000)
+    cases (min (age + 1) (2 ^ 64 - 1) exceeds 6000)
     (λ e. rw e refl)
     (λ e. rw e (omega (arith, ltb-false 6000 (min (age + 1) (2 ^ 64 - 1)) e)))
-rests-on Emergency age timer h = by-cases (min (age + 1) (2 ^ 64 - 1) reaches 60000) (λ e. rw e (omega arith)) (λ e. rw e refl)
+rests-on Emergency age timer h = cases (min (age + 1) (2 ^ 64 - 1) reaches 60000) (λ e. rw e (omega arith)) (λ e. rw e refl)
 
 -- so the timer is never above 6,000
 rests-low : (m : Mode) (age timer : ℕ) → Rests m age timer → timer ≤ 6000

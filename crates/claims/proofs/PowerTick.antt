@@ -6,6 +6,7 @@ use mathlib.Core.List.{List}
 use mathlib.Core.Logic.{⊎-elim}
 use lib.IntN.{ℤ}
 use lib.ListN.{length}
+use Rattle.laws.proofs.Cases.{cases}
 use Rattle.modes.specs.Table.{_aged_, same, stepOf, olderOf}
 use Rattle.modes.specs.Commands.{toSafety, toNominal, leaves}
 use Rattle.modes.specs.declared.Mode.{Mode}
@@ -20,7 +21,6 @@ use Rattle.watchdog.specs.declared.Event.{Event}
 use Rattle.watchdog.specs.declared.Event.the-variants.{NoEvent, PeripheralReset, WatchdogReset}
 use Rattle.power.specs.Machine as small
 use Rattle.power.specs.Machine.{isLit}
-use Rattle.power.proofs.Step.{by-cases}
 use Rattle.command.specs.Decode.{decodeOf}
 use Rattle.command.specs.declared.Decoded.{Decoded}
 use Rattle.memory.specs.Limits.{limitsOf}
@@ -49,15 +49,15 @@ fresh-stands k h p store resets = ap (λ (x : Chan). x .on) (of-channels.cleared
 -- ---- the channel alone
 -- a change of mode leaves a channel as it stands in the new mode
 entered-stands : (before after : Mode) (x : Chan) → x .on ≡ (isLit before && not (x .latched)) → enteredOne before after x .on ≡ (isLit after && not (enteredOne before after x .latched))
-entered-stands before after x e = by-cases (isLit after) (λ a. by-cases (isLit before) (λ b. rw (a, b) (rw b at e)) (λ b. rw (a, b))) (λ a. rw a)
+entered-stands before after x e = cases (isLit after) (λ a. cases (isLit before) (λ b. rw (a, b) (rw b at e)) (λ b. rw (a, b))) (λ a. rw a)
 
 -- an overcurrent latches what it turns off
 tripped-stands : (named lit : Bool) (x : Chan) → x .on ≡ (lit && not (x .latched)) → overcurrentOne named x .on ≡ (lit && not (overcurrentOne named x .latched))
-tripped-stands named lit x e = by-cases (named && x .on) (λ a. rw a (sym (and-false lit))) (λ a. rw a e)
+tripped-stands named lit x e = cases (named && x .on) (λ a. rw a (sym (and-false lit))) (λ a. rw a e)
 
 -- without one, the change of mode is all
 entered-on : (before after : Mode) (x : Chan) → overcurrentOne false (enteredOne before after x) .on ≡ cond (isLit after) (cond (isLit before) (x .on) true) false
-entered-on before after x = by-cases (isLit after) (λ a. by-cases (isLit before) (λ b. rw (a, b)) (λ b. rw (a, b))) (λ a. rw a)
+entered-on before after x = cases (isLit after) (λ a. cases (isLit before) (λ b. rw (a, b)) (λ b. rw (a, b))) (λ a. rw a)
 
 -- what the small machine sees of a board
 abbrev pub seen : ℕ → Board → small.State
@@ -65,11 +65,11 @@ seen k b = record { phase = b .phase; on = has (b .channels .on) k }
 
 -- a channel in step is so after a change of mode
 enters-in-step : (next : ModeAge) (s : small.State) → small.InStep s → small.InStep (small.enters next s)
-enters-in-step next s h = by-cases (isLit (next .mode)) (λ a. by-cases (isLit (s .phase .mode)) (λ b. rw (a, b) (h ∙ b)) (λ b. rw (a, b))) (λ a. rw a)
+enters-in-step next s h = cases (isLit (next .mode)) (λ a. cases (isLit (s .phase .mode)) (λ b. rw (a, b) (h ∙ b)) (λ b. rw (a, b))) (λ a. rw a)
 
 -- a mode that stays lit, or dark, leaves the channel
 enters-lit : (next : ModeAge) (s : small.State) → small.InStep s → isLit (next .mode) ≡ isLit (s .phase .mode) → small.enters next s ≡ record { phase = next; on = s .on }
-enters-lit next s h e = ap (λ (o : Bool). record { phase = next; on = o }) (by-cases (isLit (s .phase .mode)) (λ a. rw (e, a)) (λ a. rw (e, a) (sym (h ∙ a))))
+enters-lit next s h e = ap (λ (o : Bool). record { phase = next; on = o }) (cases (isLit (s .phase .mode)) (λ a. rw (e, a)) (λ a. rw (e, a) (sym (h ∙ a))))
 
 -- a command on channels in nominal finds the channel on
 nominal-on : (m : Mode) (o : Bool) → o ≡ isLit m → (same m Nominal || o) ≡ o

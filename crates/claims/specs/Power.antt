@@ -8,17 +8,15 @@ use mathlib.Core.Path.{_≡_}
 use Prim.Native.Nat.{ℕ, _<_}
 use mathlib.Core.Bool.{Bool, true, false}
 use mathlib.Core.List.{List}
-use lib.ListN.{length}
 use Rattle.modes.specs.declared.Limits.{Limits}
 use Rattle.channels.specs.Sets.{has}
 use Rattle.power.specs.Runs.{ends, channel, Stretch}
 use Rattle.power.specs.Claim.{Powered}
 use Rattle.memory.specs.Limits.{limitsOf}
 use Rattle.state.specs.declared.parts.Profile.{Profile}
-use Rattle.board.specs.Tick.{allowedCount}
 use Rattle.unit.specs.declared.Machine.{Machine}
 use Rattle.groups.specs.Resets.{tellsReset}
-use Rattle.unit.specs.Runs.{Sample, told, Call, tick, line, afterCall, Reached}
+use Rattle.unit.specs.Runs.{Sample, told, happens, Call, tick, line, afterCall, Reached}
 
 -- ---- what is looked at
 -- channel k is on
@@ -36,7 +34,7 @@ ForceEnabled k m = ForceEnabledBy (m .board .profile) k
 
 -- a tick that happens
 abbrev pub isTick : Call → Bool
-isTick (tick i) = allowedCount (length (i .words))
+isTick (tick i) = happens i
 isTick (line received room) = false
 
 -- channel k at the end of each tick of a stretch from m, and the same with the channel before the stretch in front

@@ -7,6 +7,7 @@ use lib.Dec.{T, ltb, eqb}
 use lib.ListN.{length}
 use native.Mathlib.Omega.{arith}
 use borrow.Author.Tests.{ltb-true, ltb-false, eqb-true, not-true, lt-ltb, le-ltb, eq-eqb}
+use Rattle.laws.proofs.Cases.{cases}
 use Rattle.value.specs.Values.{readOf}
 use Rattle.value.specs.declared.Parsed.{Parsed}
 use Rattle.settings.specs.Table.{parameterOf}
@@ -24,11 +25,6 @@ use Rattle.command.specs.declared.Decoded.{Decoded}
 use Rattle.command.specs.declared.Decoded.the-variants.{Refused}
 use Rattle.command.specs.declared.Refusal.{Refusal}
 use Rattle.command.specs.declared.Refusal.the-variants.{TooShort, WrongKey}
-
--- ---- cases
-pub cases : {A : Type 0} (b : Bool) → (b ≡ true → A) → (b ≡ false → A) → A
-cases true t f = t refl
-cases false t f = f refl
 
 -- what holds at each of some numbers, and at one that is none of them, holds
 infixr 20 _and_

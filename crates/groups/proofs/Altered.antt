@@ -7,6 +7,7 @@ use lib.Dec.{eqb, ltb}
 use lib.IntN.{ℤ}
 use native.Mathlib.Omega.{arith}
 use borrow.Author.Tests.{ltb-false, eqb-true, eq-eqb}
+use Rattle.laws.proofs.Cases.{cases}
 use Rattle.modes.specs.Table.{same}
 use Rattle.modes.specs.declared.Mode.the-variants.{Nominal}
 use Rattle.modes.specs.declared.Limits.{Limits}
@@ -14,7 +15,6 @@ use Rattle.channels.specs.Sets.{has}
 use Rattle.channels.specs.Chan.{Chan, chan}
 use Rattle.channels.specs.Operations.{onAndCleared, offAndCleared, wrongToSwitchOn, wrongToSwitchOff}
 use Rattle.channels.specs.declared.Channels.{Channels}
-use Rattle.channels.proofs.Cases.{cases}
 use Rattle.command.specs.Codes.{isIn}
 use Rattle.command.specs.Decode.{codeOf, byteAfter}
 use Rattle.command.specs.Checks.{Check, _when_, first}

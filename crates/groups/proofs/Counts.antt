@@ -9,13 +9,13 @@ use lib.Dec.{eqb}
 use lib.IntN.{ℤ}
 use lib.ListN.{getD}
 use borrow.Author.Tests.{eqb-true}
+use Rattle.laws.proofs.Cases.{cases}
 use Rattle.modes.specs.declared.Mode.{Mode}
 use Rattle.modes.specs.declared.Limits.{Limits}
 use Rattle.channels.specs.Sets.{has}
 use Rattle.channels.specs.Chan.{Chan, chan}
 use Rattle.channels.specs.Operations.{cleared, commandEnabledOffOne}
 use Rattle.channels.specs.declared.Channels.{Channels}
-use Rattle.channels.proofs.Cases.{cases}
 use Rattle.channels.proofs.Laws as channel
 use Rattle.command.specs.Decode.{codeOf}
 use Rattle.watchdog.specs.Watchdog as dog
@@ -36,8 +36,8 @@ use Rattle.text.specs.declared.reading.Line.{Line}
 use Rattle.text.specs.declared.reading.Line.the-variants.{Command, Switch, NoFrame, TooLong, NotOfForm, ScratchTooShort}
 use Rattle.unit.specs.Machine.{begunOf, toldOf, afterLine, heardOf}
 use Rattle.unit.specs.declared.Machine.{Machine}
-use Rattle.unit.specs.Runs.{Sample, told, Call, tick, line, after}
-use Rattle.groups.specs.Resets.{happens, afterStep2, isByWatchdog, isAccepted, tellsWatchdogReset, tellsCommandReset, tellsReset}
+use Rattle.unit.specs.Runs.{Sample, told, Call, tick, line, after, happens, afterStep2}
+use Rattle.groups.specs.Resets.{isByWatchdog, isAccepted, tellsWatchdogReset, tellsCommandReset, tellsReset}
 use Rattle.groups.specs.Counts.{takesOff, hasReset, timesTakenOff, Counts}
 use Rattle.groups.proofs.Groups.{Leaves, refusing, accepting, leaves}
 use Rattle.groups.proofs.Altered.{count-made}

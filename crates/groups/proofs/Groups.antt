@@ -9,6 +9,7 @@ use lib.Dec.{eqb, ltb}
 use lib.IntN.{ℤ}
 use lib.ListN.{length, replicate}
 use native.Mathlib.Omega.{arith}
+use Rattle.laws.proofs.Cases.{cases}
 use Rattle.wire.specs.Numbers.{number}
 use Rattle.value.specs.declared.Parsed.{Parsed}
 use Rattle.value.specs.Values.{readOf}
@@ -25,7 +26,6 @@ use Rattle.channels.specs.Chan.{Chan, chan}
 use Rattle.channels.specs.Operations.{onAndCleared, offAndCleared, groupStateOne, commandEnabled, forceEnabled}
 use Rattle.channels.specs.declared.Channels.{Channels}
 use Rattle.channels.proofs.Sets.{allBelow-each}
-use Rattle.channels.proofs.Cases.{cases}
 use Rattle.channels.proofs.Whole.{Held}
 use Rattle.channels.proofs.Laws as channel
 use Rattle.command.specs.Table.{table, find}

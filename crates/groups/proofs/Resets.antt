@@ -9,13 +9,13 @@ use native.Mathlib.Omega.{arith}
 use lib.Dec.{eqb}
 use lib.IntN.{ℤ}
 use borrow.Author.Tests.{ne-eqb}
+use Rattle.laws.proofs.Cases.{cases}
 use Rattle.modes.specs.Table.{_at-least_, same, entered, Row, from_when_to_, table, first, stepOf, olderOf}
 use Rattle.modes.specs.declared.Mode.{Mode}
 use Rattle.modes.specs.declared.Mode.the-variants.{Startup, Nominal, Safety, Emergency}
 use Rattle.modes.specs.declared.ModeAge.{ModeAge}
 use Rattle.modes.specs.declared.Limits.{Limits}
 use Rattle.wire.specs.Replies.{shown, written, replyOf, room}
-use Rattle.channels.proofs.Cases.{cases}
 use Rattle.channels.proofs.Laws.{cleared-each}
 use Rattle.command.specs.Decode.{codeOf}
 use Rattle.laws.proofs.Lists.{lt-or-le}
@@ -34,8 +34,8 @@ use Rattle.commands.specs.Step.{commandedOf}
 use Rattle.board.specs.Tick.{risenOf, changedOf, trippedOf, watchedAs, watchedIn, tickWith, tickOf}
 use Rattle.unit.specs.Machine.{toldOf}
 use Rattle.unit.specs.declared.Machine.{Machine}
-use Rattle.unit.specs.Runs.{Sample, told}
-use Rattle.groups.specs.Resets.{happens, afterStep3, afterStep4, isByWatchdog, isAccepted, tellsWatchdogReset, tellsCommandReset, tellsReset, startsOver, StartedOver, ResetIsTold}
+use Rattle.unit.specs.Runs.{Sample, told, happens, afterStep3, afterStep4}
+use Rattle.groups.specs.Resets.{isByWatchdog, isAccepted, tellsWatchdogReset, tellsCommandReset, tellsReset, startsOver, StartedOver, ResetIsTold}
 use Rattle.groups.proofs.Groups.{Leaves, refusing, accepting, leaves}
 use Rattle.groups.proofs.Altered.{failed}
 use Rattle.groups.proofs.Counts.{not-accepted, watched-tells}

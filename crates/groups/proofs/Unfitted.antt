@@ -6,6 +6,7 @@ use mathlib.Core.List.{List, [], _∷_}
 use native.Mathlib.Omega.{arith}
 use lib.IntN.{ℤ}
 use lib.ListN.{length}
+use Rattle.laws.proofs.Cases.{cases}
 use Rattle.modes.specs.declared.Mode.{Mode}
 use Rattle.modes.specs.declared.Limits.{Limits}
 use Rattle.channels.specs.Sets.{has}
@@ -13,7 +14,6 @@ use Rattle.channels.specs.Chan.{Chan, chan}
 use Rattle.channels.specs.Operations.{cleared}
 use Rattle.channels.specs.declared.Channels.{Channels}
 use Rattle.channels.proofs.Sets.{has-out}
-use Rattle.channels.proofs.Cases.{cases}
 use Rattle.channels.proofs.Whole.{Held}
 use Rattle.channels.proofs.Laws.{Dark}
 use Rattle.channels.proofs.Laws as channel

@@ -12,8 +12,8 @@ use Rattle.state.specs.Start.{keepsTheRules}
 use Rattle.state.specs.declared.parts.Profile.{Profile}
 use Rattle.unit.specs.Machine.{begunOf}
 use Rattle.unit.specs.declared.Machine.{Machine}
-use Rattle.unit.specs.Runs.{Sample, Call, tick, line, afterCall, after}
-use Rattle.groups.specs.Resets.{happens, afterStep2, tellsReset}
+use Rattle.unit.specs.Runs.{Sample, Call, tick, line, afterCall, after, happens, afterStep2}
+use Rattle.groups.specs.Resets.{tellsReset}
 
 -- ---- one tick
 -- step 3 takes channel c off: it is named, and it is on

@@ -7,7 +7,7 @@ use mathlib.Core.Bool.{Bool, true, false, _&&_, _||_}
 use mathlib.Core.List.{[]}
 use mathlib.Core.Option.{Option, none, some}
 use lib.Dec.{eqb}
-use lib.ListN.{length, replicate}
+use lib.ListN.{replicate}
 use Rattle.wire.specs.Replies.{shown}
 use Rattle.wire.specs.declared.forms.Form.the-variants.{Raw}
 use Rattle.modes.specs.Table.{same, entered}
@@ -16,30 +16,12 @@ use Rattle.channels.specs.Chan.{chan}
 use Rattle.command.specs.Decode.{codeOf}
 use Rattle.watchdog.specs.declared.Event.{Event}
 use Rattle.watchdog.specs.declared.Event.the-variants.{NoEvent, PeripheralReset, WatchdogReset}
-use Rattle.memory.specs.Limits.{limitsOf}
 use Rattle.memory.specs.Memory.{loadedFrom}
 use Rattle.state.specs.Start.{watchdogResetOf, commandResetOf}
 use Rattle.state.specs.declared.parts.Board.{Board}
 use Rattle.answers.specs.Answers.{toldNumber}
-use Rattle.commands.specs.Step.{commandedOf}
-use Rattle.board.specs.Tick.{risenOf, changedOf, trippedOf, allowedCount}
 use Rattle.unit.specs.declared.Machine.{Machine}
-use Rattle.unit.specs.Runs.{Sample, told}
-
--- ---- one tick
--- it happens: the words lent are none or 122
-abbrev pub happens : Sample → Bool
-happens i = allowedCount (length (i .words))
-
--- the board as steps 2, 3 and 4 leave it
-abbrev pub afterStep2 : Machine → Sample → Board
-afterStep2 m i = changedOf (i .rail) (limitsOf (m .board .memory)) (risenOf (i .words) (m .board))
-
-abbrev pub afterStep3 : Machine → Sample → Board
-afterStep3 m i = trippedOf (i .named) (afterStep2 m i)
-
-abbrev pub afterStep4 : Machine → Sample → Board
-afterStep4 m i = commandedOf (i .rail) (limitsOf (m .board .memory)) (i .sent) (i .transfer) (afterStep3 m i) .board
+use Rattle.unit.specs.Runs.{Sample, told, happens, afterStep3, afterStep4}
 
 -- ---- what it tells
 abbrev pub isByWatchdog : Event → Bool

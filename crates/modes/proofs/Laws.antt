@@ -8,6 +8,7 @@ use native.Mathlib.Omega.{arith}
 use borrow.Author.Tests.{le-leb, lt-leb, le-ltb, eqb-true}
 use lib.IntN.{ℤ}
 use lib.Dec.{T, eqb}
+use Rattle.laws.proofs.Cases.{cases}
 use Rattle.modes.specs.declared.Mode.{Mode}
 use Rattle.modes.specs.declared.Mode.the-variants.{Startup, Nominal, Safety, Emergency}
 use Rattle.modes.specs.declared.ModeAge.{ModeAge}
@@ -15,10 +16,6 @@ use Rattle.modes.specs.declared.Limits.{Limits}
 use Rattle.modes.specs.declared.Commanded.{Commanded}
 use Rattle.modes.specs.Table.{_reaches_, _exceeds_, _at-least_, _above_, _below_, _aged_, entered, Row, from_when_to_, _if_else_, table, number, same, first, stepOf, olderOf}
 use Rattle.modes.specs.Commands.{toSafetyFrom, toSafety, toNominalFrom, toNominal, answer, leaves}
-
-cases : {A : Type 0} (x : Bool) → (x ≡ true → A) → (x ≡ false → A) → A
-cases true t f = t refl
-cases false t f = f refl
 
 -- ---- what each mode is left by, and for which
 module _ (s : ModeAge) (rail : ℤ) (limits : Limits) where

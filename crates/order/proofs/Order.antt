@@ -9,6 +9,7 @@ use lib.IntN.{ℤ}
 use lib.ListN.{length}
 use native.Mathlib.Omega.{arith}
 use borrow.Author.Tests.{eqb-true}
+use Rattle.laws.proofs.Cases.{cases}
 use Rattle.value.specs.Values.{readOf}
 use Rattle.value.specs.declared.Parsed.{Parsed}
 use Rattle.settings.specs.Table.{parameterOf}
@@ -34,7 +35,7 @@ use Rattle.command.specs.declared.Decoded.{Decoded}
 use Rattle.command.specs.declared.Decoded.the-variants.{Run, Refused}
 use Rattle.command.specs.declared.Refusal.{Refusal}
 use Rattle.command.specs.declared.Refusal.the-variants.{FewerThanFourBytes, NotThisBoard, CodeNotListed, TooShort, WrongKey, WrongParameter, NotANumber}
-use Rattle.command.proofs.Laws.{cases, Each, none, _and_, by-code, differs, first-check}
+use Rattle.command.proofs.Laws.{Each, none, _and_, by-code, differs, first-check}
 use Rattle.memory.specs.Memory.{isRight, savedOf}
 use Rattle.state.specs.Parts.{modeOf}
 use Rattle.state.specs.declared.parts.Board.{Board}

@@ -2,8 +2,8 @@
 use mathlib.Core.Path.{_≡_, refl, sym, ap, subst}
 use mathlib.Core.Bool.{Bool, true, false, cond}
 use mathlib.Core.List.{List, [], _∷_}
+use Rattle.laws.proofs.Cases.{cases}
 use Rattle.power.specs.Runs.{ends, channel, Stretch}
-use Rattle.power.proofs.Step.{by-cases}
 
 -- `project` takes each allowed tick of the larger machine to a tick of the smaller, and every other call to nothing at all; `Inv` is what the larger one needs to know of its own state
 pub record Simulates {S I S′ I′ : Type 0} (call : S → I → S) (isTick : I → Bool) (tick′ : S′ → I′ → S′) (Inv : S → Type 0) (Allowed : S → I → Type 0) (project : S → S′) (input : S → I → I′) : Type 0 where
@@ -29,7 +29,7 @@ module _ {S I S′ I′ : Type 0} (call : S → I → S) (isTick : I → Bool) (
   same-ends [] s h a = refl
   same-ends (i ∷ is) s h a =
       let rest = same-ends is (call s i) (M .kept s i h (a .0)) (a .1) in
-      by-cases (isTick i)
+      cases (isTick i)
       (λ e. rw (e, ← M .ticks s i h (a .0) e) (ap (λ (l : List Bool). on (project (call s i)) ∷ l) rest))
       (λ e. rw (e, ← M .rests s i e) rest)
 

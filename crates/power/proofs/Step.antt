@@ -4,16 +4,12 @@ use mathlib.Core.Bool.{Bool, true, false, _||_, true≢false}
 use Prim.Native.Nat.{ℕ, suc, _+_, _-_, _^_, _≤_, _<_, max, min}
 use native.Mathlib.Omega.{arith}
 use borrow.Author.Tests.{leb-false, ltb-true}
+use Rattle.laws.proofs.Cases.{cases}
 use Rattle.modes.specs.Table.{_reaches_, _exceeds_, _at-least_, _above_, _below_, _aged_, stepOf, olderOf}
 use Rattle.modes.specs.Commands.{toSafety, toNominal}
 use Rattle.modes.specs.declared.Mode.{Mode}
 use Rattle.modes.specs.declared.Mode.the-variants.{Startup, Nominal, Safety, Emergency}
 use Rattle.power.specs.Machine.{State, Times, Command, switchToNominal, switchToSafety, switchOn, other, Input, limitsIn, isLit, enters, obeyed, tick, InStep}
-
--- a test, with what it came to
-pub by-cases : {X : Type 0} (b : Bool) → (b ≡ true → X) → (b ≡ false → X) → X
-by-cases true y n = y refl
-by-cases false y n = n refl
 
 -- a test cannot come to both
 pub clash : {X : Type 0} {b : Bool} → b ≡ true → b ≡ false → X
@@ -79,25 +75,25 @@ by-table : (t : Times) → t .period < 2 ^ 64 → (i : Input) (m : Mode) (a : �
     → Good t (state m a o) (enters (stepOf (olderOf (m aged a)) (i .rail) (limitsIn t i)) (state m a o))
 unfolding stepOf olderOf
 by-table t fits i Startup a o h =
-    by-cases (risen a reaches 50)
-    (λ e. by-cases (i .rail at-least i .«safety_low»)
+    cases (risen a reaches 50)
+    (λ e. cases (i .rail at-least i .«safety_low»)
     (λ d. rw (e, d) (off-on refl h refl (omega arith)))
     (λ d. rw (e, d) (off-on refl h refl (omega arith))))
     (λ e. rw e (off-off refl h refl (omega (arith, leb-false 50 (risen a) e))))
 by-table t fits i Nominal a o h =
-    by-cases (i .rail below i .«safety_low»)
+    cases (i .rail below i .«safety_low»)
     (λ e. rw e (on-on h h h (omega arith)))
     (λ e. rw e (on-on h h h (omega arith)))
 by-table t fits i Safety a o h =
-    by-cases (risen a exceeds t .linger)
-    (λ e. by-cases (i .rail above i .«safety_high»)
+    cases (risen a exceeds t .linger)
+    (λ e. cases (i .rail above i .«safety_high»)
     (λ d. rw (e, d) (on-on h h h (omega arith)))
-    (λ d. by-cases (i .rail below i .«emergency_low»)
+    (λ d. cases (i .rail below i .«emergency_low»)
     (λ k. rw (e, d, k) (on-off refl h (omega (arith, ltb-true (t .linger) (risen a) e))))
     (λ k. rw (e, d, k) (on-on h h h (omega arith)))))
     (λ e. rw e (on-on h h h (omega arith)))
 by-table t fits i Emergency a o h =
-    by-cases (i .rail above i .«emergency_high» || risen a reaches t .period)
+    cases (i .rail above i .«emergency_high» || risen a reaches t .period)
     (λ e. rw e (off-on refl h refl (omega arith)))
     (λ e. rw e (off-off refl h refl (omega (arith, leb-false (t .period) (risen a) (or-false (i .rail above i .«emergency_high») (risen a reaches t .period) e)))))
 
@@ -138,7 +134,7 @@ by-command t i switchToSafety s Safety a o g = g
 by-command t i switchToSafety s Emergency a o g = as-lit g
 by-command t i switchToNominal s Startup a o g = as-lit g
 by-command t i switchToNominal s Nominal a o g = g
-by-command t i switchToNominal s Safety a o g = by-cases (i .rail at-least i .«safety_low») (λ e. rw e (to-nominal g)) (λ e. rw e g)
+by-command t i switchToNominal s Safety a o g = cases (i .rail at-least i .«safety_low») (λ e. rw e (to-nominal g)) (λ e. rw e g)
 by-command t i switchToNominal s Emergency a o g = as-lit g
 
 -- a whole tick

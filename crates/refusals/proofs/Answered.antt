@@ -5,10 +5,10 @@ use mathlib.Core.Bool.{true, false}
 use mathlib.Core.Option.{none, some}
 use native.Mathlib.Omega.{arith}
 use lib.ListN.{length}
+use Rattle.laws.proofs.Cases.{cases}
 use Rattle.watchdog.specs.Watchdog as dog
 use Rattle.watchdog.specs.declared.Event.{Event}
 use Rattle.watchdog.specs.declared.Event.the-variants.{NoEvent, PeripheralReset, WatchdogReset}
-use Rattle.command.proofs.Laws.{cases}
 use Rattle.memory.specs.Limits.{timeoutOf, limitsOf}
 use Rattle.answers.specs.Answers.{toldNumber}
 use Rattle.answers.specs.declared.Commanded.{Commanded}
@@ -19,8 +19,8 @@ use Rattle.text.specs.declared.framing.Due.{Due}
 use Rattle.unit.specs.Machine.{toldBy, toldOf}
 use Rattle.unit.specs.declared.Machine.{Machine}
 use Rattle.unit.specs.declared.Told.{Told}
-use Rattle.unit.specs.Runs.{Sample, told}
-use Rattle.refusals.specs.Conditions.{Given, answer, settled, metIn, tickAnswer, ExactlyWhen}
+use Rattle.unit.specs.Runs.{Sample, told, afterStep3}
+use Rattle.refusals.specs.Conditions.{Given, answer, metIn, tickAnswer, ExactlyWhen}
 use Rattle.refusals.proofs.Conditions as conditions
 use Rattle.refusals.proofs.Conditions.{same-number}
 
@@ -32,7 +32,7 @@ abbrev pub watched : Due → Commanded → Told
 watched due c = toldBy (watchedAs (happening c) c) due
 
 abbrev pub given : Machine → Sample → Commanded
-given m i = commandedOf (i .rail) (limitsOf (m .board .memory)) (i .sent) (i .transfer) (settled m i)
+given m i = commandedOf (i .rail) (limitsOf (m .board .memory)) (i .sent) (i .transfer) (afterStep3 m i)
 
 module _ (m : Machine) (i : Sample) where
   pub told-is : allowedCount (length (i .words)) ≡ true → told m i ≡ watched (m .due) (given m i)

@@ -10,6 +10,7 @@ use lib.Dec.{eqb, ltb}
 use lib.Ieee.{binary32, binary64}
 use lib.ListN.{length, drop, length-drop}
 use borrow.Author.Tests.{eqb-true, eqb-false, eq-eqb, ne-eqb, ltb-true, ltb-false, lt-ltb, le-ltb}
+use Rattle.laws.proofs.Cases.{cases}
 use Rattle.laws.proofs.Lists.{lt-or-le}
 use Rattle.wire.specs.Numbers.{number}
 use Rattle.wire.specs.Floats.{nanPattern}
@@ -25,7 +26,7 @@ use Rattle.command.specs.Table as commandTable
 use Rattle.command.specs.Decode.{fewerThanFour, valuePart}
 use Rattle.command.specs.Checks as checks
 use Rattle.command.specs.Checks.{Check, _when_, first}
-use Rattle.command.proofs.Laws.{cases, none, _and_}
+use Rattle.command.proofs.Laws.{none, _and_}
 use Rattle.order.specs.Checks.{unavailable, channelCodes, channelWrong, checksumWrong, checksBy, checksOf}
 use Rattle.order.proofs.Order.{at-code, in-order}
 use Rattle.commands.specs.Step.{commandedOf}

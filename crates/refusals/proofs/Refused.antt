@@ -6,6 +6,7 @@ use mathlib.Core.List.{List, [], _∷_}
 use mathlib.Core.Option.{some}
 use native.Mathlib.Omega.{arith}
 use lib.Dec.{eqb}
+use Rattle.laws.proofs.Cases.{cases}
 use Rattle.wire.specs.Numbers.{bytesOf}
 use Rattle.wire.specs.Replies.{shown, replyOf, laidOut, replyCode}
 use Rattle.replies.specs.Layouts.{shortReply}
@@ -15,7 +16,6 @@ use Rattle.answers.specs.declared.Answer.the-variants.{Accepted, FewerThanFourB
 use Rattle.answers.specs.declared.Commanded.{Commanded}
 use Rattle.refusals.specs.Conditions.{Sent, code, obeyed, answer}
 use Rattle.replies.proofs.Positions.{shown-short}
-use Rattle.command.proofs.Laws.{cases}
 use Rattle.refusals.specs.Refused.{Stat, _has-stat_, stats, statIn, refusal, answeredAlone, answeredAndFed, RefusedCommand}
 use Rattle.refusals.proofs.Results.{step, silent-is, elsewhere-is, refused-is}
 

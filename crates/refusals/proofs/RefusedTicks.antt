@@ -22,8 +22,8 @@ use Rattle.board.specs.Tick.{watchedAs}
 use Rattle.text.specs.declared.framing.Due.{Due}
 use Rattle.unit.specs.Machine.{toldBy}
 use Rattle.unit.specs.declared.Machine.{Machine}
-use Rattle.unit.specs.Runs.{Sample, told}
-use Rattle.refusals.specs.Conditions.{Sent, code, obeyed, answer, settled, metIn, tickAnswer}
+use Rattle.unit.specs.Runs.{Sample, told, afterStep3}
+use Rattle.refusals.specs.Conditions.{Sent, code, obeyed, answer, metIn, tickAnswer}
 use Rattle.refusals.specs.Refused.{statIn, refusal, answeredAndFed}
 use Rattle.refusals.specs.RefusedTicks.{quiet, replying, RefusedTick}
 use Rattle.refusals.proofs.Results.{step, accepted-is, silent-is, elsewhere-is, refused-is}
@@ -108,7 +108,7 @@ module _ (m : Machine) (i : Sample) where
     with-transfer : told m i ≡ watched (m .due) (obeyed t)
     with-transfer =
         let allowed = happens m i n h q in
-        told-is m i allowed ∙ ap (λ (sent : Bool). watched (m .due) (commandedOf (i .rail) (limitsOf (m .board .memory)) sent (i .transfer) (settled m i))) (sends m i n allowed q)
+        told-is m i allowed ∙ ap (λ (sent : Bool). watched (m .due) (commandedOf (i .rail) (limitsOf (m .board .memory)) sent (i .transfer) (afterStep3 m i))) (sends m i n allowed q)
 
     without-transfer : told m (quiet i) ≡ watched (m .due) (unsent t (m .due))
     unfolding commandedOf

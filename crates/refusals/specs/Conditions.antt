@@ -31,9 +31,8 @@ use Rattle.answers.specs.declared.Commanded.{Commanded}
 use Rattle.commands.specs.Step.{commandedOf}
 use Rattle.order.specs.Checks as order
 use Rattle.order.specs.Checks.{_is_}
-use Rattle.board.specs.Tick.{risenOf, changedOf, trippedOf, allowedCount}
 use Rattle.unit.specs.declared.Machine.{Machine}
-use Rattle.unit.specs.Runs.{Sample, told}
+use Rattle.unit.specs.Runs.{Sample, told, happens, afterStep3}
 
 -- ---- a transfer, and what it meets: the board as the command step finds it, the rail of the tick and the limits in force
 pub record Sent : Type 0 where
@@ -178,11 +177,8 @@ abbrev pub answer : Sent → Option ℕ
 answer t = toldNumber (obeyed t .outcome)
 
 -- by a tick, whose transfer meets the board that steps 1 to 3 leave
-abbrev pub settled : Machine → Sample → Board
-settled m i = trippedOf (i .named) (changedOf (i .rail) (limitsOf (m .board .memory)) (risenOf (i .words) (m .board)))
-
 abbrev pub metIn : Machine → Sample → Sent
-metIn m i = record { rail = i .rail; limits = limitsOf (m .board .memory); board = settled m i; bytes = i .transfer }
+metIn m i = record { rail = i .rail; limits = limitsOf (m .board .memory); board = afterStep3 m i; bytes = i .transfer }
 
 abbrev pub tickAnswer : Machine → Sample → Option ℕ
 tickAnswer m i = toldNumber (told m i .outcome)
@@ -196,9 +192,9 @@ pub record ExactlyWhen : Type 0 where
   pub answered : (t : Sent) (n : ℕ) → Given t n → answer t ≡ some n
   pub only-answered : (t : Sent) (n : ℕ) → answer t ≡ some n → Given t n
   -- so does a tick that happens and has a transfer
-  pub told-so : (m : Machine) (i : Sample) (n : ℕ) → allowedCount (length (i .words)) ≡ true → i .sent ≡ true → Given (metIn m i) n → tickAnswer m i ≡ some n
+  pub told-so : (m : Machine) (i : Sample) (n : ℕ) → happens i ≡ true → i .sent ≡ true → Given (metIn m i) n → tickAnswer m i ≡ some n
   -- a tick that happens and has none tells no number
-  pub unasked : (m : Machine) (i : Sample) → allowedCount (length (i .words)) ≡ true → i .sent ≡ false → tickAnswer m i ≡ none
+  pub unasked : (m : Machine) (i : Sample) → happens i ≡ true → i .sent ≡ false → tickAnswer m i ≡ none
   -- and a tick that tells one of the eight happened, had a transfer, and its answer is given
   pub only-told : (m : Machine) (i : Sample) (n : ℕ) → n ≤ 7 → tickAnswer m i ≡ some n
-      → (allowedCount (length (i .words)) ≡ true) × (i .sent ≡ true) × Given (metIn m i) n
+      → (happens i ≡ true) × (i .sent ≡ true) × Given (metIn m i) n

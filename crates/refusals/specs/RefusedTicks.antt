@@ -11,8 +11,8 @@ use Rattle.state.specs.Parts.{withReply, withTimer}
 use Rattle.state.specs.declared.parts.Board.{Board}
 use Rattle.text.specs.declared.framing.Due.the-variants.{Reply}
 use Rattle.unit.specs.declared.Machine.{Machine}
-use Rattle.unit.specs.Runs.{Sample, told}
-use Rattle.refusals.specs.Conditions.{settled, metIn, tickAnswer}
+use Rattle.unit.specs.Runs.{Sample, told, afterStep3}
+use Rattle.refusals.specs.Conditions.{metIn, tickAnswer}
 use Rattle.refusals.specs.Refused.{refusal}
 
 -- the same tick without its transfer
@@ -37,4 +37,4 @@ pub record RefusedTick : Type 0 where
   pub refused-no-event : (m : Machine) (i : Sample) (n : ℕ) → 4 ≤ n → n ≤ 7 → tickAnswer m i ≡ some n → told m i .event ≡ NoEvent
   -- 4 to 7: steps 1 to 3, and then only the reply and the timer
   pub as-after-step-3 : (m : Machine) (i : Sample) (n : ℕ) → 4 ≤ n → n ≤ 7 → tickAnswer m i ≡ some n
-      → told m i .machine ≡ replying (withReply (refusal n (metIn m i)) (withTimer 0 (settled m i)))
+      → told m i .machine ≡ replying (withReply (refusal n (metIn m i)) (withTimer 0 (afterStep3 m i)))

@@ -13,7 +13,6 @@ use Rattle.memory.specs.Memory.{emptyStore}
 use Rattle.memory.specs.declared.Store.{Store}
 use Rattle.state.specs.Start.{keepsTheRules, startNumber}
 use Rattle.state.specs.declared.parts.Profile.{Profile}
-use Rattle.board.specs.Tick.{allowedCount}
 use Rattle.text.specs.Answers.{lineNumber, framedNumber}
 use Rattle.text.specs.Framing.{framedOf}
 use Rattle.text.specs.Given.{GivenWhen}
@@ -27,7 +26,7 @@ use Rattle.script.specs.Printing.{page, typed}
 use Rattle.session.specs.Transcript.{refused8, refused14}
 use Rattle.session.specs.Sessions.{profileIn, opens, noSession, answerFrom, answerNumber, openedOf}
 use Rattle.session.specs.declared.running.Answer.the-variants.{ProfileBreaksARule, NotOfForm}
-use Rattle.unit.specs.Runs.{Sample, told}
+use Rattle.unit.specs.Runs.{Sample, told, happens}
 use Rattle.refusals.specs.Conditions.{tickAnswer}
 
 -- 8, of a start: a profile that breaks a rule; the machine that was there stays
@@ -37,9 +36,9 @@ pub record Eight : Type 0 where
 
 -- 9, of a tick: some words were lent, but not 122; nothing of the tick takes place
 pub record Nine : Type 0 where
-  pub given : (m : Machine) (i : Sample) → allowedCount (length (i .words)) ≡ false → tickAnswer m i ≡ some 9
-  pub only : (m : Machine) (i : Sample) → allowedCount (length (i .words)) ≡ true → tickAnswer m i ≡ some 9 → ⊥
-  pub leaves : (m : Machine) (i : Sample) → allowedCount (length (i .words)) ≡ false → (told m i .machine ≡ m) × (told m i .event ≡ NoEvent)
+  pub given : (m : Machine) (i : Sample) → happens i ≡ false → tickAnswer m i ≡ some 9
+  pub only : (m : Machine) (i : Sample) → happens i ≡ true → tickAnswer m i ≡ some 9 → ⊥
+  pub leaves : (m : Machine) (i : Sample) → happens i ≡ false → (told m i .machine ≡ m) × (told m i .event ≡ NoEvent)
 
 -- 10 to 13, of a read of the text line: each answer is given where `GivenWhen` says, and a refused read leaves the machine and the scratch buffer
 pub record Reads : Type 0 where

@@ -5,9 +5,14 @@ use Prim.Native.Nat.{ℕ}
 use mathlib.Core.Bool.{Bool, true}
 use mathlib.Core.List.{List, [], _∷_}
 use lib.IntN.{ℤ}
+use lib.ListN.{length}
+use Rattle.memory.specs.Limits.{limitsOf}
 use Rattle.memory.specs.declared.Store.{Store}
 use Rattle.state.specs.Start.{keepsTheRules}
+use Rattle.state.specs.declared.parts.Board.{Board}
 use Rattle.state.specs.declared.parts.Profile.{Profile}
+use Rattle.commands.specs.Step.{commandedOf}
+use Rattle.board.specs.Tick.{risenOf, changedOf, trippedOf, allowedCount}
 use Rattle.unit.specs.Machine.{begunOf, toldOf, heardOf}
 use Rattle.unit.specs.declared.Machine.{Machine}
 use Rattle.unit.specs.declared.Told.{Told}
@@ -23,6 +28,20 @@ pub record Sample : Type 0 where
 -- what the tick tells, and the machine after it: the definition that the contract of `unit::tick` cites
 abbrev pub told : Machine → Sample → Told
 told m i = toldOf (i .rail) (i .named) (i .words) (i .sent) (i .transfer) m
+
+-- it happens: the words lent are none or 122
+abbrev pub happens : Sample → Bool
+happens i = allowedCount (length (i .words))
+
+-- the board as steps 2, 3 and 4 of such a tick leave it
+abbrev pub afterStep2 : Machine → Sample → Board
+afterStep2 m i = changedOf (i .rail) (limitsOf (m .board .memory)) (risenOf (i .words) (m .board))
+
+abbrev pub afterStep3 : Machine → Sample → Board
+afterStep3 m i = trippedOf (i .named) (afterStep2 m i)
+
+abbrev pub afterStep4 : Machine → Sample → Board
+afterStep4 m i = commandedOf (i .rail) (limitsOf (m .board .memory)) (i .sent) (i .transfer) (afterStep3 m i) .board
 
 -- a tick, which may be one that refusal 9 turns away, or a read of the text line with a scratch buffer of some room, which may switch the form
 pub data Call : Type 0 where

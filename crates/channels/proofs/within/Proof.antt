@@ -1,7 +1,8 @@
 -- `within` meets its contract: what is left over of the inner set holds each channel that is not in the outer one, and it holds none where all are. Assumes nothing.
+use Rattle.laws.proofs.Cases.{cases}
 use Rattle.channels.specs.Sets.{has, isWithin}
 use Rattle.channels.proofs.Sets.{allBelow-ext, is-none, and-below}
-use Rattle.channels.proofs.Cases.{holds, cases}
+use Rattle.channels.proofs.Cases.{holds}
 use Rattle.channels.proofs.within.Statement.{statement}
 use Rattle.channels.proofs.within.Tie as tie
 

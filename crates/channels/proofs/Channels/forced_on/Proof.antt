@@ -1,8 +1,9 @@
 -- `forced_on` meets its contract: a channel is in the set of those on where it is in both sets, and none is in the empty set. Assumes nothing.
 use borrow.Author.Needs.{needs}
+use Rattle.laws.proofs.Cases.{cases}
 use Rattle.channels.specs.Sets.{has}
 use Rattle.channels.specs.Operations.{forcedOn}
-use Rattle.channels.proofs.Cases.{holds, fits, cases}
+use Rattle.channels.proofs.Cases.{holds, fits}
 use Rattle.channels.proofs.Whole.{is-whole}
 use Rattle.channels.proofs.Channels.forced_on.Statement.{statement}
 use Rattle.channels.proofs.Channels.forced_on.Tie as tie

@@ -1,9 +1,10 @@
 -- `group_on` meets its contract: each channel is what the rule says, by cases on the sets that it is in. Assumes nothing.
 use borrow.Author.Needs.{needs}
+use Rattle.laws.proofs.Cases.{cases}
 use Rattle.channels.specs.Sets.{has}
 use Rattle.channels.specs.Operations.{groupOn}
 use Rattle.channels.proofs.Sets.{and-below}
-use Rattle.channels.proofs.Cases.{holds, fits, cases}
+use Rattle.channels.proofs.Cases.{holds, fits}
 use Rattle.channels.proofs.Whole.{is-whole}
 use Rattle.channels.proofs.Channels.group_on.Statement.{statement}
 use Rattle.channels.proofs.Channels.group_on.Tie as tie

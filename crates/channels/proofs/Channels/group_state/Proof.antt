@@ -1,10 +1,11 @@
 -- `group_state` meets its contract: each channel is what the rule says, by cases on the sets that it is in. Assumes nothing.
 use borrow.Author.Needs.{needs}
+use Rattle.laws.proofs.Cases.{cases}
 use Rattle.channels.specs.Sets.{has}
 use Rattle.channels.specs.Operations.{groupState}
 use lib.Bits.{or-lt}
 use Rattle.channels.proofs.Sets.{and-below}
-use Rattle.channels.proofs.Cases.{holds, fits, cases}
+use Rattle.channels.proofs.Cases.{holds, fits}
 use Rattle.channels.proofs.Whole.{is-whole}
 use Rattle.channels.proofs.Channels.group_state.Statement.{statement}
 use Rattle.channels.proofs.Channels.group_state.Tie as tie

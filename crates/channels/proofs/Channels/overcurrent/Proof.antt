@@ -5,11 +5,12 @@ use Prim.Native.Nat.{ℕ}
 use native.Mathlib.Omega.{arith}
 use borrow.Author.Needs.{needs}
 use lib.Bits.{bitAnd}
+use Rattle.laws.proofs.Cases.{cases}
 use Rattle.channels.specs.Sets.{has}
 use Rattle.channels.specs.Operations.{overcurrentAt}
 use Rattle.channels.specs.Counting.{countAll}
 use Rattle.channels.proofs.Sets.{has-and, has-none, and-below, length-listOf, getD-listOf}
-use Rattle.channels.proofs.Cases.{holds, fits, cases}
+use Rattle.channels.proofs.Cases.{holds, fits}
 use Rattle.channels.proofs.Whole.{is-whole}
 use Rattle.channels.proofs.Channels.overcurrent.Statement.{statement}
 use Rattle.channels.proofs.Channels.overcurrent.Tie as tie
