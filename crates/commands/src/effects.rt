@@ -1,6 +1,12 @@
 // What each command does once the decoder let it through.
 ghost use mathlib.Core.Path.{_≡_};
-ghost use Rattle.commands.specs.Effects.{switchedModeOf, faultsOf, newWhere, housekeepingOf, parameterOf, rememberedOf, savedIn, restartedOf, runOf};
+ghost use Rattle.answers.specs.Answers.{acceptedOf, refusedOf};
+ghost use Rattle.state.specs.Parts.{withPhase, withChannels};
+ghost use Rattle.commands.specs.Effects.{switchedModeOf, housekeepingOf, savedIn, restartedOf, runOf};
+ghost use Rattle.commands.specs.Parts.{obeyedIn, layoutOf, remembersOf};
+use crate::parts::Layout;
+use crate::parts::Obeyed;
+use crate::parts::Remembers;
 use crate::switching::cancelled;
 use crate::switching::channel_off;
 use crate::switching::channel_on;
@@ -8,143 +14,171 @@ use crate::switching::group_off;
 use crate::switching::group_on;
 use crate::switching::group_state;
 use answers::Answer;
-use answers::Commanded;
 use answers::Outcome;
-use answers::accepted;
-use answers::accepted_with;
-use answers::header;
-use answers::refused;
-use answers::silent;
-use answers::value_read;
+use channels::Channels;
 use command::Command;
-use memory::Memory;
 use modes::Limits;
+use modes::ModeAge;
 use state::Board;
-use state::Measured;
+
+// Accepted, with a mode and channels of its own; the timer is fed.
+pub fn accepted(b: Board, phase: ModeAge, channels: Channels) -> Obeyed
+    ensures { λ r. ⌜ r ≡ obeyedIn (acceptedOf 0 (withPhase phase (withChannels channels b))) ⌝ }
+{
+    let fresh = b.measured.fresh;
+    Obeyed {
+        phase,
+        timer: 0,
+        channels,
+        outcome: Outcome::Answered(Answer::Accepted),
+        fresh,
+        replied: true,
+    }
+}
+
+// Answered, with nothing changed but the timer, which is fed.
+pub fn unchanged(b: Board, answer: Answer) -> Obeyed
+    ensures { λ r. ⌜ r ≡ obeyedIn (refusedOf answer 0 b) ⌝ }
+{
+    let phase = b.phase.kept();
+    let channels = b.channels;
+    let fresh = b.measured.fresh;
+    Obeyed {
+        phase,
+        timer: 0,
+        channels,
+        outcome: Outcome::Answered(answer),
+        fresh,
+        replied: true,
+    }
+}
 
 // 0x30 and 0x32: the mode, and with it the channels, where the change is available.
-fn switched_mode(mut b: Board, code: u8, change: modes::Commanded) -> Commanded
-    ensures { λ r. ⌜ r ≡ switchedModeOf code change b ⌝ }
+fn switched_mode(b: Board, change: modes::Commanded) -> Obeyed
+    ensures { λ r. ⌜ r ≡ obeyedIn (switchedModeOf 0 change b) ⌝ }
 {
     match change {
         modes::Commanded::Accepted(phase) => {
             let channels = state::entering(b.phase.mode(), phase.mode(), b.profile, b.channels);
-            b.channels = channels;
-            b.phase = phase;
-            accepted(b, code)
+            accepted(b, phase, channels)
         }
-        modes::Commanded::Unavailable => refused(b, code, Answer::NotAvailable),
+        modes::Commanded::Unavailable => unchanged(b, Answer::NotAvailable),
     }
 }
 
-// 0x42: which channels are on and latched, and their overcurrent counts.
-fn faults(b: Board, code: u8) -> Commanded
-    ensures { λ r. ⌜ r ≡ faultsOf code b ⌝ }
+// 0x50: the measured words are no longer new.
+fn housekeeping(b: Board) -> Obeyed
+    ensures { λ r. ⌜ r ≡ obeyedIn (housekeepingOf 0 b) ⌝ }
 {
-    let c = b.channels;
-    let reply = replies::faults(
-        header(b.profile),
-        code,
-        0x80,
-        c.on(),
-        c.latched(),
-        c.counts(),
-    );
-    accepted_with(b, reply)
+    let mut told = unchanged(b, Answer::Accepted);
+    told.fresh = false;
+    told
 }
 
-// The status of an accepted command whose reply is new, or is not.
-fn new_where(fresh: bool) -> u8
-    ensures { λ r. ⌜ r ≡ newWhere fresh ⌝ }
-{
-    if fresh {
-        return 0x80;
-    }
-    0x00
-}
-
-// 0x50: the measured words, which are then no longer new.
-fn housekeeping(mut b: Board, code: u8) -> Commanded
-    ensures { λ r. ⌜ r ≡ housekeepingOf code b ⌝ }
-{
-    let c = b.channels;
-    let m = b.measured;
-    let words = m.words;
-    let reply = replies::housekeeping(
-        header(b.profile),
-        code,
-        new_where(m.fresh),
-        c.on(),
-        c.latched(),
-        words,
-    );
-    let seen = Measured {
-        words,
-        fresh: false,
-    };
-    b.measured = seen;
-    accepted_with(b, reply)
-}
-
-// 0x82, 0x84 and 0x86: the memory that the command leaves, and a reply with the value that the id then has.
-fn parameter(mut b: Board, code: u8, id: u16, memory: Memory) -> Commanded
-    ensures { λ r. ⌜ r ≡ parameterOf code id memory b ⌝ }
-{
-    let value = value_read(b.profile, memory, b.resets, id);
-    let reply = replies::parameter(header(b.profile), code, 0x80, id, value);
-    b.memory = memory;
-    accepted_with(b, reply)
-}
-
-// 0x90 and 0x92: the memory that the command leaves.
-fn remembered(mut b: Board, code: u8, memory: Memory) -> Commanded
-    ensures { λ r. ⌜ r ≡ rememberedOf code memory b ⌝ }
-{
-    b.memory = memory;
-    accepted(b, code)
-}
-
-// 0x94: the settings are saved, where the checksum is 0 or right.
-fn saved(b: Board, code: u8, checksum: u16) -> Commanded
-    ensures { λ r. ⌜ r ≡ savedIn code checksum b ⌝ }
+// 0x94: refused where the checksum is neither 0 nor right.
+fn saved(b: Board, checksum: u16) -> Obeyed
+    ensures { λ r. ⌜ r ≡ obeyedIn (savedIn 0 checksum b) ⌝ }
 {
     let s = b.memory.save(checksum);
     if !s.right {
-        return refused(b, code, Answer::Wrong);
+        return unchanged(b, Answer::Wrong);
     }
-    remembered(b, code, s.memory)
+    unchanged(b, Answer::Accepted)
 }
 
-// 0xAA: the board starts over, and no reply is left.
-fn restarted(b: Board) -> Commanded
-    ensures { λ r. ⌜ r ≡ restartedOf b ⌝ }
+// 0xAA: the small parts of a board that starts over, and no reply.
+fn restarted(b: Board) -> Obeyed
+    ensures { λ r. ⌜ r ≡ obeyedIn (restartedOf b) ⌝ }
 {
-    silent(state::command_reset(b), Outcome::Answered(Answer::Accepted))
+    let phase = ModeAge::start();
+    let channels = Channels::clear();
+    Obeyed {
+        phase,
+        timer: 0,
+        channels,
+        outcome: Outcome::Answered(Answer::Accepted),
+        fresh: false,
+        replied: false,
+    }
 }
 
-// A command that the decoder let through.
-pub fn run(b: Board, rail: i16, limits: Limits, code: u8, c: Command) -> Commanded
-    ensures { λ r. ⌜ r ≡ runOf rail limits code c b ⌝ }
+// The small parts after a command that the decoder let through.
+pub fn run(b: Board, rail: i16, limits: Limits, c: Command) -> Obeyed
+    ensures { λ r. ⌜ r ≡ obeyedIn (runOf rail limits 0 c b) ⌝ }
 {
     match c {
         Command::SystemReset => restarted(b),
-        Command::NoOperation => accepted(b, code),
-        Command::CancelOperation => cancelled(b, code),
-        Command::Watchdog => accepted(b, code),
-        Command::GroupOn(g) => group_on(b, code, g),
-        Command::GroupOff(g) => group_off(b, code, g),
-        Command::GroupState(g) => group_state(b, code, g),
-        Command::ChannelOn(one) => channel_on(b, code, one),
-        Command::ChannelOff(one) => channel_off(b, code, one),
-        Command::SwitchToNominal => switched_mode(b, code, b.phase.to_nominal(rail, limits)),
-        Command::SwitchToSafety => switched_mode(b, code, b.phase.to_safety()),
-        Command::GetOvercurrentFaultState => faults(b, code),
-        Command::GetHousekeeping => housekeeping(b, code),
-        Command::GetParameter(id) => parameter(b, code, id, b.memory),
-        Command::SetParameter(id, v) => parameter(b, code, id, b.memory.set(id, v)),
-        Command::ResetParameter(id) => parameter(b, code, id, b.memory.reset_one(id)),
-        Command::ResetConfiguration => remembered(b, code, b.memory.to_defaults()),
-        Command::LoadConfiguration => remembered(b, code, b.memory.load()),
-        Command::SaveConfiguration(checksum) => saved(b, code, checksum),
+        Command::NoOperation => unchanged(b, Answer::Accepted),
+        Command::CancelOperation => cancelled(b),
+        Command::Watchdog => unchanged(b, Answer::Accepted),
+        Command::GroupOn(g) => group_on(b, g),
+        Command::GroupOff(g) => group_off(b, g),
+        Command::GroupState(g) => group_state(b, g),
+        Command::ChannelOn(one) => channel_on(b, one),
+        Command::ChannelOff(one) => channel_off(b, one),
+        Command::SwitchToNominal => switched_mode(b, b.phase.to_nominal(rail, limits)),
+        Command::SwitchToSafety => switched_mode(b, b.phase.to_safety()),
+        Command::GetOvercurrentFaultState => unchanged(b, Answer::Accepted),
+        Command::GetHousekeeping => housekeeping(b),
+        Command::GetParameter(_) => unchanged(b, Answer::Accepted),
+        Command::SetParameter(_, _) => unchanged(b, Answer::Accepted),
+        Command::ResetParameter(_) => unchanged(b, Answer::Accepted),
+        Command::ResetConfiguration => unchanged(b, Answer::Accepted),
+        Command::LoadConfiguration => unchanged(b, Answer::Accepted),
+        Command::SaveConfiguration(checksum) => saved(b, checksum),
+    }
+}
+
+// The page by which the reply to a command is laid out.
+pub fn layout_of(c: Command) -> Layout
+    ensures { λ r. ⌜ r ≡ layoutOf c ⌝ }
+{
+    match c {
+        Command::SystemReset => Layout::Short,
+        Command::NoOperation => Layout::Short,
+        Command::CancelOperation => Layout::Short,
+        Command::Watchdog => Layout::Short,
+        Command::GroupOn(_) => Layout::Short,
+        Command::GroupOff(_) => Layout::Short,
+        Command::GroupState(_) => Layout::Short,
+        Command::ChannelOn(_) => Layout::Short,
+        Command::ChannelOff(_) => Layout::Short,
+        Command::SwitchToNominal => Layout::Short,
+        Command::SwitchToSafety => Layout::Short,
+        Command::GetOvercurrentFaultState => Layout::Faults,
+        Command::GetHousekeeping => Layout::Housekeeping,
+        Command::GetParameter(id) => Layout::Parameter(id),
+        Command::SetParameter(id, _) => Layout::Parameter(id),
+        Command::ResetParameter(id) => Layout::Parameter(id),
+        Command::ResetConfiguration => Layout::Short,
+        Command::LoadConfiguration => Layout::Short,
+        Command::SaveConfiguration(_) => Layout::Short,
+    }
+}
+
+// What a command does to the memory.
+pub fn remembers_of(c: Command) -> Remembers
+    ensures { λ r. ⌜ r ≡ remembersOf c ⌝ }
+{
+    match c {
+        Command::SystemReset => Remembers::Restart,
+        Command::NoOperation => Remembers::AsBefore,
+        Command::CancelOperation => Remembers::AsBefore,
+        Command::Watchdog => Remembers::AsBefore,
+        Command::GroupOn(_) => Remembers::AsBefore,
+        Command::GroupOff(_) => Remembers::AsBefore,
+        Command::GroupState(_) => Remembers::AsBefore,
+        Command::ChannelOn(_) => Remembers::AsBefore,
+        Command::ChannelOff(_) => Remembers::AsBefore,
+        Command::SwitchToNominal => Remembers::AsBefore,
+        Command::SwitchToSafety => Remembers::AsBefore,
+        Command::GetOvercurrentFaultState => Remembers::AsBefore,
+        Command::GetHousekeeping => Remembers::AsBefore,
+        Command::GetParameter(_) => Remembers::AsBefore,
+        Command::SetParameter(id, v) => Remembers::Set(id, v),
+        Command::ResetParameter(id) => Remembers::ResetOne(id),
+        Command::ResetConfiguration => Remembers::Defaults,
+        Command::LoadConfiguration => Remembers::Load,
+        Command::SaveConfiguration(checksum) => Remembers::Save(checksum),
     }
 }

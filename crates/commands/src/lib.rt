@@ -1,5 +1,7 @@
 // Step 4 of a tick: the command. What each transfer is answered, what it alters, and the reply that then waits.
+mod asked;
 mod effects;
+mod parts;
 mod step;
 mod switching;
 

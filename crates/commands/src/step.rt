@@ -1,84 +1,147 @@
-// The checks in their order, and the command step.
+// Step 4 of a tick: a board obeys, in place.
 ghost use mathlib.Core.Path.{_≡_};
-ghost use Rattle.commands.specs.Step.{isStartup, turnedDown, decodedOf, transferredOf, commandedOf};
-use crate::effects::run;
-use answers::Answer;
+ghost use Rattle.commands.specs.Step.{commandedOf};
+ghost use Rattle.commands.specs.Effects.{newWhere};
+ghost use Rattle.commands.specs.Parts.{statTold, replyTo, alters, startsOver, memoryAfter};
+use crate::asked::asked_of;
+use crate::asked::layout;
+use crate::asked::obeyed;
+use crate::asked::remembers;
+use crate::parts::Layout;
+use crate::parts::Remembers;
 use answers::Commanded;
 use answers::Outcome;
 use answers::Received;
 use answers::header;
-use answers::not_this_board;
-use answers::refused;
-use answers::silent;
 use answers::start_of;
-use command::Decoded;
-use command::Refusal;
+use answers::stat;
+use answers::value_read;
+use memory::Memory;
 use modes::Limits;
-use modes::Mode;
 use state::Board;
+use wire::Reply;
 
-// Whether a mode is startup.
-fn is_startup(mode: Mode) -> bool
-    ensures { λ r. ⌜ r ≡ isStartup mode ⌝ }
+// The status code of what a tick tells of its transfer; without an answer there is no reply, and none is asked for.
+fn stat_told(outcome: Outcome) -> u8
+    ensures { λ r. ⌜ r ≡ statTold outcome ⌝ }
 {
-    match mode {
-        Mode::Startup => true,
-        Mode::Nominal => false,
-        Mode::Safety => false,
-        Mode::Emergency => false,
+    match outcome {
+        Outcome::WrongWordCount => 0,
+        Outcome::NoTransfer => 0,
+        Outcome::Answered(answer) => stat(answer),
     }
 }
 
-// A transfer that the decoder refused.
-fn turned_down(b: Board, sent: Received, r: Refusal) -> Commanded
-    ensures { λ c. ⌜ c ≡ turnedDown (sent .code) r b ⌝ }
+// The status of an accepted command whose reply is new, or is not.
+fn new_where(fresh: bool) -> u8
+    ensures { λ r. ⌜ r ≡ newWhere fresh ⌝ }
 {
-    let code = sent.code;
-    match r {
-        Refusal::FewerThanFourBytes => silent(b, Outcome::Answered(Answer::FewerThanFourBytes)),
-        Refusal::NotThisBoard => not_this_board(b, sent),
-        Refusal::CodeNotListed => refused(b, code, Answer::CodeNotListed),
-        Refusal::TooShort => refused(b, code, Answer::TooShort),
-        Refusal::WrongKey => refused(b, code, Answer::Wrong),
-        Refusal::WrongParameter => refused(b, code, Answer::Wrong),
-        Refusal::NotANumber => refused(b, code, Answer::Wrong),
+    if fresh {
+        return 0x80;
+    }
+    0x00
+}
+
+// The reply of a board whose memory is as the command leaves it, with the board's own header and not the one that was received.
+fn reply_to(b: Board, sent: Received, outcome: Outcome, layout: Layout) -> Reply
+    ensures { λ r. ⌜ r ≡ replyTo (sent .code) outcome layout b ⌝ }
+{
+    let own = header(b.profile);
+    let c = b.channels;
+    match layout {
+        Layout::Short => replies::short(own, sent.code, stat_told(outcome)),
+        Layout::Faults => replies::faults(own, sent.code, 0x80, c.on(), c.latched(), c.counts()),
+        Layout::Housekeeping => {
+            let m = b.measured;
+            let words = m.words;
+            let stat = new_where(m.fresh);
+            replies::housekeeping(own, sent.code, stat, c.on(), c.latched(), words)
+        }
+        Layout::Parameter(id) => {
+            let value = value_read(b.profile, b.memory, b.resets, id);
+            replies::parameter(own, sent.code, 0x80, id, value)
+        }
     }
 }
 
-// A transfer as the decoder found it.
-fn decoded(b: Board, rail: i16, limits: Limits, sent: Received, d: Decoded) -> Commanded
-    ensures { λ r. ⌜ r ≡ decodedOf rail limits (sent .code) d b ⌝ }
+// Whether the memory is altered, other than by starting over.
+fn is_altering(how: Remembers) -> bool
+    ensures { λ r. ⌜ r ≡ alters how ⌝ }
 {
-    match d {
-        Decoded::Run(c) => run(b, rail, limits, sent.code, c),
-        Decoded::Refused(r) => turned_down(b, sent, r),
+    match how {
+        Remembers::AsBefore => false,
+        Remembers::Set(_, _) => true,
+        Remembers::ResetOne(_) => true,
+        Remembers::Defaults => true,
+        Remembers::Load => true,
+        Remembers::Save(_) => true,
+        Remembers::Restart => false,
     }
 }
 
-// A transfer: its length and the mode are asked before the decoder is.
-fn transferred(b: Board, rail: i16, limits: Limits, transfer: &[u8]) -> Commanded
-    ensures { λ r. ⌜ r ≡ transferredOf rail limits (now (transfer .entry)) b ⌝ }
+// Whether the board starts over.
+fn is_restart(how: Remembers) -> bool
+    ensures { λ r. ⌜ r ≡ startsOver how ⌝ }
 {
-    let codes = command::base_codes();
-    let sent = start_of(transfer);
-    let short = command::too_short(transfer);
-    let in_startup = is_startup(b.phase.mode());
-    let found = command::decode(header(b.profile), &codes, transfer);
-    if short {
-        return silent(b, Outcome::Answered(Answer::FewerThanFourBytes));
+    match how {
+        Remembers::AsBefore => false,
+        Remembers::Set(_, _) => false,
+        Remembers::ResetOne(_) => false,
+        Remembers::Defaults => false,
+        Remembers::Load => false,
+        Remembers::Save(_) => false,
+        Remembers::Restart => true,
     }
-    if in_startup {
-        return silent(b, Outcome::Answered(Answer::InStartup));
+}
+
+// The memory after a command. A save that is refused leaves it.
+fn memory_after(m: Memory, how: Remembers) -> Memory
+    ensures { λ r. ⌜ r ≡ memoryAfter how m ⌝ }
+{
+    match how {
+        Remembers::AsBefore => m,
+        Remembers::Set(id, v) => m.set(id, v),
+        Remembers::ResetOne(id) => m.reset_one(id),
+        Remembers::Defaults => m.to_defaults(),
+        Remembers::Load => m.load(),
+        Remembers::Save(checksum) => {
+            let s = m.save(checksum);
+            s.memory
+        }
+        Remembers::Restart => m,
     }
-    decoded(b, rail, limits, sent, found)
 }
 
 // Step 4: no transfer, or one of any length and content. Where none was sent, the slice is not looked at.
-pub fn commanded(b: Board, rail: i16, limits: Limits, sent: bool, transfer: &[u8]) -> Commanded
+pub fn commanded(mut b: Board, rail: i16, limits: Limits, sent: bool, transfer: &[u8]) -> Commanded
     ensures { λ r. ⌜ r ≡ commandedOf rail limits sent (now (transfer .entry)) b ⌝ }
 {
-    if !sent {
-        return silent(b, Outcome::NoTransfer);
+    let asked = asked_of(b.phase.mode(), header(b.profile), sent, transfer);
+    let told = obeyed(b, rail, limits, asked);
+    let how = remembers(asked);
+    let outcome = told.outcome;
+    let replied = told.replied;
+    if is_altering(how) {
+        let memory = memory_after(b.memory, how);
+        b.memory = memory;
     }
-    transferred(b, rail, limits, transfer)
+    if replied {
+        let reply = reply_to(b, start_of(transfer), outcome, layout(asked));
+        b.reply = reply;
+    }
+    let phase = told.phase;
+    let channels = told.channels;
+    b.phase = phase;
+    b.timer = told.timer;
+    b.channels = channels;
+    b.measured.fresh = told.fresh;
+    if is_restart(how) {
+        let again = state::command_reset(b);
+        b = again;
+    }
+    Commanded {
+        board: b,
+        outcome,
+        replied,
+    }
 }

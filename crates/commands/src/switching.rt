@@ -1,10 +1,11 @@
 // The commands on channels: 0x10, 0x12, 0x14, 0x16, 0x18 and 0x04.
 ghost use mathlib.Core.Path.{_≡_};
 ghost use Rattle.commands.specs.Effects.{isNominal, switchedOf, cancelledOf, groupOnOf, groupOffOf, groupStateOf, channelOnOf, channelOffOf};
+ghost use Rattle.commands.specs.Parts.{obeyedIn};
+use crate::effects::accepted;
+use crate::effects::unchanged;
+use crate::parts::Obeyed;
 use answers::Answer;
-use answers::Commanded;
-use answers::accepted;
-use answers::refused;
 use channels::Channels;
 use command::Group;
 use modes::Mode;
@@ -23,71 +24,69 @@ fn is_nominal(mode: Mode) -> bool
 }
 
 // A command on channels: available in nominal alone, and then right or wrong by the channel it names.
-fn switched(mut b: Board, code: u8, right: bool, channels: Channels) -> Commanded
-    ensures { λ r. ⌜ r ≡ switchedOf code right channels b ⌝ }
+fn switched(b: Board, right: bool, channels: Channels) -> Obeyed
+    ensures { λ r. ⌜ r ≡ obeyedIn (switchedOf 0 right channels b) ⌝ }
 {
     let nominal = is_nominal(b.phase.mode());
     if !nominal {
-        return refused(b, code, Answer::NotAvailable);
+        return unchanged(b, Answer::NotAvailable);
     }
     if !right {
-        return refused(b, code, Answer::Wrong);
+        return unchanged(b, Answer::Wrong);
     }
-    b.channels = channels;
-    accepted(b, code)
+    accepted(b, b.phase.kept(), channels)
 }
 
 // 0x10 group on.
-pub fn group_on(b: Board, code: u8, g: Group) -> Commanded
-    ensures { λ r. ⌜ r ≡ groupOnOf code g b ⌝ }
+pub fn group_on(b: Board, g: Group) -> Obeyed
+    ensures { λ r. ⌜ r ≡ obeyedIn (groupOnOf 0 g b) ⌝ }
 {
     let channels = b.channels.group_on(b.profile.fitted, g.spoken, g.mask);
-    switched(b, code, true, channels)
+    switched(b, true, channels)
 }
 
 // 0x12 group off.
-pub fn group_off(b: Board, code: u8, g: Group) -> Commanded
-    ensures { λ r. ⌜ r ≡ groupOffOf code g b ⌝ }
+pub fn group_off(b: Board, g: Group) -> Obeyed
+    ensures { λ r. ⌜ r ≡ obeyedIn (groupOffOf 0 g b) ⌝ }
 {
     let channels = b.channels
         .group_off(b.profile.fitted, b.profile.forced, g.spoken, g.mask);
-    switched(b, code, true, channels)
+    switched(b, true, channels)
 }
 
 // 0x14 group state.
-pub fn group_state(b: Board, code: u8, g: Group) -> Commanded
-    ensures { λ r. ⌜ r ≡ groupStateOf code g b ⌝ }
+pub fn group_state(b: Board, g: Group) -> Obeyed
+    ensures { λ r. ⌜ r ≡ obeyedIn (groupStateOf 0 g b) ⌝ }
 {
     let channels = b.channels
         .group_state(b.profile.fitted, b.profile.forced, g.spoken, g.mask);
-    switched(b, code, true, channels)
+    switched(b, true, channels)
 }
 
 // 0x16: one channel on.
-pub fn channel_on(b: Board, code: u8, one: u8) -> Commanded
-    ensures { λ r. ⌜ r ≡ channelOnOf code one b ⌝ }
+pub fn channel_on(b: Board, one: u8) -> Obeyed
+    ensures { λ r. ⌜ r ≡ obeyedIn (channelOnOf 0 one b) ⌝ }
 {
     let right = channels::may_switch_on(b.profile.fitted, one);
     let channels = b.channels.switch_on(b.profile.fitted, one);
-    switched(b, code, right, channels)
+    switched(b, right, channels)
 }
 
 // 0x18: one channel off.
-pub fn channel_off(b: Board, code: u8, one: u8) -> Commanded
-    ensures { λ r. ⌜ r ≡ channelOffOf code one b ⌝ }
+pub fn channel_off(b: Board, one: u8) -> Obeyed
+    ensures { λ r. ⌜ r ≡ obeyedIn (channelOffOf 0 one b) ⌝ }
 {
     let right = channels::may_switch_off(b.profile.fitted, b.profile.forced, one);
     let channels = b.channels
         .switch_off(b.profile.fitted, b.profile.forced, one);
-    switched(b, code, right, channels)
+    switched(b, right, channels)
 }
 
 // 0x04: command-enabled channels go off.
-pub fn cancelled(mut b: Board, code: u8) -> Commanded
-    ensures { λ r. ⌜ r ≡ cancelledOf code b ⌝ }
+pub fn cancelled(b: Board) -> Obeyed
+    ensures { λ r. ⌜ r ≡ obeyedIn (cancelledOf 0 b) ⌝ }
 {
     let channels = b.channels
         .command_enabled_off(b.profile.fitted, b.profile.forced);
-    b.channels = channels;
-    accepted(b, code)
+    accepted(b, b.phase.kept(), channels)
 }

@@ -85,6 +85,17 @@ impl ModeAge {
         self.age
     }
 
+    // The same mode and age. They are put together anew, since a copy of the whole would carry along the bytes that lie unused behind the mode, and that is slow.
+    pub fn kept(self) -> ModeAge
+        ensures { λ r. ⌜ r ≡ self ⌝ }
+    {
+        let mode = self.mode;
+        ModeAge {
+            age: self.age,
+            mode,
+        }
+    }
+
     // The same mode, one tick older; the age stops at the top.
     pub fn older(self) -> ModeAge
         ensures { λ r. ⌜ r ≡ olderOf self ⌝ }

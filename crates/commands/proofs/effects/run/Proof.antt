@@ -1,7 +1,8 @@
 -- Command by command.
 use mir.Syntax.{w16}
 use mir.ValLaws.{toZ-ofZ}
-use Rattle.commands.specs.Effects.{runOf}
+use Rattle.answers.specs.Answers.{acceptedOf, acceptedWith, refusedOf}
+use Rattle.commands.specs.Effects.{faultsOf, parameterOf, rememberedOf, runOf}
 use borrow.Author.Needs.{needs}
 use Rattle.commands.proofs.effects.run.Statement.{statement}
 use Rattle.commands.proofs.effects.run.Tie as tie
@@ -15,8 +16,8 @@ restarted-requires c κs = search needs
 enum-told-2 : tie.Need-enum-told-2
 enum-told-2 c = search needs
 
-accepted-requires : tie.Need-accepted-requires
-accepted-requires c κs = search needs
+unchanged-requires : tie.Need-unchanged-requires
+unchanged-requires c κs = search needs
 
 enum-told-3 : tie.Need-enum-told-3
 enum-told-3 c = search needs
@@ -27,8 +28,8 @@ cancelled-requires c κs = search needs
 enum-told-4 : tie.Need-enum-told-4
 enum-told-4 c = search needs
 
-accepted-requires-2 : tie.Need-accepted-requires-2
-accepted-requires-2 c κs = search needs
+unchanged-requires-2 : tie.Need-unchanged-requires-2
+unchanged-requires-2 c κs = search needs
 
 enum-known-c : tie.Need-enum-known-c
 enum-known-c c = search needs
@@ -81,8 +82,8 @@ switched-mode-requires-2 c κs = search needs
 enum-told-7 : tie.Need-enum-told-7
 enum-told-7 c = search needs
 
-faults-requires : tie.Need-faults-requires
-faults-requires c κs = search needs
+unchanged-requires-3 : tie.Need-unchanged-requires-3
+unchanged-requires-3 c κs = search needs
 
 enum-told-8 : tie.Need-enum-told-8
 enum-told-8 c = search needs
@@ -90,50 +91,38 @@ enum-told-8 c = search needs
 housekeeping-requires : tie.Need-housekeeping-requires
 housekeeping-requires c κs = search needs
 
-enum-known-c-6 : tie.Need-enum-known-c-6
-enum-known-c-6 c = search needs
-
-parameter-requires : tie.Need-parameter-requires
-parameter-requires c κs = search needs
-
-enum-known-c-7 : tie.Need-enum-known-c-7
-enum-known-c-7 c = search needs
-
-set-requires : tie.Need-set-requires
-set-requires c κs = search needs
-
-parameter-requires-2 : tie.Need-parameter-requires-2
-parameter-requires-2 c κs = search needs
-
-enum-known-c-8 : tie.Need-enum-known-c-8
-enum-known-c-8 c = search needs
-
-reset-one-requires : tie.Need-reset-one-requires
-reset-one-requires c κs = search needs
-
-parameter-requires-3 : tie.Need-parameter-requires-3
-parameter-requires-3 c κs = search needs
-
 enum-told-9 : tie.Need-enum-told-9
 enum-told-9 c = search needs
 
-to-defaults-requires : tie.Need-to-defaults-requires
-to-defaults-requires c κs = search needs
-
-remembered-requires : tie.Need-remembered-requires
-remembered-requires c κs = search needs
+unchanged-requires-4 : tie.Need-unchanged-requires-4
+unchanged-requires-4 c κs = search needs
 
 enum-told-10 : tie.Need-enum-told-10
 enum-told-10 c = search needs
 
-load-requires : tie.Need-load-requires
-load-requires c κs = search needs
+unchanged-requires-5 : tie.Need-unchanged-requires-5
+unchanged-requires-5 c κs = search needs
 
-remembered-requires-2 : tie.Need-remembered-requires-2
-remembered-requires-2 c κs = search needs
+enum-told-11 : tie.Need-enum-told-11
+enum-told-11 c = search needs
 
-enum-known-c-9 : tie.Need-enum-known-c-9
-enum-known-c-9 c = search needs
+unchanged-requires-6 : tie.Need-unchanged-requires-6
+unchanged-requires-6 c κs = search needs
+
+enum-told-12 : tie.Need-enum-told-12
+enum-told-12 c = search needs
+
+unchanged-requires-7 : tie.Need-unchanged-requires-7
+unchanged-requires-7 c κs = search needs
+
+enum-told-13 : tie.Need-enum-told-13
+enum-told-13 c = search needs
+
+unchanged-requires-8 : tie.Need-unchanged-requires-8
+unchanged-requires-8 c κs = search needs
+
+enum-known-c-6 : tie.Need-enum-known-c-6
+enum-known-c-6 c = search needs
 
 saved-requires : tie.Need-saved-requires
 saved-requires c κs = search needs
@@ -143,16 +132,16 @@ unfolding runOf
 returns c = rw (c .before .enum-told .given .1, c .restarted .ensures)
 
 returns-2 : tie.Need-returns-2
-unfolding runOf
-returns-2 c = rw (c .before .enum-told2 .given .1, c .accepted .ensures)
+unfolding runOf acceptedOf acceptedWith refusedOf
+returns-2 c = rw (c .before .enum-told2 .given .1, c .unchanged .ensures)
 
 returns-3 : tie.Need-returns-3
 unfolding runOf
 returns-3 c = rw (c .before .enum-told3 .given .1, c .cancelled .ensures)
 
 returns-4 : tie.Need-returns-4
-unfolding runOf
-returns-4 c = rw (c .before .enum-told4 .given .1, c .accepted2 .ensures)
+unfolding runOf acceptedOf acceptedWith refusedOf
+returns-4 c = rw (c .before .enum-told4 .given .1, c .unchanged2 .ensures)
 
 returns-5 : tie.Need-returns-5
 unfolding runOf
@@ -183,36 +172,36 @@ unfolding runOf
 returns-11 c = rw (c .before .before .enum-told6 .given .1, c .switched-mode2 .ensures, c .before .to-safety .ensures)
 
 returns-12 : tie.Need-returns-12
-unfolding runOf
-returns-12 c = rw (c .before .enum-told7 .given .1, c .faults .ensures)
+unfolding runOf faultsOf acceptedOf acceptedWith refusedOf
+returns-12 c = rw (c .before .enum-told7 .given .1, c .unchanged3 .ensures)
 
 returns-13 : tie.Need-returns-13
 unfolding runOf
 returns-13 c = rw (c .before .enum-told8 .given .1, c .housekeeping .ensures)
 
 returns-14 : tie.Need-returns-14
-unfolding runOf
-returns-14 c = rw (c .before .before .c6 .given .1, c .parameter .ensures)
+unfolding runOf parameterOf acceptedOf acceptedWith refusedOf
+returns-14 c = rw (c .before .enum-told9 .given .1, c .unchanged4 .ensures)
 
 returns-15 : tie.Need-returns-15
-unfolding runOf
-returns-15 c = rw (c .before .before .before .c7 .given .1, c .parameter2 .ensures, c .before .set .ensures)
+unfolding runOf parameterOf acceptedOf acceptedWith refusedOf
+returns-15 c = rw (c .before .enum-told10 .given .1, c .unchanged5 .ensures)
 
 returns-16 : tie.Need-returns-16
-unfolding runOf
-returns-16 c = rw (c .before .before .before .c8 .given .1, c .parameter3 .ensures, c .before .reset-one .ensures)
+unfolding runOf parameterOf acceptedOf acceptedWith refusedOf
+returns-16 c = rw (c .before .enum-told11 .given .1, c .unchanged6 .ensures)
 
 returns-17 : tie.Need-returns-17
-unfolding runOf
-returns-17 c = rw (c .before .before .enum-told9 .given .1, c .remembered .ensures, c .before .to-defaults .ensures)
+unfolding runOf rememberedOf acceptedOf acceptedWith refusedOf
+returns-17 c = rw (c .before .enum-told12 .given .1, c .unchanged7 .ensures)
 
 returns-18 : tie.Need-returns-18
-unfolding runOf
-returns-18 c = rw (c .before .before .enum-told10 .given .1, c .remembered2 .ensures, c .before .load .ensures)
+unfolding runOf rememberedOf acceptedOf acceptedWith refusedOf
+returns-18 c = rw (c .before .enum-told13 .given .1, c .unchanged8 .ensures)
 
 returns-19 : tie.Need-returns-19
 unfolding runOf
-returns-19 c = rw (c .before .before .c9 .given .1, c .saved .ensures)
+returns-19 c = rw (c .before .before .c6 .given .1, c .saved .ensures)
 
 pub run-spec : {M : Type 1} → statement M
 run-spec =
@@ -221,11 +210,11 @@ run-spec =
     enum-told
     restarted-requires
     enum-told-2
-    accepted-requires
+    unchanged-requires
     enum-told-3
     cancelled-requires
     enum-told-4
-    accepted-requires-2
+    unchanged-requires-2
     enum-known-c
     group-on-requires
     enum-known-c-2
@@ -243,24 +232,20 @@ run-spec =
     to-safety-requires
     switched-mode-requires-2
     enum-told-7
-    faults-requires
+    unchanged-requires-3
     enum-told-8
     housekeeping-requires
-    enum-known-c-6
-    parameter-requires
-    enum-known-c-7
-    set-requires
-    parameter-requires-2
-    enum-known-c-8
-    reset-one-requires
-    parameter-requires-3
     enum-told-9
-    to-defaults-requires
-    remembered-requires
+    unchanged-requires-4
     enum-told-10
-    load-requires
-    remembered-requires-2
-    enum-known-c-9
+    unchanged-requires-5
+    enum-told-11
+    unchanged-requires-6
+    enum-told-12
+    unchanged-requires-7
+    enum-told-13
+    unchanged-requires-8
+    enum-known-c-6
     saved-requires
     returns
     returns-2

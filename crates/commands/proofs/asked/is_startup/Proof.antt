@@ -1,7 +1,7 @@
 use Rattle.commands.specs.Step.{isStartup}
 use borrow.Author.Needs.{needs}
-use Rattle.commands.proofs.step.is_startup.Statement.{statement}
-use Rattle.commands.proofs.step.is_startup.Tie as tie
+use Rattle.commands.proofs.asked.is_startup.Statement.{statement}
+use Rattle.commands.proofs.asked.is_startup.Tie as tie
 
 enum-told : tie.Need-enum-told
 enum-told c = search needs

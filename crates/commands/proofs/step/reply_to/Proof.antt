@@ -1,0 +1,98 @@
+-- Page by page.
+use Rattle.commands.specs.Parts.{replyTo}
+use borrow.Author.Needs.{needs}
+use Rattle.commands.proofs.step.reply_to.Statement.{statement}
+use Rattle.commands.proofs.step.reply_to.Tie as tie
+
+header-requires : tie.Need-header-requires
+header-requires c κs = search needs
+
+enum-told : tie.Need-enum-told
+enum-told c = search needs
+
+stat-told-requires : tie.Need-stat-told-requires
+stat-told-requires c κs = search needs
+
+short-requires : tie.Need-short-requires
+short-requires c κs = search needs
+
+enum-told-2 : tie.Need-enum-told-2
+enum-told-2 c = search needs
+
+on-requires : tie.Need-on-requires
+on-requires c κs = search needs
+
+latched-requires : tie.Need-latched-requires
+latched-requires c κs = search needs
+
+counts-requires : tie.Need-counts-requires
+counts-requires c κs = search needs
+
+faults-requires : tie.Need-faults-requires
+faults-requires c κs = search needs
+
+enum-told-3 : tie.Need-enum-told-3
+enum-told-3 c = search needs
+
+new-where-requires : tie.Need-new-where-requires
+new-where-requires c κs = search needs
+
+on-requires-2 : tie.Need-on-requires-2
+on-requires-2 c κs = search needs
+
+latched-requires-2 : tie.Need-latched-requires-2
+latched-requires-2 c κs = search needs
+
+housekeeping-requires : tie.Need-housekeeping-requires
+housekeeping-requires c κs = search needs
+
+enum-known-layout : tie.Need-enum-known-layout
+enum-known-layout c = search needs
+
+value-read-requires : tie.Need-value-read-requires
+value-read-requires c κs = search needs
+
+parameter-requires : tie.Need-parameter-requires
+parameter-requires c κs = search needs
+
+returns : tie.Need-returns
+unfolding replyTo
+returns c = rw (c .before .before .enum-told .given .1, c .short .ensures, c .before .stat-told .ensures, c .before .before .before .before .before .header .ensures)
+
+returns-2 : tie.Need-returns-2
+unfolding replyTo
+returns-2 c = rw (c .before .before .before .before .enum-told2 .given .1, c .faults .ensures, c .before .counts .ensures, c .before .before .latched .ensures, c .before .before .before .on .ensures, c .before .before .before .before .before .before .before .header .ensures)
+
+returns-3 : tie.Need-returns-3
+unfolding replyTo
+returns-3 c = rw (c .before .before .before .before .before .before .enum-told3 .given .1, c .housekeeping .ensures, c .before .latched2 .ensures, c .before .before .on2 .ensures, c .before .before .before .new-where .ensures, c .before .before .before .before .before .before .before .before .before .header .ensures)
+
+returns-4 : tie.Need-returns-4
+unfolding replyTo
+returns-4 c = rw (c .before .before .before .layout .given .1, c .parameter .ensures, c .before .value-read .ensures .0, c .before .before .before .before .before .before .header .ensures)
+
+pub reply-to-spec : {M : Type 1} → statement M
+reply-to-spec =
+    tie.close
+    (tie.spec
+    header-requires
+    enum-told
+    stat-told-requires
+    short-requires
+    enum-told-2
+    on-requires
+    latched-requires
+    counts-requires
+    faults-requires
+    enum-told-3
+    new-where-requires
+    on-requires-2
+    latched-requires-2
+    housekeeping-requires
+    enum-known-layout
+    value-read-requires
+    parameter-requires
+    returns
+    returns-2
+    returns-3
+    returns-4)

@@ -1,0 +1,187 @@
+-- The command step part by part: a board is changed in place, so the code finds the small parts, the memory and the reply by themselves. `Effects` and `Step` say what the
+-- command step is; these only name its parts, and proofs/Whole shows that together they are the step. Assumes nothing: these are definitions.
+use Prim.Native.Nat.{ℕ}
+use mathlib.Core.Bool.{Bool, true, false, cond, not}
+use mathlib.Core.List.{List}
+use lib.IntN.{ℤ}
+use Rattle.wire.specs.Replies.{replyOf}
+use Rattle.wire.specs.declared.reply.Reply.{Reply}
+use Rattle.modes.specs.declared.Mode.{Mode}
+use Rattle.modes.specs.declared.Limits.{Limits}
+use Rattle.command.specs.Decode.{fewerThanFour, decodeOf}
+use Rattle.command.specs.declared.Command.{Command}
+use Rattle.command.specs.declared.Header.{Header}
+use Rattle.command.specs.declared.Refusal as refusal
+use Rattle.command.specs.declared.Decoded as decoded
+use Rattle.memory.specs.Memory.{loadOf, defaultedOf, setIn, resetIn, savedOf}
+use Rattle.memory.specs.declared.Memory.{Memory}
+use Rattle.replies.specs.Layouts.{shortReply, faultsReply, housekeepingReply, parameterReply}
+use Rattle.state.specs.declared.parts.Board.{Board}
+use Rattle.answers.specs.Answers.{headerOf, new, statOf, silentOf, refusedOf, notThisBoardOf}
+use Rattle.answers.specs.Parameters.{valueRead}
+use Rattle.answers.specs.declared.Answer.{Answer}
+use Rattle.answers.specs.declared.Outcome.{Outcome}
+use Rattle.answers.specs.declared.Outcome.the-variants.{WrongWordCount, NoTransfer, Answered}
+use Rattle.answers.specs.declared.Commanded.{Commanded}
+use Rattle.commands.specs.Effects.{newWhere, runOf}
+use Rattle.commands.specs.Step.{isStartup}
+use Rattle.commands.specs.declared.asked.Asked.{Asked}
+use Rattle.commands.specs.declared.asked.Asked.the-variants.{Silence, Refusal, Run}
+use Rattle.commands.specs.declared.parts.Obeyed.{Obeyed}
+use Rattle.commands.specs.declared.parts.Layout.{Layout}
+use Rattle.commands.specs.declared.parts.Layout.the-variants.{Short, Faults, Housekeeping, Parameter}
+use Rattle.commands.specs.declared.parts.Remembers.{Remembers}
+use Rattle.commands.specs.declared.parts.Remembers.the-variants.{AsBefore, Set, ResetOne, Defaults, Load, Save, Restart}
+
+-- ---- the checks 1 to 5, and 7 for key, id and value
+abbrev pub refusedBy : refusal.Refusal → Asked
+refusedBy refusal.Refusal.FewerThanFourBytes = Silence (Answered Answer.FewerThanFourBytes)
+refusedBy refusal.Refusal.NotThisBoard = Refusal Answer.NotThisBoard
+refusedBy refusal.Refusal.CodeNotListed = Refusal Answer.CodeNotListed
+refusedBy refusal.Refusal.TooShort = Refusal Answer.TooShort
+refusedBy refusal.Refusal.WrongKey = Refusal Answer.Wrong
+refusedBy refusal.Refusal.WrongParameter = Refusal Answer.Wrong
+refusedBy refusal.Refusal.NotANumber = Refusal Answer.Wrong
+
+abbrev pub askedBy : decoded.Decoded → Asked
+askedBy (decoded.Decoded.Run c) = Run c
+askedBy (decoded.Decoded.Refused r) = refusedBy r
+
+unfoldable pub askedOf : Mode → Header → Bool → List ℕ → Asked
+askedOf mode own sent s =
+    cond (not sent) (Silence NoTransfer)
+    (cond (fewerThanFour s) (Silence (Answered Answer.FewerThanFourBytes))
+    (cond (isStartup mode) (Silence (Answered Answer.InStartup))
+    (askedBy (decodeOf own s))))
+
+-- 3 leaves the timer
+abbrev pub timerAfter : Answer → ℕ → ℕ
+timerAfter Answer.NotThisBoard timer = timer
+timerAfter Answer.Accepted timer = 0
+timerAfter Answer.FewerThanFourBytes timer = 0
+timerAfter Answer.InStartup timer = 0
+timerAfter Answer.CodeNotListed timer = 0
+timerAfter Answer.TooShort timer = 0
+timerAfter Answer.NotAvailable timer = 0
+timerAfter Answer.Wrong timer = 0
+
+abbrev pub refusedWith : Answer → ℕ → Board → Commanded
+refusedWith Answer.NotThisBoard code b = notThisBoardOf code b
+refusedWith Answer.Accepted code b = refusedOf Answer.Accepted code b
+refusedWith Answer.FewerThanFourBytes code b = refusedOf Answer.FewerThanFourBytes code b
+refusedWith Answer.InStartup code b = refusedOf Answer.InStartup code b
+refusedWith Answer.CodeNotListed code b = refusedOf Answer.CodeNotListed code b
+refusedWith Answer.TooShort code b = refusedOf Answer.TooShort code b
+refusedWith Answer.NotAvailable code b = refusedOf Answer.NotAvailable code b
+refusedWith Answer.Wrong code b = refusedOf Answer.Wrong code b
+
+-- the step by what was asked
+unfoldable pub askedIn : ℤ → Limits → ℕ → Asked → Board → Commanded
+askedIn rail limits code (Silence outcome) b = silentOf outcome b
+askedIn rail limits code (Refusal answer) b = refusedWith answer code b
+askedIn rail limits code (Run c) b = runOf rail limits code c b
+
+-- ---- the small parts, of which none depends on the code: where a code is asked for, 0 stands
+abbrev pub obeyedIn : Commanded → Obeyed
+obeyedIn c =
+    record {
+      phase = c .board .phase;
+      timer = c .board .timer;
+      channels = c .board .channels;
+      outcome = c .outcome;
+      fresh = c .board .measured .fresh;
+      replied = c .replied;
+    }
+
+-- ---- the memory
+abbrev pub remembersOf : Command → Remembers
+remembersOf (Command.SetParameter id v) = Set id v
+remembersOf (Command.ResetParameter id) = ResetOne id
+remembersOf Command.ResetConfiguration = Defaults
+remembersOf Command.LoadConfiguration = Load
+remembersOf (Command.SaveConfiguration given) = Save given
+remembersOf Command.SystemReset = Restart
+remembersOf Command.NoOperation = AsBefore
+remembersOf Command.CancelOperation = AsBefore
+remembersOf Command.Watchdog = AsBefore
+remembersOf (Command.GroupOn g) = AsBefore
+remembersOf (Command.GroupOff g) = AsBefore
+remembersOf (Command.GroupState g) = AsBefore
+remembersOf (Command.ChannelOn one) = AsBefore
+remembersOf (Command.ChannelOff one) = AsBefore
+remembersOf Command.SwitchToNominal = AsBefore
+remembersOf Command.SwitchToSafety = AsBefore
+remembersOf Command.GetOvercurrentFaultState = AsBefore
+remembersOf Command.GetHousekeeping = AsBefore
+remembersOf (Command.GetParameter id) = AsBefore
+
+abbrev pub remembersAsked : Asked → Remembers
+remembersAsked (Silence outcome) = AsBefore
+remembersAsked (Refusal answer) = AsBefore
+remembersAsked (Run c) = remembersOf c
+
+abbrev pub memoryAfter : Remembers → Memory → Memory
+memoryAfter AsBefore m = m
+memoryAfter (Set id v) m = setIn id v m
+memoryAfter (ResetOne id) m = resetIn id m
+memoryAfter Defaults m = defaultedOf m
+memoryAfter Load m = loadOf m
+memoryAfter (Save given) m = savedOf given m .memory
+memoryAfter Restart m = m
+
+abbrev pub alters : Remembers → Bool
+alters AsBefore = false
+alters (Set id v) = true
+alters (ResetOne id) = true
+alters Defaults = true
+alters Load = true
+alters (Save given) = true
+alters Restart = false
+
+abbrev pub startsOver : Remembers → Bool
+startsOver AsBefore = false
+startsOver (Set id v) = false
+startsOver (ResetOne id) = false
+startsOver Defaults = false
+startsOver Load = false
+startsOver (Save given) = false
+startsOver Restart = true
+
+-- ---- the reply, of a board whose memory is already as the command leaves it
+abbrev pub layoutOf : Command → Layout
+layoutOf Command.GetOvercurrentFaultState = Faults
+layoutOf Command.GetHousekeeping = Housekeeping
+layoutOf (Command.GetParameter id) = Parameter id
+layoutOf (Command.SetParameter id v) = Parameter id
+layoutOf (Command.ResetParameter id) = Parameter id
+layoutOf Command.SystemReset = Short
+layoutOf Command.NoOperation = Short
+layoutOf Command.CancelOperation = Short
+layoutOf Command.Watchdog = Short
+layoutOf (Command.GroupOn g) = Short
+layoutOf (Command.GroupOff g) = Short
+layoutOf (Command.GroupState g) = Short
+layoutOf (Command.ChannelOn one) = Short
+layoutOf (Command.ChannelOff one) = Short
+layoutOf Command.SwitchToNominal = Short
+layoutOf Command.SwitchToSafety = Short
+layoutOf Command.ResetConfiguration = Short
+layoutOf Command.LoadConfiguration = Short
+layoutOf (Command.SaveConfiguration given) = Short
+
+abbrev pub layoutAsked : Asked → Layout
+layoutAsked (Silence outcome) = Short
+layoutAsked (Refusal answer) = Short
+layoutAsked (Run c) = layoutOf c
+
+abbrev pub statTold : Outcome → ℕ
+statTold WrongWordCount = 0
+statTold NoTransfer = 0
+statTold (Answered answer) = statOf answer
+
+unfoldable pub replyTo : ℕ → Outcome → Layout → Board → Reply
+replyTo code outcome Short b = replyOf (shortReply (headerOf (b .profile)) code (statTold outcome))
+replyTo code outcome Faults b = replyOf (faultsReply (headerOf (b .profile)) code new (b .channels .on) (b .channels .latched) (b .channels .counts))
+replyTo code outcome Housekeeping b =
+    replyOf (housekeepingReply (headerOf (b .profile)) code (newWhere (b .measured .fresh)) (b .channels .on) (b .channels .latched) (b .measured .words))
+replyTo code outcome (Parameter id) b = replyOf (parameterReply (headerOf (b .profile)) code new id (valueRead (b .profile) (b .memory) (b .resets) id))
