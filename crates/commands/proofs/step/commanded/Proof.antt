@@ -1,76 +1,86 @@
+-- The memory and the reply are put in or left, then the small parts are; what that comes to is shown in proofs/Whole.
+use mathlib.Core.Path.{_≡_, ap, sym, _∙_}
+use mathlib.Core.Bool.{true, false}
+use mathlib.Core.Logic.{⊎-elim}
+use mir.Syntax.{w16}
+use mir.ValLaws.{toZ-ofZ}
+use lib.IntN.{ℤ}
+use Rattle.command.specs.Decode.{codeOf}
+use Rattle.answers.specs.Answers.{receivedIn}
+use Rattle.commands.specs.Parts.{askedIn, obeyedIn, layoutAsked}
+use Rattle.commands.proofs.Whole.{Obeying, altered, replied, goes-on, begins-again}
 use borrow.Author.Needs.{needs}
 use Rattle.commands.proofs.step.commanded.Statement.{statement}
 use Rattle.commands.proofs.step.commanded.Tie as tie
-use Rattle.commands.proofs.step.commanded.Reads as reads
-use Rattle.commands.proofs.step.commanded.Lts as lts
-use Rattle.answers.proofs.header.Reads as header-reads
-use Rattle.answers.proofs.start_of.Reads as start-of-reads
-use Rattle.commands.proofs.asked.asked_of.Reads as asked-of-reads
-use Rattle.commands.proofs.asked.layout.Reads as layout-reads
-use Rattle.commands.proofs.asked.obeyed.Reads as obeyed-reads
-use Rattle.commands.proofs.asked.remembers.Reads as remembers-reads
-use Rattle.commands.proofs.step.is_altering.Reads as is-altering-reads
-use Rattle.commands.proofs.step.is_restart.Reads as is-restart-reads
-use Rattle.commands.proofs.step.memory_after.Reads as memory-after-reads
-use Rattle.commands.proofs.step.reply_to.Reads as reply-to-reads
-use Rattle.modes.proofs.ModeAge.mode.Reads as mode-reads
-use Rattle.state.proofs.command_reset.Reads as command-reset-reads
 
--- src/step.rt:119:26
+-- the board where the branches on the memory meet, and where those on the reply do
+remembered : (j : tie.Joined1) → j .if1 .b ≡ altered (j .before .before .remembers .result) (j .before .before .before .before .before .before .before .before .args .b)
+remembered j =
+    ⊎-elim
+    (λ x. x .2 ∙ rw (sym (j .before .is-altering .ensures) ∙ x .0 .taken, x .1 .ensures))
+    (λ y. y .1 ∙ rw (sym (j .before .is-altering .ensures) ∙ y .0 .left))
+    (j .if1 .came)
+
+answered : (j : tie.Joined2) → j .if2 .b ≡ replied (codeOf (j .before .before .before .before .before .before .before .before .before .args .transfer .now)) (j .before .before .before .before .obeyed .result) (layoutAsked (j .before .before .before .before .before .asked-of .result)) (j .before .if1 .b)
+unfolding receivedIn
+answered j =
+    ⊎-elim
+    (λ x. x .4 ∙ rw (x .0 .taken, x .3 .ensures, x .2 .ensures, x .1 .ensures))
+    (λ y. y .1 ∙ rw (y .0 .left))
+    (j .if2 .came)
+
+obeying : (j : tie.Joined2) → let start = j .before .before .before .before .before .before .before .before .before in Obeying (start .args .rail) (start .args .limits) (start .args .sent) (start .args .transfer .now) (start .args .b) (j .before .before .before .before .before .asked-of .result) (j .before .before .before .before .obeyed .result) (j .before .before .before .remembers .result) (j .before .if1 .b) (j .if2 .b)
+obeying j =
+    let start = j .before .before .before .before .before .before .before .before .before in
+    record {
+      asks = rw (j .before .before .before .before .before .asked-of .ensures, j .before .before .before .before .before .before .header .ensures, j .before .before .before .before .before .before .before .mode .ensures);
+      tells = rw (j .before .before .before .before .obeyed .ensures, toZ-ofZ w16 (start .args .rail) (start .fits .rail));
+      keeps = j .before .before .before .remembers .ensures;
+      alters-it = remembered (j .before);
+      answers-it = answered j;
+    }
+
 mode-requires : tie.Need-mode-requires
 mode-requires c κs = search needs
 
--- src/step.rt:119:42
 header-requires : tie.Need-header-requires
 header-requires c κs = search needs
 
--- src/step.rt:119:9
 asked-of-requires : tie.Need-asked-of-requires
 asked-of-requires c κs = search needs
 
--- src/step.rt:120:9
 obeyed-requires : tie.Need-obeyed-requires
 obeyed-requires c κs = search needs
 
--- src/step.rt:121:9
 remembers-requires : tie.Need-remembers-requires
 remembers-requires c κs = search needs
 
--- src/step.rt:124:8
 is-altering-requires : tie.Need-is-altering-requires
 is-altering-requires c κs = search needs
 
--- src/step.rt:125:13
 memory-after-requires : tie.Need-memory-after-requires
 memory-after-requires c κs = search needs
 
--- src/step.rt:129:33
 start-of-requires : tie.Need-start-of-requires
 start-of-requires c κs = search needs
 
--- src/step.rt:129:62
 layout-requires : tie.Need-layout-requires
 layout-requires c κs = search needs
 
--- src/step.rt:129:13
 reply-to-requires : tie.Need-reply-to-requires
 reply-to-requires c κs = search needs
 
--- src/step.rt:138:8
 is-restart-requires : tie.Need-is-restart-requires
 is-restart-requires c κs = search needs
 
--- src/step.rt:139:13
 command-reset-requires : tie.Need-command-reset-requires
 command-reset-requires c κs = search needs
 
--- src/step.rt:116:1
 returns : tie.Need-returns
-returns c = ?
+returns c = begins-again _ _ _ _ _ _ _ _ _ _ (obeying (c .before .before .before .before .before .before)) (sym (c .before .before .is-restart .ensures) ∙ c .before .if3 .taken) (c .command-reset .ensures)
 
--- src/step.rt:116:1
 returns-2 : tie.Need-returns-2
-returns-2 c = ?
+returns-2 c = goes-on _ _ _ _ _ _ _ _ _ _ (obeying (c .before .before .before .before .before)) (sym (c .before .is-restart .ensures) ∙ c .if3 .left)
 
 pub commanded-spec : {M : Type 1} → statement M
 commanded-spec =

@@ -19,7 +19,7 @@ unchanged-requires c κs = search needs
 
 returns : tie.Need-returns
 unfolding switchedOf
-returns c = 
+returns c =
     let told : c .before .before .is-nominal .result ≡ false = search (not-true, needs) in
     rw (ap isNominal (sym (c .before .before .before .mode .ensures)) ∙ sym (c .before .before .is-nominal .ensures) ∙ told, c .unchanged .ensures)
 
@@ -28,7 +28,7 @@ unchanged-requires-2 c κs = search needs
 
 returns-2 : tie.Need-returns-2
 unfolding switchedOf
-returns-2 c = 
+returns-2 c =
     let told : c .before .before .before .is-nominal .result ≡ true = search (not-false, needs) in
     let wrong : c .before .before .before .before .before .args .right ≡ false = search (not-true, needs) in
     rw (ap isNominal (sym (c .before .before .before .before .mode .ensures)) ∙ sym (c .before .before .before .is-nominal .ensures) ∙ told, wrong, c .unchanged2 .ensures)
@@ -41,7 +41,7 @@ accepted-requires c κs = search needs
 
 returns-3 : tie.Need-returns-3
 unfolding switchedOf acceptedOf acceptedWith
-returns-3 c = 
+returns-3 c =
     let told : c .before .before .before .before .is-nominal .result ≡ true = search (not-false, needs) in
     let right : c .before .before .before .before .before .before .args .right ≡ true = search (not-false, needs) in
     rw (ap isNominal (sym (c .before .before .before .before .before .mode .ensures)) ∙ sym (c .before .before .before .before .is-nominal .ensures) ∙ told, right, c .accepted .ensures, c .before .kept .ensures)
