@@ -19,7 +19,7 @@ use Rattle.replies.specs.Layouts.{shortReply}
 use Rattle.state.specs.Start.{freshOf, watchdogResetOf}
 use Rattle.state.specs.Change.{isDark, fromNominalToSafety, enteringOf, timerAfter}
 use Rattle.answers.specs.Answers.{acceptedWith, acceptedOf, refusedOf}
-use Rattle.commands.specs.Effects.{isNominal, switchedOf, groupOffOf, groupStateOf, runOf}
+use Rattle.effects.specs.Effects.{isNominal, switchedOf, groupOffOf, groupStateOf, runOf}
 use Rattle.commands.specs.Step.{isStartup, turnedDown, decodedOf, transferredOf, commandedOf}
 use Rattle.board.specs.Tick.{risenOf, changedOf, trippedOf, watchedIn, tickWith}
 use Rattle.claims.specs.Boundary.{Row, set, rows, seen, expected, BoundaryTable}

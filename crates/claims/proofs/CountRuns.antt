@@ -20,7 +20,7 @@ use Rattle.memory.specs.Memory.{emptyStore, loadedFrom}
 use Rattle.state.specs.Start.{freshOf, commandResetOf}
 use Rattle.state.specs.Change.{isDark, fromNominalToSafety, enteringOf, timerAfter, resetsAfter, leavesEmergency}
 use Rattle.answers.specs.Answers.{acceptedWith, acceptedOf}
-use Rattle.commands.specs.Effects.{isNominal, switchedOf, groupOnOf, restartedOf, runOf}
+use Rattle.effects.specs.Effects.{isNominal, switchedOf, groupOnOf, restartedOf, runOf}
 use Rattle.commands.specs.Step.{isStartup, decodedOf, transferredOf, commandedOf}
 use Rattle.board.specs.Tick.{broughtBy, risenOf, changedOf, trippedOf, watchedIn, tickWith, allowedCount, tickOf}
 use Rattle.unit.specs.Machine.{toldOf}

@@ -41,7 +41,7 @@ use Rattle.state.specs.declared.parts.Board.{Board}
 use Rattle.state.specs.declared.parts.Profile.{Profile}
 use Rattle.answers.specs.Answers.{headerOf, acceptedWith, acceptedOf}
 use Rattle.answers.specs.declared.Outcome.the-variants.{NoTransfer}
-use Rattle.commands.specs.Effects.{restartedOf, runOf}
+use Rattle.effects.specs.Effects.{restartedOf, runOf}
 use Rattle.commands.specs.Step.{isStartup, decodedOf, transferredOf, commandedOf}
 use Rattle.board.specs.Tick.{broughtBy, risenOf, changedOf, trippedOf, watchedAs, watchedIn, tickWith, allowedCount, tickOf}
 use Rattle.board.specs.declared.Ticked.{Ticked}

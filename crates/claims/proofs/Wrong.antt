@@ -29,7 +29,7 @@ use Rattle.state.specs.Change.{isDark, fromNominalToSafety, enteringOf, timerAf
 use Rattle.answers.specs.Answers.{numberOf, acceptedWith, acceptedOf, refusedOf, notThisBoardOf}
 use Rattle.answers.specs.declared.Answer.{Answer}
 use Rattle.answers.specs.declared.Answer.the-variants.{Accepted, FewerThanFourBytes, InStartup, NotThisBoard, CodeNotListed, TooShort, NotAvailable, Wrong}
-use Rattle.commands.specs.Effects.{isNominal, switchedOf, groupOnOf, switchedModeOf, faultsOf, runOf}
+use Rattle.effects.specs.Effects.{isNominal, switchedOf, groupOnOf, switchedModeOf, faultsOf, runOf}
 use Rattle.commands.specs.Step.{isStartup, decodedOf, transferredOf, commandedOf}
 use Rattle.board.specs.Tick.{broughtBy, risenOf, changedOf, trippedOf, watchedIn, tickWith, allowedCount, tickOf}
 use Rattle.text.specs.declared.framing.Due.the-variants.{Nothing}

@@ -20,15 +20,16 @@ use Rattle.state.specs.declared.parts.Board.{Board}
 use Rattle.answers.specs.Answers.{headerOf, acceptedWith, acceptedOf, refusedOf, notThisBoardOf}
 use Rattle.answers.specs.declared.Answer.{Answer}
 use Rattle.answers.specs.declared.Commanded.{Commanded}
-use Rattle.commands.specs.Effects.{isNominal, switchedOf, groupOnOf, groupOffOf, groupStateOf, channelOnOf, channelOffOf, cancelledOf, switchedModeOf, faultsOf, housekeepingOf, parameterOf, rememberedOf, savedIn, restartedOf, runOf}
+use Rattle.effects.specs.Effects.{isNominal, switchedOf, groupOnOf, groupOffOf, groupStateOf, channelOnOf, channelOffOf, cancelledOf, switchedModeOf, faultsOf, housekeepingOf, parameterOf, rememberedOf, savedIn, restartedOf, runOf}
 use Rattle.commands.specs.Step.{isStartup, turnedDown, decodedOf, transferredOf, commandedOf}
-use Rattle.commands.specs.Parts.{askedBy, askedOf, askedIn, obeyedIn, remembersAsked, memoryAfter, alters, startsOver, layoutAsked, replyTo}
+use Rattle.effects.specs.Parts.{obeyedIn}
+use Rattle.commands.specs.Parts.{askedBy, askedOf, askedIn, remembersAsked, memoryAfter, alters, startsOver, layoutAsked, replyTo}
 use Rattle.commands.specs.declared.asked.Asked.{Asked}
 use Rattle.commands.specs.declared.asked.Asked.the-variants as asked
-use Rattle.commands.specs.declared.parts.Obeyed.{Obeyed}
-use Rattle.commands.specs.declared.parts.Layout.{Layout}
-use Rattle.commands.specs.declared.parts.Layout.the-variants.{Short}
-use Rattle.commands.specs.declared.parts.Remembers.{Remembers}
+use Rattle.effects.specs.declared.parts.Obeyed.{Obeyed}
+use Rattle.effects.specs.declared.parts.Layout.{Layout}
+use Rattle.effects.specs.declared.parts.Layout.the-variants.{Short}
+use Rattle.effects.specs.declared.parts.Remembers.{Remembers}
 
 -- ---- a board, part after part
 abbrev pub altered : Remembers → Board → Board

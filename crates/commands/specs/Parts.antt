@@ -9,7 +9,6 @@ use Rattle.wire.specs.declared.reply.Reply.{Reply}
 use Rattle.modes.specs.declared.Mode.{Mode}
 use Rattle.modes.specs.declared.Limits.{Limits}
 use Rattle.command.specs.Decode.{fewerThanFour, decodeOf}
-use Rattle.command.specs.declared.Command.{Command}
 use Rattle.command.specs.declared.Header.{Header}
 use Rattle.command.specs.declared.Refusal as refusal
 use Rattle.command.specs.declared.Decoded as decoded
@@ -23,15 +22,15 @@ use Rattle.answers.specs.declared.Answer.{Answer}
 use Rattle.answers.specs.declared.Outcome.{Outcome}
 use Rattle.answers.specs.declared.Outcome.the-variants.{WrongWordCount, NoTransfer, Answered}
 use Rattle.answers.specs.declared.Commanded.{Commanded}
-use Rattle.commands.specs.Effects.{newWhere, runOf}
+use Rattle.effects.specs.Effects.{newWhere, runOf}
+use Rattle.effects.specs.Parts.{remembersOf, layoutOf}
 use Rattle.commands.specs.Step.{isStartup}
 use Rattle.commands.specs.declared.asked.Asked.{Asked}
 use Rattle.commands.specs.declared.asked.Asked.the-variants.{Silence, Refusal, Run}
-use Rattle.commands.specs.declared.parts.Obeyed.{Obeyed}
-use Rattle.commands.specs.declared.parts.Layout.{Layout}
-use Rattle.commands.specs.declared.parts.Layout.the-variants.{Short, Faults, Housekeeping, Parameter}
-use Rattle.commands.specs.declared.parts.Remembers.{Remembers}
-use Rattle.commands.specs.declared.parts.Remembers.the-variants.{AsBefore, Set, ResetOne, Defaults, Load, Save, Restart}
+use Rattle.effects.specs.declared.parts.Layout.{Layout}
+use Rattle.effects.specs.declared.parts.Layout.the-variants.{Short, Faults, Housekeeping, Parameter}
+use Rattle.effects.specs.declared.parts.Remembers.{Remembers}
+use Rattle.effects.specs.declared.parts.Remembers.the-variants.{AsBefore, Set, ResetOne, Defaults, Load, Save, Restart}
 
 -- ---- the checks 1 to 5, and 7 for key, id and value
 abbrev pub refusedBy : refusal.Refusal → Asked
@@ -81,40 +80,7 @@ askedIn rail limits code (Silence outcome) b = silentOf outcome b
 askedIn rail limits code (Refusal answer) b = refusedWith answer code b
 askedIn rail limits code (Run c) b = runOf rail limits code c b
 
--- ---- the small parts, of which none depends on the code: where a code is asked for, 0 stands
-abbrev pub obeyedIn : Commanded → Obeyed
-obeyedIn c =
-    record {
-      phase = c .board .phase;
-      timer = c .board .timer;
-      channels = c .board .channels;
-      outcome = c .outcome;
-      fresh = c .board .measured .fresh;
-      replied = c .replied;
-    }
-
 -- ---- the memory
-abbrev pub remembersOf : Command → Remembers
-remembersOf (Command.SetParameter id v) = Set id v
-remembersOf (Command.ResetParameter id) = ResetOne id
-remembersOf Command.ResetConfiguration = Defaults
-remembersOf Command.LoadConfiguration = Load
-remembersOf (Command.SaveConfiguration given) = Save given
-remembersOf Command.SystemReset = Restart
-remembersOf Command.NoOperation = AsBefore
-remembersOf Command.CancelOperation = AsBefore
-remembersOf Command.Watchdog = AsBefore
-remembersOf (Command.GroupOn g) = AsBefore
-remembersOf (Command.GroupOff g) = AsBefore
-remembersOf (Command.GroupState g) = AsBefore
-remembersOf (Command.ChannelOn one) = AsBefore
-remembersOf (Command.ChannelOff one) = AsBefore
-remembersOf Command.SwitchToNominal = AsBefore
-remembersOf Command.SwitchToSafety = AsBefore
-remembersOf Command.GetOvercurrentFaultState = AsBefore
-remembersOf Command.GetHousekeeping = AsBefore
-remembersOf (Command.GetParameter id) = AsBefore
-
 abbrev pub remembersAsked : Asked → Remembers
 remembersAsked (Silence outcome) = AsBefore
 remembersAsked (Refusal answer) = AsBefore
@@ -148,27 +114,6 @@ startsOver (Save given) = false
 startsOver Restart = true
 
 -- ---- the reply, of a board whose memory is already as the command leaves it
-abbrev pub layoutOf : Command → Layout
-layoutOf Command.GetOvercurrentFaultState = Faults
-layoutOf Command.GetHousekeeping = Housekeeping
-layoutOf (Command.GetParameter id) = Parameter id
-layoutOf (Command.SetParameter id v) = Parameter id
-layoutOf (Command.ResetParameter id) = Parameter id
-layoutOf Command.SystemReset = Short
-layoutOf Command.NoOperation = Short
-layoutOf Command.CancelOperation = Short
-layoutOf Command.Watchdog = Short
-layoutOf (Command.GroupOn g) = Short
-layoutOf (Command.GroupOff g) = Short
-layoutOf (Command.GroupState g) = Short
-layoutOf (Command.ChannelOn one) = Short
-layoutOf (Command.ChannelOff one) = Short
-layoutOf Command.SwitchToNominal = Short
-layoutOf Command.SwitchToSafety = Short
-layoutOf Command.ResetConfiguration = Short
-layoutOf Command.LoadConfiguration = Short
-layoutOf (Command.SaveConfiguration given) = Short
-
 abbrev pub layoutAsked : Asked → Layout
 layoutAsked (Silence outcome) = Short
 layoutAsked (Refusal answer) = Short

@@ -14,7 +14,7 @@ use Rattle.command.specs.declared.Decoded.the-variants.{Run, Refused}
 use Rattle.state.specs.Parts.{modeOf}
 use Rattle.state.specs.declared.parts.Board.{Board}
 use Rattle.answers.specs.Answers.{headerOf, silentOf, refusedOf, notThisBoardOf}
-use Rattle.commands.specs.Effects.{runOf}
+use Rattle.effects.specs.Effects.{runOf}
 use Rattle.answers.specs.declared.Answer.{Answer}
 use Rattle.answers.specs.declared.Outcome.the-variants.{NoTransfer, Answered}
 use Rattle.answers.specs.declared.Commanded.{Commanded}

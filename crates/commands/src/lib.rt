@@ -1,8 +1,5 @@
 // Step 4 of a tick: the command. What each transfer is answered, what it alters, and the reply that then waits.
 mod asked;
-mod effects;
-mod parts;
 mod step;
-mod switching;
 
 pub use step::commanded;

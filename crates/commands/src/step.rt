@@ -1,14 +1,12 @@
 // Step 4 of a tick: a board obeys, in place.
 ghost use mathlib.Core.Path.{_≡_};
 ghost use Rattle.commands.specs.Step.{commandedOf};
-ghost use Rattle.commands.specs.Effects.{newWhere};
+ghost use Rattle.effects.specs.Effects.{newWhere};
 ghost use Rattle.commands.specs.Parts.{statTold, replyTo, alters, startsOver, memoryAfter};
 use crate::asked::asked_of;
 use crate::asked::layout;
 use crate::asked::obeyed;
 use crate::asked::remembers;
-use crate::parts::Layout;
-use crate::parts::Remembers;
 use answers::Commanded;
 use answers::Outcome;
 use answers::Received;
@@ -16,6 +14,8 @@ use answers::header;
 use answers::start_of;
 use answers::stat;
 use answers::value_read;
+use effects::Layout;
+use effects::Remembers;
 use memory::Memory;
 use modes::Limits;
 use state::Board;

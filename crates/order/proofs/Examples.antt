@@ -23,7 +23,7 @@ use Rattle.state.specs.Start.{freshOf, neverReset, commandResetOf, byCommand}
 use Rattle.state.specs.declared.parts.Board.{Board}
 use Rattle.answers.specs.Answers.{acceptedWith, acceptedOf, refusedOf, notThisBoardOf}
 use Rattle.answers.specs.Parameters.{valueRead, readOnlyNumber, numberIn}
-use Rattle.commands.specs.Effects.{isNominal, switchedOf, groupOnOf, channelOnOf, parameterOf, rememberedOf, restartedOf, runOf}
+use Rattle.effects.specs.Effects.{isNominal, switchedOf, groupOnOf, channelOnOf, parameterOf, rememberedOf, restartedOf, runOf}
 use Rattle.commands.specs.Step.{isStartup, turnedDown, decodedOf, transferredOf}
 
 -- board 1 with channels 0 to 3, of which 0 is forced, just come into a mode

@@ -43,7 +43,7 @@ use Rattle.answers.specs.Answers.{numberOf, toldNumber, headerOf, silentOf, acc
 use Rattle.answers.specs.declared.Answer.{Answer}
 use Rattle.answers.specs.declared.Outcome.the-variants.{Answered}
 use Rattle.answers.specs.declared.Commanded.{Commanded}
-use Rattle.commands.specs.Effects.{isNominal, switchedOf, groupOnOf, groupOffOf, groupStateOf, channelOnOf, channelOffOf, cancelledOf, switchedModeOf, faultsOf, housekeepingOf, parameterOf as parameterRun, rememberedOf, savedIn, restartedOf, runOf}
+use Rattle.effects.specs.Effects.{isNominal, switchedOf, groupOnOf, groupOffOf, groupStateOf, channelOnOf, channelOffOf, cancelledOf, switchedModeOf, faultsOf, housekeepingOf, parameterOf as parameterRun, rememberedOf, savedIn, restartedOf, runOf}
 use Rattle.commands.specs.Step.{isStartup, turnedDown, decodedOf, transferredOf}
 use Rattle.order.specs.Checks.{_is_, channelCodes, unavailable, channelWrong, checksumWrong, checksBy, checksOf}
 

@@ -32,7 +32,7 @@ use Rattle.answers.specs.declared.Answer.{Answer}
 use Rattle.answers.specs.declared.Answer.the-variants.{FewerThanFourBytes, InStartup}
 use Rattle.answers.specs.declared.Outcome.the-variants.{Answered}
 use Rattle.answers.specs.declared.Commanded.{Commanded}
-use Rattle.commands.specs.Effects.{runOf, restartedOf}
+use Rattle.effects.specs.Effects.{runOf, restartedOf}
 use Rattle.commands.specs.Step.{isStartup, decodedOf, transferredOf, commandedOf}
 use Rattle.board.specs.Tick.{risenOf, changedOf, trippedOf, watchedAs, watchedIn, tickWith, allowedCount, tickOf}
 use Rattle.board.proofs.Happened.{told, found, own-reply, form-after, reset-form}

@@ -4,8 +4,9 @@ use Prim.Native.Nat.{ℕ}
 use Rattle.state.specs.declared.parts.Board.{Board}
 use Rattle.answers.specs.Answers.{refusedOf, notThisBoardOf}
 use Rattle.answers.specs.declared.Answer.{Answer}
-use Rattle.commands.specs.Parts.{timerAfter, obeyedIn, refusedWith}
-use Rattle.commands.specs.declared.parts.Obeyed.{Obeyed}
+use Rattle.effects.specs.Parts.{obeyedIn}
+use Rattle.commands.specs.Parts.{timerAfter, refusedWith}
+use Rattle.effects.specs.declared.parts.Obeyed.{Obeyed}
 use borrow.Author.Needs.{needs}
 use Rattle.commands.proofs.asked.refused.Statement.{statement}
 use Rattle.commands.proofs.asked.refused.Tie as tie

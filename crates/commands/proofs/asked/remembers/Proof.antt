@@ -15,10 +15,10 @@ remembers-of-requires : tie.Need-remembers-of-requires
 remembers-of-requires c κs = search needs
 
 returns : tie.Need-returns
-returns c = search needs
+returns c = rw (c .enum-told .given .1)
 
 returns-2 : tie.Need-returns-2
-returns-2 c = search needs
+returns-2 c = rw (c .enum-told2 .given .1)
 
 returns-3 : tie.Need-returns-3
 returns-3 c = rw (c .before .before .asked .given .1, c .remembers-of .ensures)

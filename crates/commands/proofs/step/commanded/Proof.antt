@@ -7,7 +7,8 @@ use mir.ValLaws.{toZ-ofZ}
 use lib.IntN.{ℤ}
 use Rattle.command.specs.Decode.{codeOf}
 use Rattle.answers.specs.Answers.{receivedIn}
-use Rattle.commands.specs.Parts.{askedIn, obeyedIn, layoutAsked}
+use Rattle.effects.specs.Parts.{obeyedIn}
+use Rattle.commands.specs.Parts.{askedIn, layoutAsked}
 use Rattle.commands.proofs.Whole.{Obeying, altered, replied, goes-on, begins-again}
 use borrow.Author.Needs.{needs}
 use Rattle.commands.proofs.step.commanded.Statement.{statement}

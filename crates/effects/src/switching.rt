@@ -1,0 +1,92 @@
+// The commands on channels: 0x10, 0x12, 0x14, 0x16, 0x18 and 0x04.
+ghost use mathlib.Core.Path.{_≡_};
+ghost use Rattle.effects.specs.Effects.{isNominal, switchedOf, cancelledOf, groupOnOf, groupOffOf, groupStateOf, channelOnOf, channelOffOf};
+ghost use Rattle.effects.specs.Parts.{obeyedIn};
+use crate::accepted;
+use crate::parts::Obeyed;
+use crate::unchanged;
+use answers::Answer;
+use channels::Channels;
+use command::Group;
+use modes::Mode;
+use state::Board;
+
+// Whether a mode is nominal.
+fn is_nominal(mode: Mode) -> bool
+    ensures { λ r. ⌜ r ≡ isNominal mode ⌝ }
+{
+    match mode {
+        Mode::Startup => false,
+        Mode::Nominal => true,
+        Mode::Safety => false,
+        Mode::Emergency => false,
+    }
+}
+
+// A command on channels: available in nominal alone, and then right or wrong by the channel it names.
+fn switched(b: Board, right: bool, channels: Channels) -> Obeyed
+    ensures { λ r. ⌜ r ≡ obeyedIn (switchedOf 0 right channels b) ⌝ }
+{
+    let nominal = is_nominal(b.phase.mode());
+    if !nominal {
+        return unchanged(b, Answer::NotAvailable);
+    }
+    if !right {
+        return unchanged(b, Answer::Wrong);
+    }
+    accepted(b, b.phase.kept(), channels)
+}
+
+// 0x10 group on.
+pub fn group_on(b: Board, g: Group) -> Obeyed
+    ensures { λ r. ⌜ r ≡ obeyedIn (groupOnOf 0 g b) ⌝ }
+{
+    let channels = b.channels.group_on(b.profile.fitted, g.spoken, g.mask);
+    switched(b, true, channels)
+}
+
+// 0x12 group off.
+pub fn group_off(b: Board, g: Group) -> Obeyed
+    ensures { λ r. ⌜ r ≡ obeyedIn (groupOffOf 0 g b) ⌝ }
+{
+    let channels = b.channels
+        .group_off(b.profile.fitted, b.profile.forced, g.spoken, g.mask);
+    switched(b, true, channels)
+}
+
+// 0x14 group state.
+pub fn group_state(b: Board, g: Group) -> Obeyed
+    ensures { λ r. ⌜ r ≡ obeyedIn (groupStateOf 0 g b) ⌝ }
+{
+    let channels = b.channels
+        .group_state(b.profile.fitted, b.profile.forced, g.spoken, g.mask);
+    switched(b, true, channels)
+}
+
+// 0x16: one channel on.
+pub fn channel_on(b: Board, one: u8) -> Obeyed
+    ensures { λ r. ⌜ r ≡ obeyedIn (channelOnOf 0 one b) ⌝ }
+{
+    let right = channels::may_switch_on(b.profile.fitted, one);
+    let channels = b.channels.switch_on(b.profile.fitted, one);
+    switched(b, right, channels)
+}
+
+// 0x18: one channel off.
+pub fn channel_off(b: Board, one: u8) -> Obeyed
+    ensures { λ r. ⌜ r ≡ obeyedIn (channelOffOf 0 one b) ⌝ }
+{
+    let right = channels::may_switch_off(b.profile.fitted, b.profile.forced, one);
+    let channels = b.channels
+        .switch_off(b.profile.fitted, b.profile.forced, one);
+    switched(b, right, channels)
+}
+
+// 0x04: command-enabled channels go off.
+pub fn cancelled(b: Board) -> Obeyed
+    ensures { λ r. ⌜ r ≡ obeyedIn (cancelledOf 0 b) ⌝ }
+{
+    let channels = b.channels
+        .command_enabled_off(b.profile.fitted, b.profile.forced);
+    accepted(b, b.phase.kept(), channels)
+}
