@@ -54,10 +54,17 @@ pub none-sent : (rail : ℤ) (limits : Limits) (sent : Bool) (s : List ℕ) (b :
 unfolding commandedOf
 none-sent rail limits sent s b e = rw e
 
--- what a command made, put together again
-pub one-sent : (c : Commanded) (board : Board) (outcome : Outcome) (replied : Bool) → board ≡ c .board → outcome ≡ c .outcome → replied ≡ c .replied
-    → _≡_ {A = Commanded} (record { board = board; outcome = outcome; replied = replied }) c
-one-sent c board outcome replied be oe re = rw (be, oe, re)
+-- where one was sent, what the command made is put together again
+pub one-sent : {rail rail′ : ℤ} {limits limits′ : Limits} (sent : Bool) (s : List ℕ) {b b′ : Board} (c : Commanded) (board : Board) (outcome : Outcome) (replied : Bool)
+    → rail′ ≡ rail
+    → limits′ ≡ limits
+    → b′ ≡ b
+    → c ≡ commandedOf rail′ limits′ sent s b′
+    → board ≡ c .board
+    → outcome ≡ c .outcome
+    → replied ≡ c .replied
+    → _≡_ {A = Commanded} (record { board = board; outcome = outcome; replied = replied }) (commandedOf rail limits sent s b)
+one-sent sent s c board outcome replied re le be made e f g = rw (e, f, g, ← re, ← le, ← be) made
 
 -- ---- behind the command
 -- with no reset everything stays, with one the board starts over and the reply is lost

@@ -83,7 +83,7 @@ obeyed c =
     let s : c .before .before .before .before .before .before .before .settle .result ≡ settledIn (trippedOf (a .overcurrent) (changedOf (a .rail) limits (risenOf [] (a .t1)))) = c .before .before .before .before .before .before .before .settle .ensures ∙ rw (r, l) in
     let f = found-apart (a .rail) limits (a .overcurrent) (now (a .words)) (a .t1) (c .before .before .before .before .before .before .before .settle .result) (measuredAs (c .before .before .bring .last .1 .0) (c .before .before .bring .result)) s (c .before .before .bring .ensures) in
     ⊎-elim
-    (λ w. one-sent (w .1 .result) (k .b) (k .outcome) (k .replied) (w .3) (w .4) (w .5) ∙ w .1 .ensures ∙ rw (r, l, f))
+    (λ w. one-sent (a .sent) (now (a .transfer)) (w .1 .result) (k .b) (k .outcome) (k .replied) r l f (w .1 .ensures) (w .3) (w .4) (w .5))
     (λ w. rw (w .1, w .2, w .3, f) (none-sent (a .rail) limits (a .sent) (now (a .transfer)) (foundAt c) (w .0 .left)))
     (k .came)
 
