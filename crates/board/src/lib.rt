@@ -1,13 +1,17 @@
 // One tick of a board: five steps, one after another.
 ghost use mathlib.Core.List.{[]};
 ghost use mathlib.Core.Path.{_≡_};
+ghost use Rattle.channels.specs.Operations.{overcurrentAt};
+ghost use Rattle.state.specs.Change.{enteringOf};
 ghost use Rattle.board.specs.Parts.{settledIn, measuredAs, isReset};
 ghost use Rattle.board.specs.Tick.{broughtBy, risenOf, changedOf, trippedOf, allowedCount, tickOf};
 use answers::Outcome;
 use channels::Channels;
 use modes::Limits;
+use modes::Mode;
 use modes::ModeAge;
 use state::Board;
+use state::Profile;
 use state::Resets;
 use watchdog::Event;
 
@@ -27,6 +31,14 @@ struct Settled {
     resets: Resets,
 }
 
+// The channels after the mode went from one to another, or stayed, and then each named one that is on tripped.
+fn channels_after(before: Mode, after: Mode, p: Profile, c: Channels, named: u32) -> Channels
+    ensures { λ r. ⌜ r ≡ overcurrentAt named (enteringOf before after p c) ⌝ }
+{
+    let entered = state::entering(before, after, p, c);
+    entered.overcurrent(named)
+}
+
 // Those parts after steps 1 to 3: the mode's age and the timer rise, the mode changes once at most with what that brings, and each named channel that is on trips.
 // Which words were lent makes no difference to them, so none are asked for.
 fn settle(b: Board, rail: i16, named: u32, limits: Limits) -> Settled
@@ -38,8 +50,7 @@ fn settle(b: Board, rail: i16, named: u32, limits: Limits) -> Settled
     let after = phase.mode();
     let risen = watchdog::risen(b.timer);
     let timer = state::timer_after(before, after, risen);
-    let entered = state::entering(before, after, b.profile, b.channels);
-    let channels = entered.overcurrent(named);
+    let channels = channels_after(before, after, b.profile, b.channels, named);
     let resets = state::resets_after(before, after, b.resets);
     Settled {
         phase,

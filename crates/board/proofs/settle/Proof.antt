@@ -24,18 +24,15 @@ risen-requires c κs = search needs
 timer-after-requires : tie.Need-timer-after-requires
 timer-after-requires c κs = search needs
 
-entering-requires : tie.Need-entering-requires
-entering-requires c κs = search needs
-
-overcurrent-requires : tie.Need-overcurrent-requires
-overcurrent-requires c κs = search needs
+channels-after-requires : tie.Need-channels-after-requires
+channels-after-requires c κs = search needs
 
 resets-after-requires : tie.Need-resets-after-requires
 resets-after-requires c κs = search needs
 
 returns : tie.Need-returns
 unfolding risenOf changedOf trippedOf
-returns c = rw (c .resets-after .ensures, c .before .overcurrent .ensures, c .before .before .entering .ensures, c .before .before .before .timer-after .ensures, c .before .before .before .before .risen .ensures, c .before .before .before .before .before .mode2 .ensures, c .before .before .before .before .before .before .step .ensures, c .before .before .before .before .before .before .before .mode .ensures, c .before .before .before .before .before .before .before .before .older .ensures, toZ-ofZ w16 (c .before .before .before .before .before .before .before .before .before .args .rail) (c .before .before .before .before .before .before .before .before .before .fits .rail))
+returns c = rw (c .resets-after .ensures, c .before .channels-after .ensures, c .before .before .timer-after .ensures, c .before .before .before .risen .ensures, c .before .before .before .before .mode2 .ensures, c .before .before .before .before .before .step .ensures, c .before .before .before .before .before .before .mode .ensures, c .before .before .before .before .before .before .before .older .ensures, toZ-ofZ w16 (c .before .before .before .before .before .before .before .before .args .rail) (c .before .before .before .before .before .before .before .before .fits .rail))
 
 pub settle-spec : {M : Type 1} → statement M
 settle-spec =
@@ -47,7 +44,6 @@ settle-spec =
     mode-requires-2
     risen-requires
     timer-after-requires
-    entering-requires
-    overcurrent-requires
+    channels-after-requires
     resets-after-requires
     returns)
