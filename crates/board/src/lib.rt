@@ -39,8 +39,8 @@ fn channels_after(before: Mode, after: Mode, p: Profile, c: Channels, named: u32
     entered.overcurrent(named)
 }
 
-// Those parts after steps 1 to 3: the mode's age and the timer rise, the mode changes once at most with what that brings, and each named channel that is on trips.
-// Which words were lent makes no difference to them, so none are asked for.
+// What steps 1 to 3 make of the settled parts: the mode's age and the timer rise, the mode changes once at most with what that brings, and each named channel that is on trips.
+// Words that are lent make no difference to these, so none are asked for.
 fn settle(b: Board, rail: i16, named: u32, limits: Limits) -> Settled
     ensures { λ r. ⌜ r ≡ settledIn (trippedOf named (changedOf rail limits (risenOf [] b))) ⌝ }
 {
