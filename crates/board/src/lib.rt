@@ -1,12 +1,18 @@
 // One tick of a board: five steps, one after another.
+ghost use mathlib.Core.List.{[]};
 ghost use mathlib.Core.Path.{_≡_};
-ghost use lib.ListN.{length};
-ghost use Rattle.board.specs.Tick.{broughtBy, risenOf, changedOf, trippedOf, watchedIn, tickWith, allowedCount, tickOf};
-use answers::Commanded;
+ghost use Rattle.channels.specs.Operations.{overcurrentAt};
+ghost use Rattle.state.specs.Change.{enteringOf};
+ghost use Rattle.board.specs.Parts.{settledIn, measuredAs, isReset};
+ghost use Rattle.board.specs.Tick.{broughtBy, risenOf, changedOf, trippedOf, allowedCount, tickOf};
 use answers::Outcome;
+use channels::Channels;
 use modes::Limits;
+use modes::Mode;
+use modes::ModeAge;
 use state::Board;
-use state::Measured;
+use state::Profile;
+use state::Resets;
 use watchdog::Event;
 
 // The board after a tick, what the tick tells of its transfer, what the watchdog did, and whether the tick made a reply that is still there.
@@ -17,111 +23,70 @@ pub struct Ticked {
     pub replied: bool,
 }
 
-// The measured words after a tick: words brought replace the last.
-fn brought(m: Measured, words: &[u16]) -> Measured
-    ensures { λ r. ⌜ r ≡ broughtBy (now (words .entry)) m ⌝ }
+// The parts of a board that steps 1 to 3 change, but for the measured words.
+struct Settled {
+    phase: ModeAge,
+    timer: u64,
+    channels: Channels,
+    resets: Resets,
+}
+
+// The channels after the mode went from one to another, or stayed, and then each named one that is on tripped.
+fn channels_after(before: Mode, after: Mode, p: Profile, c: Channels, named: u32) -> Channels
+    ensures { λ r. ⌜ r ≡ overcurrentAt named (enteringOf before after p c) ⌝ }
+{
+    let entered = state::entering(before, after, p, c);
+    entered.overcurrent(named)
+}
+
+// What steps 1 to 3 make of the settled parts: the mode's age and the timer rise, the mode changes once at most with what that brings, and each named channel that is on trips.
+// Words that are lent make no difference to these, so none are asked for.
+fn settle(b: Board, rail: i16, named: u32, limits: Limits) -> Settled
+    ensures { λ r. ⌜ r ≡ settledIn (trippedOf named (changedOf rail limits (risenOf [] b))) ⌝ }
+{
+    let older = b.phase.older();
+    let before = older.mode();
+    let phase = older.step(rail, limits);
+    let after = phase.mode();
+    let risen = watchdog::risen(b.timer);
+    let timer = state::timer_after(before, after, risen);
+    let channels = channels_after(before, after, b.profile, b.channels, named);
+    let resets = state::resets_after(before, after, b.resets);
+    Settled {
+        phase,
+        timer,
+        channels,
+        resets,
+    }
+}
+
+// Words brought replace the last, and are new; where none are brought the last stay, as new as they were. Answers whether the words held are new.
+fn bring(fresh: bool, held: &mut [u16; 122], words: &[u16]) -> bool
+    ensures { λ r. ⌜ measuredAs (now (held .exit)) r ≡ broughtBy (now (words .entry)) (measuredAs (now (held .entry)) fresh) ⌝ }
 {
     if words.len() != 122 {
-        return m;
+        return fresh;
     }
-    let mut held = [0u16; 122];
+    // stored whole at the end, and not one by one: a proof knows how long a local array is, and not how long one behind a reference is
+    let mut brought = [0u16; 122];
     let mut i = 0;
     while i < 122 {
-        held[i] = words[i];
+        brought[i] = words[i];
         i += 1;
     }
-    Measured {
-        words: held,
-        fresh: true,
+    *held = brought;
+    true
+}
+
+// Whether the watchdog resets the board.
+fn is_reset(event: Event) -> bool
+    ensures { λ r. ⌜ r ≡ isReset event ⌝ }
+{
+    match event {
+        Event::NoEvent => false,
+        Event::PeripheralReset => false,
+        Event::WatchdogReset => true,
     }
-}
-
-// Step 1: the mode's age and the timer rise, and the words are taken.
-fn risen(mut b: Board, words: &[u16]) -> Board
-    ensures { λ r. ⌜ r ≡ risenOf (now (words .entry)) b ⌝ }
-{
-    let phase = b.phase.older();
-    let timer = watchdog::risen(b.timer);
-    let measured = brought(b.measured, words);
-    b.phase = phase;
-    b.timer = timer;
-    b.measured = measured;
-    b
-}
-
-// Step 2: one automatic change of mode at most, with what it brings.
-fn changed(mut b: Board, rail: i16, limits: Limits) -> Board
-    ensures { λ r. ⌜ r ≡ changedOf rail limits b ⌝ }
-{
-    let before = b.phase.mode();
-    let phase = b.phase.step(rail, limits);
-    let after = phase.mode();
-    let channels = state::entering(before, after, b.profile, b.channels);
-    let timer = state::timer_after(before, after, b.timer);
-    let resets = state::resets_after(before, after, b.resets);
-    b.phase = phase;
-    b.channels = channels;
-    b.timer = timer;
-    b.resets = resets;
-    b
-}
-
-// Step 3: each named channel that is on trips.
-fn tripped(mut b: Board, named: u32) -> Board
-    ensures { λ r. ⌜ r ≡ trippedOf named b ⌝ }
-{
-    let channels = b.channels.overcurrent(named);
-    b.channels = channels;
-    b
-}
-
-// Step 5: the watchdog, by the settings as they then are.
-fn watched(c: Commanded) -> Ticked
-    ensures { λ r. ⌜ r ≡ watchedIn c ⌝ }
-{
-    let board = c.board;
-    let outcome = c.outcome;
-    let replied = c.replied;
-    let timeout = watchdog::seconds_in_ticks(board.memory.timeout());
-    match watchdog::watched(board.timer, timeout) {
-        Event::NoEvent => Ticked {
-            board,
-            outcome,
-            event: Event::NoEvent,
-            replied,
-        },
-        Event::PeripheralReset => Ticked {
-            board,
-            outcome,
-            event: Event::PeripheralReset,
-            replied,
-        },
-        Event::WatchdogReset => Ticked {
-            board: state::watchdog_reset(board),
-            outcome,
-            event: Event::WatchdogReset,
-            replied: false,
-        },
-    }
-}
-
-// A tick by given limits, with words that are all there or none.
-fn tick_with(
-    limits: Limits,
-    b: Board,
-    rail: i16,
-    overcurrent: u32,
-    words: &[u16],
-    sent: bool,
-    transfer: &[u8],
-) -> Ticked
-    ensures { λ r. ⌜ r ≡ tickWith limits rail overcurrent (now (words .entry)) sent (now (transfer .entry)) b ⌝ }
-{
-    let older = risen(b, words);
-    let settled = changed(older, rail, limits);
-    let protected = tripped(settled, overcurrent);
-    let obeyed = commands::commanded(protected, rail, limits, sent, transfer);
-    watched(obeyed)
 }
 
 // Whether a tick may bring that many words.
@@ -136,8 +101,9 @@ fn is_allowed(count: usize) -> bool
 
 // One tick: the rail in millivolts, the channels that reported overcurrent, the words lent, and no transfer or one. With no transfer its slice is not looked at.
 // Words that are neither none nor all are refused, and the tick does not happen.
+// The board is changed in place and leaves at one place only, since it is large and copying it would take longer than the tick itself.
 pub fn tick(
-    b: Board,
+    mut b: Board,
     rail: i16,
     overcurrent: u32,
     words: &[u16],
@@ -146,21 +112,39 @@ pub fn tick(
 ) -> Ticked
     ensures { λ r. ⌜ r ≡ tickOf rail overcurrent (now (words .entry)) sent (now (transfer .entry)) b ⌝ }
 {
-    if !is_allowed(words.len()) {
-        return Ticked {
-            board: b,
-            outcome: Outcome::WrongWordCount,
-            event: Event::NoEvent,
-            replied: false,
-        };
+    let mut outcome = Outcome::WrongWordCount;
+    let mut event = Event::NoEvent;
+    let mut replied = false;
+    if is_allowed(words.len()) {
+        let limits = b.memory.limits();
+        let settled = settle(b, rail, overcurrent, limits);
+        let phase = settled.phase;
+        let channels = settled.channels;
+        let resets = settled.resets;
+        b.phase = phase;
+        b.timer = settled.timer;
+        b.channels = channels;
+        b.resets = resets;
+        let fresh = bring(b.measured.fresh, &mut b.measured.words, words);
+        b.measured.fresh = fresh;
+        outcome = Outcome::NoTransfer;
+        if sent {
+            let c = commands::commanded(b, rail, limits, sent, transfer);
+            b = c.board;
+            outcome = c.outcome;
+            replied = c.replied;
+        }
+        let timeout = watchdog::seconds_in_ticks(b.memory.timeout());
+        event = watchdog::watched(b.timer, timeout);
+        if is_reset(event) {
+            b = state::watchdog_reset(b);
+            replied = false;
+        }
     }
-    tick_with(
-        b.memory.limits(),
-        b,
-        rail,
-        overcurrent,
-        words,
-        sent,
-        transfer,
-    )
+    Ticked {
+        board: b,
+        outcome,
+        event,
+        replied,
+    }
 }

@@ -1,0 +1,22 @@
+-- What the contracts of the functions that change a board in place speak of. Assumes nothing: these are definitions.
+use Prim.Native.Nat.{ℕ}
+use mathlib.Core.Bool.{Bool, true, false}
+use mathlib.Core.List.{List}
+use Rattle.watchdog.specs.declared.Event.{Event}
+use Rattle.watchdog.specs.declared.Event.the-variants.{NoEvent, PeripheralReset, WatchdogReset}
+use Rattle.state.specs.declared.parts.Board.{Board}
+use Rattle.state.specs.declared.parts.Measured.{Measured}
+use Rattle.board.specs.declared.Settled.{Settled}
+
+-- the parts of a board that steps 1 to 3 change, but for the measured words
+abbrev pub settledIn : Board → Settled
+settledIn b = record { phase = b .phase; timer = b .timer; channels = b .channels; resets = b .resets }
+
+abbrev pub measuredAs : List ℕ → Bool → Measured
+measuredAs words fresh = record { words = words; fresh = fresh }
+
+-- of what the watchdog does, the one that starts the board over
+unfoldable pub isReset : Event → Bool
+isReset NoEvent = false
+isReset PeripheralReset = false
+isReset WatchdogReset = true
