@@ -46,7 +46,8 @@ fn settle(b: Board, rail: i16, named: u32, limits: Limits) -> Settled
 {
     let older = b.phase.older();
     let before = older.mode();
-    let phase = older.step(rail, limits);
+    let stepped = older.step(rail, limits);
+    let phase = stepped.kept();
     let after = phase.mode();
     let risen = watchdog::risen(b.timer);
     let timer = state::timer_after(before, after, risen);

@@ -18,6 +18,7 @@ pub mod Memory
 pub mod Replies
 pub mod State
 pub mod Answers
+pub mod Effects
 pub mod Commands
 pub mod Board
 pub mod Unit

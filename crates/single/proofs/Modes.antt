@@ -4,6 +4,7 @@ use Rattle.single.specs.Single.{Single}
 use Rattle.modes.proofs.ModeAge.start.Reads as modeage-start
 use Rattle.modes.proofs.ModeAge.mode.Reads as modeage-mode
 use Rattle.modes.proofs.ModeAge.age.Reads as modeage-age
+use Rattle.modes.proofs.ModeAge.kept.Reads as modeage-kept
 use Rattle.modes.proofs.ModeAge.older.Reads as modeage-older
 use Rattle.modes.proofs.ModeAge.step.Reads as modeage-step
 use Rattle.modes.proofs.ModeAge.to_safety.Reads as modeage-to-safety
@@ -17,6 +18,9 @@ single-modeage-mode κ a r r′ s s′ p q = p ∙ sym q
 
 pub single-modeage-age : Single modeage-age.Post (λ κ r s. r)
 single-modeage-age κ a r r′ s s′ p q = p ∙ sym q
+
+pub single-modeage-kept : Single modeage-kept.Post (λ κ r s. r)
+single-modeage-kept κ a r r′ s s′ p q = p ∙ sym q
 
 pub single-modeage-older : Single modeage-older.Post (λ κ r s. r)
 single-modeage-older κ a r r′ s s′ p q = p ∙ sym q

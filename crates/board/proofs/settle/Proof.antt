@@ -15,6 +15,9 @@ mode-requires c κs = search needs
 step-requires : tie.Need-step-requires
 step-requires c κs = search needs
 
+kept-requires : tie.Need-kept-requires
+kept-requires c κs = search needs
+
 mode-requires-2 : tie.Need-mode-requires-2
 mode-requires-2 c κs = search needs
 
@@ -32,7 +35,7 @@ resets-after-requires c κs = search needs
 
 returns : tie.Need-returns
 unfolding risenOf changedOf trippedOf
-returns c = rw (c .resets-after .ensures, c .before .channels-after .ensures, c .before .before .timer-after .ensures, c .before .before .before .risen .ensures, c .before .before .before .before .mode2 .ensures, c .before .before .before .before .before .step .ensures, c .before .before .before .before .before .before .mode .ensures, c .before .before .before .before .before .before .before .older .ensures, toZ-ofZ w16 (c .before .before .before .before .before .before .before .before .args .rail) (c .before .before .before .before .before .before .before .before .fits .rail))
+returns c = rw (c .resets-after .ensures, c .before .channels-after .ensures, c .before .before .timer-after .ensures, c .before .before .before .risen .ensures, c .before .before .before .before .mode2 .ensures, c .before .before .before .before .before .kept .ensures, c .before .before .before .before .before .before .step .ensures, c .before .before .before .before .before .before .before .mode .ensures, c .before .before .before .before .before .before .before .before .older .ensures, toZ-ofZ w16 (c .before .before .before .before .before .before .before .before .before .args .rail) (c .before .before .before .before .before .before .before .before .before .fits .rail))
 
 pub settle-spec : {M : Type 1} → statement M
 settle-spec =
@@ -41,6 +44,7 @@ settle-spec =
     older-requires
     mode-requires
     step-requires
+    kept-requires
     mode-requires-2
     risen-requires
     timer-after-requires
