@@ -1,8 +1,16 @@
 -- Whether there is a transfer, its length, the mode, and then what the decoder finds by the base list.
 use mathlib.Core.Path.{_≡_, sym, _∙_}
-use mathlib.Core.Bool.{Bool}
-use borrow.Author.Tests.{not-true, not-false}
-use Rattle.command.specs.Decode.{decodeOf}
+use mathlib.Core.Bool.{Bool, true, false, not}
+use mathlib.Core.List.{List}
+use Prim.Native.Nat.{ℕ}
+use borrow.Author.Tests.{not-false}
+use Rattle.modes.specs.declared.Mode.{Mode}
+use Rattle.command.specs.Decode.{fewerThanFour, decodeOf}
+use Rattle.command.specs.declared.Header.{Header}
+use Rattle.answers.specs.declared.Answer.the-variants.{FewerThanFourBytes, InStartup}
+use Rattle.answers.specs.declared.Outcome.the-variants.{NoTransfer, Answered}
+use Rattle.commands.specs.Step.{isStartup}
+use Rattle.commands.specs.declared.asked.Asked.the-variants.{Silence}
 use Rattle.commands.specs.Parts.{askedOf}
 use borrow.Author.Needs.{needs}
 use Rattle.commands.proofs.asked.asked_of.Statement.{statement}
@@ -11,6 +19,19 @@ use Rattle.commands.proofs.asked.asked_of.Tie as tie
 -- what a test answered, of what it tests
 shown : {told test answer : Bool} → told ≡ test → told ≡ answer → test ≡ answer
 shown e t = sym e ∙ t
+
+module _ (mode : Mode) (own : Header) (sent : Bool) (s : List ℕ) where
+  none : not sent ≡ true → Silence NoTransfer ≡ askedOf mode own sent s
+  unfolding askedOf
+  none e = rw e
+
+  first-1 : not sent ≡ false → fewerThanFour s ≡ true → Silence (Answered FewerThanFourBytes) ≡ askedOf mode own sent s
+  unfolding askedOf
+  first-1 e short = rw (e, short)
+
+  then-2 : not sent ≡ false → fewerThanFour s ≡ false → isStartup mode ≡ true → Silence (Answered InStartup) ≡ askedOf mode own sent s
+  unfolding askedOf
+  then-2 e long starting = rw (e, long, starting)
 
 base-codes-requires : tie.Need-base-codes-requires
 base-codes-requires c κs = search needs
@@ -22,16 +43,13 @@ is-startup-requires : tie.Need-is-startup-requires
 is-startup-requires c κs = search needs
 
 returns : tie.Need-returns
-unfolding askedOf
-returns c = rw (not-true (c .before .before .before .before .before .args .sent) (c .if1 .taken))
+returns c = search (none, needs)
 
 returns-2 : tie.Need-returns-2
-unfolding askedOf
-returns-2 c = rw (not-false (c .before .before .before .before .before .before .args .sent) (c .before .if1 .left), shown (c .before .before .before .too-short .ensures) (c .if2 .taken))
+returns-2 c = search (first-1, shown, needs)
 
 returns-3 : tie.Need-returns-3
-unfolding askedOf
-returns-3 c = rw (not-false (c .before .before .before .before .before .before .before .args .sent) (c .before .before .if1 .left), shown (c .before .before .before .before .too-short .ensures) (c .before .if2 .left), shown (c .before .before .before .is-startup .ensures) (c .if3 .taken))
+returns-3 c = search (then-2, shown, needs)
 
 slice-aggregate-decode : tie.Need-slice-aggregate-decode
 slice-aggregate-decode c = search needs
