@@ -40,7 +40,7 @@ toldNumber (Answered answer) = some (numberOf answer)
 abbrev pub new : ℕ
 new = 0x80
 
--- Table 3-11's code of that meaning, NEW set where the command is accepted and clear where it is refused. 1 and 2 make no reply, so theirs is never asked for.
+-- the codes are those of Table 3-11; NEW goes with acceptance alone. 1 and 2 make no reply, so theirs is never asked for.
 abbrev pub statOf : Answer → ℕ
 statOf Accepted = new  -- accepted is 0x00
 statOf NotThisBoard = 0x06
@@ -72,7 +72,7 @@ replyingOf answer reply b = record { board = withReply reply b; outcome = Answer
 abbrev pub fed : Board → Board
 fed b = withTimer 0 b
 
--- 0: the reply of the command
+-- 0: what replies is the command's own
 unfoldable pub acceptedWith : Reply → Board → Commanded
 acceptedWith reply b = replyingOf Accepted reply (fed b)
 

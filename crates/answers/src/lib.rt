@@ -1,4 +1,4 @@
-// What a transfer is answered: the numbers of the command table, what each answer returns and leaves, and what a parameter reads.
+// What a transfer may be answered, with the status code of each answer, what a board is called by, and what a parameter reads.
 ghost use mathlib.Core.Path.{_≡_};
 ghost use Rattle.answers.specs.Answers.{receivedIn, headerOf, statOf};
 
@@ -67,7 +67,7 @@ pub fn header(p: Profile) -> Header
     }
 }
 
-// The status code of an answer; the two that make no reply have none, and none is asked for.
+// The status code of an answer; 0 stands for the two that make no reply, and is never sent.
 pub fn stat(answer: Answer) -> u8
     ensures { λ r. ⌜ r ≡ statOf answer ⌝ }
 {

@@ -1,4 +1,4 @@
--- What the contracts of the functions that change a board in place speak of. Assumes nothing: these are definitions.
+-- What the contracts of a tick's own functions speak of. Assumes nothing: these are definitions.
 use Prim.Native.Nat.{ℕ}
 use mathlib.Core.Bool.{Bool, true, false}
 use mathlib.Core.List.{List}

@@ -1,4 +1,4 @@
--- One tick, as document 01 numbers its steps. `rail` is in millivolts with its sign, `named` the set of channels that reported overcurrent, `words` the words lent, `sent`
+-- One tick in five steps. `rail` is in millivolts with its sign, `named` the set of channels that reported overcurrent, `words` the words lent, `sent`
 -- whether there is a transfer and `s` its bytes. Assumes nothing: these are definitions.
 use Prim.Native.Nat.{ℕ}
 use mathlib.Core.Bool.{Bool, true, false, cond, not, _||_}
@@ -64,7 +64,7 @@ tickWith limits rail named words sent s b =
     let obeyed = commandedOf rail limits sent s tripped in  -- 4
     watchedIn obeyed  -- 5
 
--- ---- words that are neither none nor 122 are refusal 9: the tick does not happen
+-- ---- any number of words but 0 and 122 is refused with 9, and nothing of the tick takes place
 unfoldable pub allowedCount : ℕ → Bool
 allowedCount n = eqb n 0 || eqb n 122
 

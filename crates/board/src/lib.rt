@@ -39,7 +39,7 @@ fn channels_after(before: Mode, after: Mode, p: Profile, c: Channels, named: u32
     entered.overcurrent(named)
 }
 
-// What steps 1 to 3 make of the settled parts: the mode's age and the timer rise, the mode changes once at most with what that brings, and each named channel that is on trips.
+// What steps 1 to 3 make of these parts: mode and timer are a tick older, then the table may change the mode with all that follows from it, and then overcurrent turns channels off.
 // Words that are lent make no difference to these, so none are asked for.
 fn settle(b: Board, rail: i16, named: u32, limits: Limits) -> Settled
     ensures { λ r. ⌜ r ≡ settledIn (trippedOf named (changedOf rail limits (risenOf [] b))) ⌝ }
@@ -61,7 +61,7 @@ fn settle(b: Board, rail: i16, named: u32, limits: Limits) -> Settled
     }
 }
 
-// Words brought replace the last, and are new; where none are brought the last stay, as new as they were. Answers whether the words held are new.
+// 122 words take the place of those held, and are new; with any other number those held stay, as new as they were. Answers whether the words then held are new.
 fn bring(fresh: bool, held: &mut [u16; 122], words: &[u16]) -> bool
     ensures { λ r. ⌜ measuredAs (now (held .exit)) r ≡ broughtBy (now (words .entry)) (measuredAs (now (held .entry)) fresh) ⌝ }
 {
@@ -101,7 +101,7 @@ fn is_allowed(count: usize) -> bool
 }
 
 // One tick: the rail in millivolts, the channels that reported overcurrent, the words lent, and no transfer or one. With no transfer its slice is not looked at.
-// Words that are neither none nor all are refused, and the tick does not happen.
+// Any number of words but 0 and 122 is refused, and the board stays as it was.
 // The board is changed in place and leaves at one place only, since it is large and copying it would take longer than the tick itself.
 pub fn tick(
     mut b: Board,

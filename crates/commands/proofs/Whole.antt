@@ -18,21 +18,20 @@ use Rattle.state.specs.Parts.{modeOf, withReply, withMemory}
 use Rattle.state.specs.Start.{commandResetOf}
 use Rattle.state.specs.declared.parts.Board.{Board}
 use Rattle.answers.specs.Answers.{headerOf, acceptedWith, acceptedOf, refusedOf, notThisBoardOf}
-use Rattle.answers.specs.declared.Answer.{Answer}
 use Rattle.answers.specs.declared.Commanded.{Commanded}
 use Rattle.effects.specs.Effects.{isNominal, switchedOf, groupOnOf, groupOffOf, groupStateOf, channelOnOf, channelOffOf, cancelledOf, switchedModeOf, faultsOf, housekeepingOf, parameterOf, rememberedOf, savedIn, restartedOf, runOf}
 use Rattle.commands.specs.Step.{isStartup, turnedDown, decodedOf, transferredOf, commandedOf}
 use Rattle.effects.specs.Parts.{obeyedIn}
-use Rattle.commands.specs.Parts.{askedBy, askedOf, askedIn, remembersAsked, memoryAfter, alters, startsOver, layoutAsked, replyTo}
+use Rattle.commands.specs.Parts.{askedBy, askedOf, askedIn, memoryChangeAsked, memoryAfter, alters, isRestart, layoutAsked, replyTo}
 use Rattle.commands.specs.declared.asked.Asked.{Asked}
 use Rattle.commands.specs.declared.asked.Asked.the-variants as asked
 use Rattle.effects.specs.declared.parts.Obeyed.{Obeyed}
 use Rattle.effects.specs.declared.parts.Layout.{Layout}
 use Rattle.effects.specs.declared.parts.Layout.the-variants.{Short}
-use Rattle.effects.specs.declared.parts.Remembers.{Remembers}
+use Rattle.effects.specs.declared.parts.MemoryChange.{MemoryChange}
 
 -- ---- a board, part after part
-abbrev pub altered : Remembers → Board → Board
+abbrev pub altered : MemoryChange → Board → Board
 altered how b = cond (alters how) (withMemory (memoryAfter how (b .memory)) b) b
 
 abbrev pub replied : ℕ → Obeyed → Layout → Board → Board
@@ -53,10 +52,10 @@ settled told b =
     }
 
 abbrev pub put : ℕ → Asked → Obeyed → Board → Board
-put code asked told b = settled told (replied code told (layoutAsked asked) (altered (remembersAsked asked) b))
+put code asked told b = settled told (replied code told (layoutAsked asked) (altered (memoryChangeAsked asked) b))
 
 abbrev pub over : Asked → Board → Board
-over asked b = cond (startsOver (remembersAsked asked)) (commandResetOf b) b
+over asked b = cond (isRestart (memoryChangeAsked asked)) (commandResetOf b) b
 
 abbrev pub whole : ℕ → Asked → Obeyed → Board → Commanded
 whole code asked told b = record { board = over asked (put code asked told b); outcome = told .outcome; replied = told .replied }
@@ -104,22 +103,15 @@ module _ (code : ℕ) (b : Board) where
 
   -- ---- whatever was asked
   pub together : (rail : ℤ) (limits : Limits) (a : Asked) → whole code a (obeyedIn (askedIn rail limits 0 a b)) b ≡ askedIn rail limits code a b
-  unfolding askedIn replyTo refusedOf notThisBoardOf
+  unfolding askedIn replyTo
   together rail limits (asked.Silence outcome) = refl
-  together rail limits (asked.Refusal Answer.NotThisBoard) = refl
-  together rail limits (asked.Refusal Answer.Accepted) = refl
-  together rail limits (asked.Refusal Answer.FewerThanFourBytes) = refl
-  together rail limits (asked.Refusal Answer.InStartup) = refl
-  together rail limits (asked.Refusal Answer.CodeNotListed) = refl
-  together rail limits (asked.Refusal Answer.TooShort) = refl
-  together rail limits (asked.Refusal Answer.NotAvailable) = refl
-  together rail limits (asked.Refusal Answer.Wrong) = refl
+  together rail limits (asked.Refusal answer) = refl
   together rail limits (asked.Run c) = run rail limits c
 
 -- ---- what is asked comes to the step
 module _ (rail : ℤ) (limits : Limits) (code : ℕ) (b : Board) where
   refused-as : (r : Refusal) → askedIn rail limits code (askedBy (Decoded.Refused r)) b ≡ turnedDown code r b
-  unfolding askedIn turnedDown
+  unfolding askedIn turnedDown refusedOf notThisBoardOf
   refused-as Refusal.FewerThanFourBytes = refl
   refused-as Refusal.NotThisBoard = refl
   refused-as Refusal.CodeNotListed = refl
@@ -142,11 +134,11 @@ as-the-step rail limits sent s b =
     (λ i. rw (n, f, i) (decoded-as rail limits (codeOf s) b (decodeOf (headerOf (b .profile)) s)))))
 
 -- ---- a board that was changed part after part, as the code changes it
-module _ (rail : ℤ) (limits : Limits) (sent : Bool) (s : List ℕ) (b : Board) (a : Asked) (told : Obeyed) (how : Remembers) (b₁ b₂ : Board) where
+module _ (rail : ℤ) (limits : Limits) (sent : Bool) (s : List ℕ) (b : Board) (a : Asked) (told : Obeyed) (how : MemoryChange) (b₁ b₂ : Board) where
   pub record Obeying : Type 0 where
     pub asks : a ≡ askedOf (modeOf b) (headerOf (b .profile)) sent s
     pub tells : told ≡ obeyedIn (askedIn rail limits 0 a b)
-    pub keeps : how ≡ remembersAsked a
+    pub keeps : how ≡ memoryChangeAsked a
     pub alters-it : b₁ ≡ altered how b
     pub answers-it : b₂ ≡ replied (codeOf s) told (layoutAsked a) b₁
 
@@ -156,8 +148,8 @@ module _ (rail : ℤ) (limits : Limits) (sent : Bool) (s : List ℕ) (b : Board)
   put-as : Obeying → settled told b₂ ≡ put (codeOf s) a told b
   put-as o = rw (o .answers-it, o .alters-it, o .keeps)
 
-  pub goes-on : Obeying → startsOver how ≡ false → record { board = settled told b₂; outcome = told .outcome; replied = told .replied } ≡ commandedOf rail limits sent s b
+  pub goes-on : Obeying → isRestart how ≡ false → record { board = settled told b₂; outcome = told .outcome; replied = told .replied } ≡ commandedOf rail limits sent s b
   goes-on o e = ap (λ (x : Board). record { board = x; outcome = told .outcome; replied = told .replied }) (put-as o ∙ sym (rw (sym (o .keeps), e))) ∙ step-of o
 
-  pub begins-again : Obeying → startsOver how ≡ true → {again : Board} → again ≡ commandResetOf (settled told b₂) → record { board = again; outcome = told .outcome; replied = told .replied } ≡ commandedOf rail limits sent s b
+  pub begins-again : Obeying → isRestart how ≡ true → {again : Board} → again ≡ commandResetOf (settled told b₂) → record { board = again; outcome = told .outcome; replied = told .replied } ≡ commandedOf rail limits sent s b
   begins-again o e f = ap (λ (x : Board). record { board = x; outcome = told .outcome; replied = told .replied }) (f ∙ ap commandResetOf (put-as o) ∙ sym (rw (sym (o .keeps), e))) ∙ step-of o

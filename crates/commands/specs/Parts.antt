@@ -15,22 +15,23 @@ use Rattle.command.specs.declared.Decoded as decoded
 use Rattle.memory.specs.Memory.{loadOf, defaultedOf, setIn, resetIn, savedOf}
 use Rattle.memory.specs.declared.Memory.{Memory}
 use Rattle.replies.specs.Layouts.{shortReply, faultsReply, housekeepingReply, parameterReply}
+use Rattle.state.specs.Parts.{withTimer}
 use Rattle.state.specs.declared.parts.Board.{Board}
-use Rattle.answers.specs.Answers.{headerOf, new, statOf, silentOf, refusedOf, notThisBoardOf}
+use Rattle.answers.specs.Answers.{headerOf, new, statOf, silentOf, replyingOf, shortTo}
 use Rattle.answers.specs.Parameters.{valueRead}
 use Rattle.answers.specs.declared.Answer.{Answer}
 use Rattle.answers.specs.declared.Outcome.{Outcome}
 use Rattle.answers.specs.declared.Outcome.the-variants.{WrongWordCount, NoTransfer, Answered}
 use Rattle.answers.specs.declared.Commanded.{Commanded}
 use Rattle.effects.specs.Effects.{newWhere, runOf}
-use Rattle.effects.specs.Parts.{remembersOf, layoutOf}
+use Rattle.effects.specs.Parts.{memoryChangeOf, layoutOf}
 use Rattle.commands.specs.Step.{isStartup}
 use Rattle.commands.specs.declared.asked.Asked.{Asked}
 use Rattle.commands.specs.declared.asked.Asked.the-variants.{Silence, Refusal, Run}
 use Rattle.effects.specs.declared.parts.Layout.{Layout}
 use Rattle.effects.specs.declared.parts.Layout.the-variants.{Short, Faults, Housekeeping, Parameter}
-use Rattle.effects.specs.declared.parts.Remembers.{Remembers}
-use Rattle.effects.specs.declared.parts.Remembers.the-variants.{AsBefore, Set, ResetOne, Defaults, Load, Save, Restart}
+use Rattle.effects.specs.declared.parts.MemoryChange.{MemoryChange}
+use Rattle.effects.specs.declared.parts.MemoryChange.the-variants.{AsBefore, Set, ResetOne, Defaults, Load, Save, Restart}
 
 -- ---- the checks 1 to 5, and 7 for key, id and value
 abbrev pub refusedBy : refusal.Refusal → Asked
@@ -53,26 +54,19 @@ askedOf mode own sent s =
     (cond (isStartup mode) (Silence (Answered Answer.InStartup))
     (askedBy (decodeOf own s))))
 
--- 3 leaves the timer
-abbrev pub timerAfter : Answer → ℕ → ℕ
-timerAfter Answer.NotThisBoard timer = timer
-timerAfter Answer.Accepted timer = 0
-timerAfter Answer.FewerThanFourBytes timer = 0
-timerAfter Answer.InStartup timer = 0
-timerAfter Answer.CodeNotListed timer = 0
-timerAfter Answer.TooShort timer = 0
-timerAfter Answer.NotAvailable timer = 0
-timerAfter Answer.Wrong timer = 0
+-- 4 to 7 start the timer again, 3 does not; no other answer comes here
+abbrev pub timerAnswered : Answer → ℕ → ℕ
+timerAnswered Answer.CodeNotListed timer = 0
+timerAnswered Answer.TooShort timer = 0
+timerAnswered Answer.NotAvailable timer = 0
+timerAnswered Answer.Wrong timer = 0
+timerAnswered Answer.NotThisBoard timer = timer
+timerAnswered Answer.Accepted timer = timer
+timerAnswered Answer.FewerThanFourBytes timer = timer
+timerAnswered Answer.InStartup timer = timer
 
 abbrev pub refusedWith : Answer → ℕ → Board → Commanded
-refusedWith Answer.NotThisBoard code b = notThisBoardOf code b
-refusedWith Answer.Accepted code b = refusedOf Answer.Accepted code b
-refusedWith Answer.FewerThanFourBytes code b = refusedOf Answer.FewerThanFourBytes code b
-refusedWith Answer.InStartup code b = refusedOf Answer.InStartup code b
-refusedWith Answer.CodeNotListed code b = refusedOf Answer.CodeNotListed code b
-refusedWith Answer.TooShort code b = refusedOf Answer.TooShort code b
-refusedWith Answer.NotAvailable code b = refusedOf Answer.NotAvailable code b
-refusedWith Answer.Wrong code b = refusedOf Answer.Wrong code b
+refusedWith answer code b = replyingOf answer (shortTo code answer b) (withTimer (timerAnswered answer (b .timer)) b)
 
 -- the step by what was asked
 unfoldable pub askedIn : ℤ → Limits → ℕ → Asked → Board → Commanded
@@ -80,13 +74,13 @@ askedIn rail limits code (Silence outcome) b = silentOf outcome b
 askedIn rail limits code (Refusal answer) b = refusedWith answer code b
 askedIn rail limits code (Run c) b = runOf rail limits code c b
 
--- ---- the memory
-abbrev pub remembersAsked : Asked → Remembers
-remembersAsked (Silence outcome) = AsBefore
-remembersAsked (Refusal answer) = AsBefore
-remembersAsked (Run c) = remembersOf c
+-- ---- the memory; a restart is not made by it, but as a whole
+abbrev pub memoryChangeAsked : Asked → MemoryChange
+memoryChangeAsked (Silence outcome) = AsBefore
+memoryChangeAsked (Refusal answer) = AsBefore
+memoryChangeAsked (Run c) = memoryChangeOf c
 
-abbrev pub memoryAfter : Remembers → Memory → Memory
+abbrev pub memoryAfter : MemoryChange → Memory → Memory
 memoryAfter AsBefore m = m
 memoryAfter (Set id v) m = setIn id v m
 memoryAfter (ResetOne id) m = resetIn id m
@@ -95,7 +89,7 @@ memoryAfter Load m = loadOf m
 memoryAfter (Save given) m = savedOf given m .memory
 memoryAfter Restart m = m
 
-abbrev pub alters : Remembers → Bool
+abbrev pub alters : MemoryChange → Bool
 alters AsBefore = false
 alters (Set id v) = true
 alters (ResetOne id) = true
@@ -104,16 +98,16 @@ alters Load = true
 alters (Save given) = true
 alters Restart = false
 
-abbrev pub startsOver : Remembers → Bool
-startsOver AsBefore = false
-startsOver (Set id v) = false
-startsOver (ResetOne id) = false
-startsOver Defaults = false
-startsOver Load = false
-startsOver (Save given) = false
-startsOver Restart = true
+abbrev pub isRestart : MemoryChange → Bool
+isRestart AsBefore = false
+isRestart (Set id v) = false
+isRestart (ResetOne id) = false
+isRestart Defaults = false
+isRestart Load = false
+isRestart (Save given) = false
+isRestart Restart = true
 
--- ---- the reply, of a board whose memory is already as the command leaves it
+-- ---- the reply, of a board with its memory as after the command and its words as new as before it. The longer layouts are of accepted commands alone, so they do not look at the outcome.
 abbrev pub layoutAsked : Asked → Layout
 layoutAsked (Silence outcome) = Short
 layoutAsked (Refusal answer) = Short

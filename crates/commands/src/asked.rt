@@ -3,7 +3,7 @@ ghost use mathlib.Core.Path.{_≡_};
 ghost use Rattle.answers.specs.Answers.{silentOf};
 ghost use Rattle.commands.specs.Step.{isStartup};
 ghost use Rattle.effects.specs.Parts.{obeyedIn};
-ghost use Rattle.commands.specs.Parts.{refusedBy, askedOf, timerAfter, refusedWith, askedIn, layoutAsked, remembersAsked};
+ghost use Rattle.commands.specs.Parts.{refusedBy, askedOf, timerAnswered, refusedWith, askedIn, layoutAsked, memoryChangeAsked};
 use answers::Answer;
 use answers::Outcome;
 use command::Command;
@@ -11,12 +11,12 @@ use command::Decoded;
 use command::Header;
 use command::Refusal;
 use effects::Layout;
+use effects::MemoryChange;
 use effects::Obeyed;
-use effects::Remembers;
 use effects::layout_of;
-use effects::remembers_of;
+use effects::memory_change_of;
+use effects::only_fed;
 use effects::run;
-use effects::unchanged;
 use modes::Limits;
 use modes::Mode;
 use state::Board;
@@ -57,7 +57,7 @@ fn refused_by(r: Refusal) -> Asked
     }
 }
 
-// What a transfer asks of a board in a mode and with a header, or that there is none: its length and the mode are asked before the decoder is.
+// What a transfer asks of a board in a mode and with a header; where none was sent, nothing. Its length and the mode are asked before the decoder is.
 pub fn asked_of(mode: Mode, own: Header, sent: bool, transfer: &[u8]) -> Asked
     ensures { λ r. ⌜ r ≡ askedOf mode own sent (now (transfer .entry)) ⌝ }
 {
@@ -79,14 +79,14 @@ pub fn asked_of(mode: Mode, own: Header, sent: bool, transfer: &[u8]) -> Asked
     }
 }
 
-// The timer after a refusal: fed where the transfer was meant for this board.
-fn timer_after(answer: Answer, timer: u64) -> u64
-    ensures { λ r. ⌜ r ≡ timerAfter answer timer ⌝ }
+// The timer after a refusal: fed by 4 to 7, where the transfer was meant for this board.
+fn timer_answered(answer: Answer, timer: u64) -> u64
+    ensures { λ r. ⌜ r ≡ timerAnswered answer timer ⌝ }
 {
     match answer {
-        Answer::Accepted => 0,
-        Answer::FewerThanFourBytes => 0,
-        Answer::InStartup => 0,
+        Answer::Accepted => timer,
+        Answer::FewerThanFourBytes => timer,
+        Answer::InStartup => timer,
         Answer::NotThisBoard => timer,
         Answer::CodeNotListed => 0,
         Answer::TooShort => 0,
@@ -95,17 +95,17 @@ fn timer_after(answer: Answer, timer: u64) -> u64
     }
 }
 
-// The small parts after a refusal: they stay, but for the timer.
+// After a refusal nothing has changed but the timer.
 fn refused(b: Board, answer: Answer) -> Obeyed
     ensures { λ r. ⌜ r ≡ obeyedIn (refusedWith answer 0 b) ⌝ }
 {
-    let mut told = unchanged(b, answer);
-    let timer = timer_after(answer, b.timer);
+    let mut told = only_fed(b, answer);
+    let timer = timer_answered(answer, b.timer);
     told.timer = timer;
     told
 }
 
-// The small parts where no reply is made: they stay.
+// Where no reply is made nothing has changed.
 fn silent(b: Board, outcome: Outcome) -> Obeyed
     ensures { λ r. ⌜ r ≡ obeyedIn (silentOf outcome b) ⌝ }
 {
@@ -122,7 +122,7 @@ fn silent(b: Board, outcome: Outcome) -> Obeyed
     }
 }
 
-// The small parts after what was asked.
+// What a transfer leaves of mode, timer, channels and words, and what is told of it.
 pub fn obeyed(b: Board, rail: i16, limits: Limits, asked: Asked) -> Obeyed
     ensures { λ r. ⌜ r ≡ obeyedIn (askedIn rail limits 0 asked b) ⌝ }
 {
@@ -133,7 +133,7 @@ pub fn obeyed(b: Board, rail: i16, limits: Limits, asked: Asked) -> Obeyed
     }
 }
 
-// The page by which the reply to what was asked is laid out.
+// How the reply to what was asked is laid out.
 pub fn layout(asked: Asked) -> Layout
     ensures { λ r. ⌜ r ≡ layoutAsked asked ⌝ }
 {
@@ -145,12 +145,12 @@ pub fn layout(asked: Asked) -> Layout
 }
 
 // What becomes of the memory by what was asked.
-pub fn remembers(asked: Asked) -> Remembers
-    ensures { λ r. ⌜ r ≡ remembersAsked asked ⌝ }
+pub fn memory_change(asked: Asked) -> MemoryChange
+    ensures { λ r. ⌜ r ≡ memoryChangeAsked asked ⌝ }
 {
     match asked {
-        Asked::Silence(_) => Remembers::AsBefore,
-        Asked::Refusal(_) => Remembers::AsBefore,
-        Asked::Run(c) => remembers_of(c),
+        Asked::Silence(_) => MemoryChange::AsBefore,
+        Asked::Refusal(_) => MemoryChange::AsBefore,
+        Asked::Run(c) => memory_change_of(c),
     }
 }

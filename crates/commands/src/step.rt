@@ -2,11 +2,11 @@
 ghost use mathlib.Core.Path.{_≡_};
 ghost use Rattle.commands.specs.Step.{commandedOf};
 ghost use Rattle.effects.specs.Effects.{newWhere};
-ghost use Rattle.commands.specs.Parts.{statTold, replyTo, alters, startsOver, memoryAfter};
+ghost use Rattle.commands.specs.Parts.{statTold, replyTo, alters, isRestart, memoryAfter};
 use crate::asked::asked_of;
 use crate::asked::layout;
+use crate::asked::memory_change;
 use crate::asked::obeyed;
-use crate::asked::remembers;
 use answers::Commanded;
 use answers::Outcome;
 use answers::Received;
@@ -15,13 +15,13 @@ use answers::start_of;
 use answers::stat;
 use answers::value_read;
 use effects::Layout;
-use effects::Remembers;
+use effects::MemoryChange;
 use memory::Memory;
 use modes::Limits;
 use state::Board;
 use wire::Reply;
 
-// The status code of what a tick tells of its transfer; without an answer there is no reply, and none is asked for.
+// The status code of what a tick tells of its transfer; 0 stands where there is no answer, and is never sent.
 fn stat_told(outcome: Outcome) -> u8
     ensures { λ r. ⌜ r ≡ statTold outcome ⌝ }
 {
@@ -32,7 +32,7 @@ fn stat_told(outcome: Outcome) -> u8
     }
 }
 
-// The status of an accepted command whose reply is new, or is not.
+// The status of an accepted 0x50: NEW where words came since the last one.
 fn new_where(fresh: bool) -> u8
     ensures { λ r. ⌜ r ≡ newWhere fresh ⌝ }
 {
@@ -42,73 +42,80 @@ fn new_where(fresh: bool) -> u8
     0x00
 }
 
-// The reply of a board whose memory is as the command leaves it, with the board's own header and not the one that was received.
-fn reply_to(b: Board, sent: Received, outcome: Outcome, layout: Layout) -> Reply
-    ensures { λ r. ⌜ r ≡ replyTo (sent .code) outcome layout b ⌝ }
+// The reply of a board whose memory is as after the command and whose words are as new as before it, with the board's own header and not the one that was received.
+fn reply_to(b: Board, received: Received, outcome: Outcome, layout: Layout) -> Reply
+    ensures { λ r. ⌜ r ≡ replyTo (received .code) outcome layout b ⌝ }
 {
     let own = header(b.profile);
     let c = b.channels;
     match layout {
-        Layout::Short => replies::short(own, sent.code, stat_told(outcome)),
-        Layout::Faults => replies::faults(own, sent.code, 0x80, c.on(), c.latched(), c.counts()),
+        Layout::Short => replies::short(own, received.code, stat_told(outcome)),
+        Layout::Faults => replies::faults(
+            own,
+            received.code,
+            0x80,
+            c.on(),
+            c.latched(),
+            c.counts(),
+        ),
         Layout::Housekeeping => {
             let m = b.measured;
             let words = m.words;
             let stat = new_where(m.fresh);
-            replies::housekeeping(own, sent.code, stat, c.on(), c.latched(), words)
+            replies::housekeeping(own, received.code, stat, c.on(), c.latched(), words)
         }
         Layout::Parameter(id) => {
             let value = value_read(b.profile, b.memory, b.resets, id);
-            replies::parameter(own, sent.code, 0x80, id, value)
+            replies::parameter(own, received.code, 0x80, id, value)
         }
     }
 }
 
-// Whether the memory is altered, other than by starting over.
-fn is_altering(how: Remembers) -> bool
-    ensures { λ r. ⌜ r ≡ alters how ⌝ }
+// Whether the memory may be altered, other than by starting over.
+fn is_altering(change: MemoryChange) -> bool
+    ensures { λ r. ⌜ r ≡ alters change ⌝ }
 {
-    match how {
-        Remembers::AsBefore => false,
-        Remembers::Set(_, _) => true,
-        Remembers::ResetOne(_) => true,
-        Remembers::Defaults => true,
-        Remembers::Load => true,
-        Remembers::Save(_) => true,
-        Remembers::Restart => false,
+    match change {
+        MemoryChange::AsBefore => false,
+        MemoryChange::Set(_, _) => true,
+        MemoryChange::ResetOne(_) => true,
+        MemoryChange::Defaults => true,
+        MemoryChange::Load => true,
+        MemoryChange::Save(_) => true,
+        MemoryChange::Restart => false,
     }
 }
 
 // Whether the board starts over.
-fn is_restart(how: Remembers) -> bool
-    ensures { λ r. ⌜ r ≡ startsOver how ⌝ }
+fn is_restart(change: MemoryChange) -> bool
+    ensures { λ r. ⌜ r ≡ isRestart change ⌝ }
 {
-    match how {
-        Remembers::AsBefore => false,
-        Remembers::Set(_, _) => false,
-        Remembers::ResetOne(_) => false,
-        Remembers::Defaults => false,
-        Remembers::Load => false,
-        Remembers::Save(_) => false,
-        Remembers::Restart => true,
+    match change {
+        MemoryChange::AsBefore => false,
+        MemoryChange::Set(_, _) => false,
+        MemoryChange::ResetOne(_) => false,
+        MemoryChange::Defaults => false,
+        MemoryChange::Load => false,
+        MemoryChange::Save(_) => false,
+        MemoryChange::Restart => true,
     }
 }
 
-// The memory after a command. A save that is refused leaves it.
-fn memory_after(m: Memory, how: Remembers) -> Memory
-    ensures { λ r. ⌜ r ≡ memoryAfter how m ⌝ }
+// The memory after a command that does not start the board over. A save that is refused leaves it.
+fn memory_after(m: Memory, change: MemoryChange) -> Memory
+    ensures { λ r. ⌜ r ≡ memoryAfter change m ⌝ }
 {
-    match how {
-        Remembers::AsBefore => m,
-        Remembers::Set(id, v) => m.set(id, v),
-        Remembers::ResetOne(id) => m.reset_one(id),
-        Remembers::Defaults => m.to_defaults(),
-        Remembers::Load => m.load(),
-        Remembers::Save(checksum) => {
+    match change {
+        MemoryChange::AsBefore => m,
+        MemoryChange::Set(id, v) => m.set(id, v),
+        MemoryChange::ResetOne(id) => m.reset_one(id),
+        MemoryChange::Defaults => m.to_defaults(),
+        MemoryChange::Load => m.load(),
+        MemoryChange::Save(checksum) => {
             let s = m.save(checksum);
             s.memory
         }
-        Remembers::Restart => m,
+        MemoryChange::Restart => m,
     }
 }
 
@@ -118,11 +125,11 @@ pub fn commanded(mut b: Board, rail: i16, limits: Limits, sent: bool, transfer: 
 {
     let asked = asked_of(b.phase.mode(), header(b.profile), sent, transfer);
     let told = obeyed(b, rail, limits, asked);
-    let how = remembers(asked);
+    let change = memory_change(asked);
     let outcome = told.outcome;
     let replied = told.replied;
-    if is_altering(how) {
-        let memory = memory_after(b.memory, how);
+    if is_altering(change) {
+        let memory = memory_after(b.memory, change);
         b.memory = memory;
     }
     if replied {
@@ -135,7 +142,7 @@ pub fn commanded(mut b: Board, rail: i16, limits: Limits, sent: bool, transfer: 
     b.timer = told.timer;
     b.channels = channels;
     b.measured.fresh = told.fresh;
-    if is_restart(how) {
+    if is_restart(change) {
         let again = state::command_reset(b);
         b = again;
     }

@@ -34,14 +34,14 @@ isNominal Nominal = true
 isNominal Safety = false
 isNominal Emergency = false
 
--- refused with 6 outside nominal; then with 7 where the channel is wrong; else the channels are as the command leaves them
+-- 6 in each mode but nominal; then 7 for a wrong channel; and else the channels as the command has them
 unfoldable pub switchedOf : ℕ → Bool → Channels → Board → Commanded
 switchedOf code right channels b =
     cond (not (isNominal (modeOf b))) (refusedOf NotAvailable code b)
     (cond (not right) (refusedOf Wrong code b)
     (acceptedOf code (withChannels channels b)))
 
--- no mask is wrong: channels that are not fitted are skipped
+-- no mask is wrong: a channel that is not fitted makes no difference in it
 unfoldable pub groupOnOf : ℕ → Group → Board → Commanded
 groupOnOf code g b = switchedOf code true (groupOn (b .profile .fitted) (g .spoken) (g .mask) (b .channels)) b
 
@@ -71,7 +71,7 @@ switchedModeOf code (change.Commanded.Accepted phase) b =
     acceptedOf code (withPhase phase (withChannels (enteringOf (modeOf b) (phase .mode) (b .profile) (b .channels)) b))
 switchedModeOf code change.Commanded.Unavailable b = refusedOf NotAvailable code b
 
--- ---- 0x42: a count for each channel
+-- ---- 0x42: the sets of channels, and how often each one tripped
 unfoldable pub faultsOf : ℕ → Board → Commanded
 faultsOf code b =
     acceptedWith

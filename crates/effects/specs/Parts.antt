@@ -1,13 +1,14 @@
--- The effects part by part: the small parts of a board, what becomes of its memory, and the page of the reply. They only name parts of what `Effects` says. Assumes nothing: these are definitions.
+-- The effects part by part, for code that changes a board in place: some parts of a board, what becomes of its memory, and the layout of its reply. That these are the effects
+-- of `Effects` is shown where they are put together, in proofs/Whole of `commands`. Assumes nothing: these are definitions.
 use Rattle.command.specs.declared.Command.{Command}
 use Rattle.answers.specs.declared.Commanded.{Commanded}
 use Rattle.effects.specs.declared.parts.Obeyed.{Obeyed}
 use Rattle.effects.specs.declared.parts.Layout.{Layout}
 use Rattle.effects.specs.declared.parts.Layout.the-variants.{Short, Faults, Housekeeping, Parameter}
-use Rattle.effects.specs.declared.parts.Remembers.{Remembers}
-use Rattle.effects.specs.declared.parts.Remembers.the-variants.{AsBefore, Set, ResetOne, Defaults, Load, Save, Restart}
+use Rattle.effects.specs.declared.parts.MemoryChange.{MemoryChange}
+use Rattle.effects.specs.declared.parts.MemoryChange.the-variants.{AsBefore, Set, ResetOne, Defaults, Load, Save, Restart}
 
--- the small parts; none of them depends on the code, so where a code is asked for 0 stands
+-- mode and age, timer, channels, whether the words are new, and what is told; none depends on the code, so where one is asked for 0 stands
 abbrev pub obeyedIn : Commanded → Obeyed
 obeyedIn c =
     record {
@@ -20,28 +21,28 @@ obeyedIn c =
     }
 
 -- what becomes of the memory
-abbrev pub remembersOf : Command → Remembers
-remembersOf (Command.SetParameter id v) = Set id v
-remembersOf (Command.ResetParameter id) = ResetOne id
-remembersOf Command.ResetConfiguration = Defaults
-remembersOf Command.LoadConfiguration = Load
-remembersOf (Command.SaveConfiguration given) = Save given
-remembersOf Command.SystemReset = Restart
-remembersOf Command.NoOperation = AsBefore
-remembersOf Command.CancelOperation = AsBefore
-remembersOf Command.Watchdog = AsBefore
-remembersOf (Command.GroupOn g) = AsBefore
-remembersOf (Command.GroupOff g) = AsBefore
-remembersOf (Command.GroupState g) = AsBefore
-remembersOf (Command.ChannelOn one) = AsBefore
-remembersOf (Command.ChannelOff one) = AsBefore
-remembersOf Command.SwitchToNominal = AsBefore
-remembersOf Command.SwitchToSafety = AsBefore
-remembersOf Command.GetOvercurrentFaultState = AsBefore
-remembersOf Command.GetHousekeeping = AsBefore
-remembersOf (Command.GetParameter id) = AsBefore
+abbrev pub memoryChangeOf : Command → MemoryChange
+memoryChangeOf (Command.SetParameter id v) = Set id v
+memoryChangeOf (Command.ResetParameter id) = ResetOne id
+memoryChangeOf Command.ResetConfiguration = Defaults
+memoryChangeOf Command.LoadConfiguration = Load
+memoryChangeOf (Command.SaveConfiguration given) = Save given
+memoryChangeOf Command.SystemReset = Restart
+memoryChangeOf Command.NoOperation = AsBefore
+memoryChangeOf Command.CancelOperation = AsBefore
+memoryChangeOf Command.Watchdog = AsBefore
+memoryChangeOf (Command.GroupOn g) = AsBefore
+memoryChangeOf (Command.GroupOff g) = AsBefore
+memoryChangeOf (Command.GroupState g) = AsBefore
+memoryChangeOf (Command.ChannelOn one) = AsBefore
+memoryChangeOf (Command.ChannelOff one) = AsBefore
+memoryChangeOf Command.SwitchToNominal = AsBefore
+memoryChangeOf Command.SwitchToSafety = AsBefore
+memoryChangeOf Command.GetOvercurrentFaultState = AsBefore
+memoryChangeOf Command.GetHousekeeping = AsBefore
+memoryChangeOf (Command.GetParameter id) = AsBefore
 
--- the page of the reply
+-- the layout of the reply; a restart makes none, and its layout is not looked at
 abbrev pub layoutOf : Command → Layout
 layoutOf Command.GetOvercurrentFaultState = Faults
 layoutOf Command.GetHousekeeping = Housekeeping

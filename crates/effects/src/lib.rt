@@ -1,9 +1,9 @@
-// What each command does once the decoder let it through, part by part: to the small parts of a board, to its memory, and by which page its reply is laid out.
+// What each command does once the decoder let it through, part by part: to some parts of a board, to its memory, and how its reply is laid out.
 ghost use mathlib.Core.Path.{_≡_};
 ghost use Rattle.answers.specs.Answers.{acceptedOf, refusedOf};
 ghost use Rattle.state.specs.Parts.{withPhase, withChannels};
 ghost use Rattle.effects.specs.Effects.{switchedModeOf, housekeepingOf, savedIn, restartedOf, runOf};
-ghost use Rattle.effects.specs.Parts.{obeyedIn, layoutOf, remembersOf};
+ghost use Rattle.effects.specs.Parts.{obeyedIn, layoutOf, memoryChangeOf};
 
 mod parts;
 mod switching;
@@ -15,8 +15,8 @@ use command::Command;
 use modes::Limits;
 use modes::ModeAge;
 pub use parts::Layout;
+pub use parts::MemoryChange;
 pub use parts::Obeyed;
-pub use parts::Remembers;
 use state::Board;
 use switching::cancelled;
 use switching::channel_off;
@@ -40,8 +40,8 @@ fn accepted(b: Board, phase: ModeAge, channels: Channels) -> Obeyed
     }
 }
 
-// Answered, with nothing changed but the timer, which is fed.
-pub fn unchanged(b: Board, answer: Answer) -> Obeyed
+// Answered with 0 or with 4 to 7, and nothing but the timer changes: it is fed, which 3 would not do.
+pub fn only_fed(b: Board, answer: Answer) -> Obeyed
     ensures { λ r. ⌜ r ≡ obeyedIn (refusedOf answer 0 b) ⌝ }
 {
     let phase = b.phase.kept();
@@ -66,7 +66,7 @@ fn switched_mode(b: Board, change: modes::Commanded) -> Obeyed
             let channels = state::entering(b.phase.mode(), phase.mode(), b.profile, b.channels);
             accepted(b, phase, channels)
         }
-        modes::Commanded::Unavailable => unchanged(b, Answer::NotAvailable),
+        modes::Commanded::Unavailable => only_fed(b, Answer::NotAvailable),
     }
 }
 
@@ -74,7 +74,7 @@ fn switched_mode(b: Board, change: modes::Commanded) -> Obeyed
 fn housekeeping(b: Board) -> Obeyed
     ensures { λ r. ⌜ r ≡ obeyedIn (housekeepingOf 0 b) ⌝ }
 {
-    let mut told = unchanged(b, Answer::Accepted);
+    let mut told = only_fed(b, Answer::Accepted);
     told.fresh = false;
     told
 }
@@ -85,12 +85,12 @@ fn saved(b: Board, checksum: u16) -> Obeyed
 {
     let s = b.memory.save(checksum);
     if !s.right {
-        return unchanged(b, Answer::Wrong);
+        return only_fed(b, Answer::Wrong);
     }
-    unchanged(b, Answer::Accepted)
+    only_fed(b, Answer::Accepted)
 }
 
-// 0xAA: the small parts of a board that starts over, and no reply.
+// 0xAA: as a board is that starts over, with no reply.
 fn restarted(b: Board) -> Obeyed
     ensures { λ r. ⌜ r ≡ obeyedIn (restartedOf b) ⌝ }
 {
@@ -106,15 +106,15 @@ fn restarted(b: Board) -> Obeyed
     }
 }
 
-// The small parts after a command that the decoder let through.
+// What a command that the decoder let through leaves of those parts.
 pub fn run(b: Board, rail: i16, limits: Limits, c: Command) -> Obeyed
     ensures { λ r. ⌜ r ≡ obeyedIn (runOf rail limits 0 c b) ⌝ }
 {
     match c {
         Command::SystemReset => restarted(b),
-        Command::NoOperation => unchanged(b, Answer::Accepted),
+        Command::NoOperation => only_fed(b, Answer::Accepted),
         Command::CancelOperation => cancelled(b),
-        Command::Watchdog => unchanged(b, Answer::Accepted),
+        Command::Watchdog => only_fed(b, Answer::Accepted),
         Command::GroupOn(g) => group_on(b, g),
         Command::GroupOff(g) => group_off(b, g),
         Command::GroupState(g) => group_state(b, g),
@@ -122,18 +122,18 @@ pub fn run(b: Board, rail: i16, limits: Limits, c: Command) -> Obeyed
         Command::ChannelOff(one) => channel_off(b, one),
         Command::SwitchToNominal => switched_mode(b, b.phase.to_nominal(rail, limits)),
         Command::SwitchToSafety => switched_mode(b, b.phase.to_safety()),
-        Command::GetOvercurrentFaultState => unchanged(b, Answer::Accepted),
+        Command::GetOvercurrentFaultState => only_fed(b, Answer::Accepted),
         Command::GetHousekeeping => housekeeping(b),
-        Command::GetParameter(_) => unchanged(b, Answer::Accepted),
-        Command::SetParameter(_, _) => unchanged(b, Answer::Accepted),
-        Command::ResetParameter(_) => unchanged(b, Answer::Accepted),
-        Command::ResetConfiguration => unchanged(b, Answer::Accepted),
-        Command::LoadConfiguration => unchanged(b, Answer::Accepted),
+        Command::GetParameter(_) => only_fed(b, Answer::Accepted),
+        Command::SetParameter(_, _) => only_fed(b, Answer::Accepted),
+        Command::ResetParameter(_) => only_fed(b, Answer::Accepted),
+        Command::ResetConfiguration => only_fed(b, Answer::Accepted),
+        Command::LoadConfiguration => only_fed(b, Answer::Accepted),
         Command::SaveConfiguration(checksum) => saved(b, checksum),
     }
 }
 
-// The page by which the reply to a command is laid out.
+// How the reply to a command is laid out.
 pub fn layout_of(c: Command) -> Layout
     ensures { λ r. ⌜ r ≡ layoutOf c ⌝ }
 {
@@ -161,28 +161,28 @@ pub fn layout_of(c: Command) -> Layout
 }
 
 // What a command does to the memory.
-pub fn remembers_of(c: Command) -> Remembers
-    ensures { λ r. ⌜ r ≡ remembersOf c ⌝ }
+pub fn memory_change_of(c: Command) -> MemoryChange
+    ensures { λ r. ⌜ r ≡ memoryChangeOf c ⌝ }
 {
     match c {
-        Command::SystemReset => Remembers::Restart,
-        Command::NoOperation => Remembers::AsBefore,
-        Command::CancelOperation => Remembers::AsBefore,
-        Command::Watchdog => Remembers::AsBefore,
-        Command::GroupOn(_) => Remembers::AsBefore,
-        Command::GroupOff(_) => Remembers::AsBefore,
-        Command::GroupState(_) => Remembers::AsBefore,
-        Command::ChannelOn(_) => Remembers::AsBefore,
-        Command::ChannelOff(_) => Remembers::AsBefore,
-        Command::SwitchToNominal => Remembers::AsBefore,
-        Command::SwitchToSafety => Remembers::AsBefore,
-        Command::GetOvercurrentFaultState => Remembers::AsBefore,
-        Command::GetHousekeeping => Remembers::AsBefore,
-        Command::GetParameter(_) => Remembers::AsBefore,
-        Command::SetParameter(id, v) => Remembers::Set(id, v),
-        Command::ResetParameter(id) => Remembers::ResetOne(id),
-        Command::ResetConfiguration => Remembers::Defaults,
-        Command::LoadConfiguration => Remembers::Load,
-        Command::SaveConfiguration(checksum) => Remembers::Save(checksum),
+        Command::SystemReset => MemoryChange::Restart,
+        Command::NoOperation => MemoryChange::AsBefore,
+        Command::CancelOperation => MemoryChange::AsBefore,
+        Command::Watchdog => MemoryChange::AsBefore,
+        Command::GroupOn(_) => MemoryChange::AsBefore,
+        Command::GroupOff(_) => MemoryChange::AsBefore,
+        Command::GroupState(_) => MemoryChange::AsBefore,
+        Command::ChannelOn(_) => MemoryChange::AsBefore,
+        Command::ChannelOff(_) => MemoryChange::AsBefore,
+        Command::SwitchToNominal => MemoryChange::AsBefore,
+        Command::SwitchToSafety => MemoryChange::AsBefore,
+        Command::GetOvercurrentFaultState => MemoryChange::AsBefore,
+        Command::GetHousekeeping => MemoryChange::AsBefore,
+        Command::GetParameter(_) => MemoryChange::AsBefore,
+        Command::SetParameter(id, v) => MemoryChange::Set(id, v),
+        Command::ResetParameter(id) => MemoryChange::ResetOne(id),
+        Command::ResetConfiguration => MemoryChange::Defaults,
+        Command::LoadConfiguration => MemoryChange::Load,
+        Command::SaveConfiguration(checksum) => MemoryChange::Save(checksum),
     }
 }

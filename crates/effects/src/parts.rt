@@ -1,10 +1,10 @@
-// The parts in which a command is obeyed. A board is changed in place, since handing it on as a whole costs a copy of it at each turn.
+// The parts in which a command is obeyed. A board is changed in place, since handing it back as a whole costs a copy of it at each turn.
 use answers::Outcome;
 use channels::Channels;
 use modes::ModeAge;
 use value::ParamValue;
 
-// The small parts of a board after its command, what the tick tells of it, and whether a reply was made.
+// Mode and age, timer, channels, and whether the words are new, as a transfer leaves them; what the tick tells of it, and whether a reply was made. What else a restart changes is left to `state`.
 pub struct Obeyed {
     pub phase: ModeAge,
     pub timer: u64,
@@ -14,7 +14,7 @@ pub struct Obeyed {
     pub replied: bool,
 }
 
-// The page of the ICD by which a reply is laid out.
+// How a reply is laid out.
 pub enum Layout {
     Short,
     Faults,
@@ -22,8 +22,8 @@ pub enum Layout {
     Parameter(u16),
 }
 
-// What a command does to the settings and to what is stored of them.
-pub enum Remembers {
+// What a command does to the settings and to what is stored of them; a restart loads them with all else.
+pub enum MemoryChange {
     AsBefore,
     Set(u16, ParamValue),
     ResetOne(u16),

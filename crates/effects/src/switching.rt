@@ -3,8 +3,8 @@ ghost use mathlib.Core.Path.{_≡_};
 ghost use Rattle.effects.specs.Effects.{isNominal, switchedOf, cancelledOf, groupOnOf, groupOffOf, groupStateOf, channelOnOf, channelOffOf};
 ghost use Rattle.effects.specs.Parts.{obeyedIn};
 use crate::accepted;
+use crate::only_fed;
 use crate::parts::Obeyed;
-use crate::unchanged;
 use answers::Answer;
 use channels::Channels;
 use command::Group;
@@ -23,16 +23,16 @@ fn is_nominal(mode: Mode) -> bool
     }
 }
 
-// A command on channels: available in nominal alone, and then right or wrong by the channel it names.
+// One of the five from 0x10 to 0x18: available in nominal alone, and then right or wrong by the channel it names.
 fn switched(b: Board, right: bool, channels: Channels) -> Obeyed
     ensures { λ r. ⌜ r ≡ obeyedIn (switchedOf 0 right channels b) ⌝ }
 {
     let nominal = is_nominal(b.phase.mode());
     if !nominal {
-        return unchanged(b, Answer::NotAvailable);
+        return only_fed(b, Answer::NotAvailable);
     }
     if !right {
-        return unchanged(b, Answer::Wrong);
+        return only_fed(b, Answer::Wrong);
     }
     accepted(b, b.phase.kept(), channels)
 }
@@ -82,7 +82,7 @@ pub fn channel_off(b: Board, one: u8) -> Obeyed
     switched(b, right, channels)
 }
 
-// 0x04: command-enabled channels go off.
+// 0x04, in every mode but startup: no channel that a command may switch off stays on.
 pub fn cancelled(b: Board) -> Obeyed
     ensures { λ r. ⌜ r ≡ obeyedIn (cancelledOf 0 b) ⌝ }
 {

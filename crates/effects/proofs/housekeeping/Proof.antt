@@ -4,12 +4,12 @@ use borrow.Author.Needs.{needs}
 use Rattle.effects.proofs.housekeeping.Statement.{statement}
 use Rattle.effects.proofs.housekeeping.Tie as tie
 
-unchanged-requires : tie.Need-unchanged-requires
-unchanged-requires c κs = search needs
+only-fed-requires : tie.Need-only-fed-requires
+only-fed-requires c κs = search needs
 
 returns : tie.Need-returns
 unfolding housekeepingOf acceptedWith refusedOf
-returns c = rw (c .unchanged .ensures)
+returns c = rw (c .only-fed .ensures)
 
 pub housekeeping-spec : {M : Type 1} → statement M
-housekeeping-spec = tie.close (tie.spec unchanged-requires returns)
+housekeeping-spec = tie.close (tie.spec only-fed-requires returns)

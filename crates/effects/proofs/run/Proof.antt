@@ -16,8 +16,8 @@ restarted-requires c κs = search needs
 enum-told-2 : tie.Need-enum-told-2
 enum-told-2 c = search needs
 
-unchanged-requires : tie.Need-unchanged-requires
-unchanged-requires c κs = search needs
+only-fed-requires : tie.Need-only-fed-requires
+only-fed-requires c κs = search needs
 
 enum-told-3 : tie.Need-enum-told-3
 enum-told-3 c = search needs
@@ -28,8 +28,8 @@ cancelled-requires c κs = search needs
 enum-told-4 : tie.Need-enum-told-4
 enum-told-4 c = search needs
 
-unchanged-requires-2 : tie.Need-unchanged-requires-2
-unchanged-requires-2 c κs = search needs
+only-fed-requires-2 : tie.Need-only-fed-requires-2
+only-fed-requires-2 c κs = search needs
 
 enum-known-c : tie.Need-enum-known-c
 enum-known-c c = search needs
@@ -82,8 +82,8 @@ switched-mode-requires-2 c κs = search needs
 enum-told-7 : tie.Need-enum-told-7
 enum-told-7 c = search needs
 
-unchanged-requires-3 : tie.Need-unchanged-requires-3
-unchanged-requires-3 c κs = search needs
+only-fed-requires-3 : tie.Need-only-fed-requires-3
+only-fed-requires-3 c κs = search needs
 
 enum-told-8 : tie.Need-enum-told-8
 enum-told-8 c = search needs
@@ -94,32 +94,32 @@ housekeeping-requires c κs = search needs
 enum-told-9 : tie.Need-enum-told-9
 enum-told-9 c = search needs
 
-unchanged-requires-4 : tie.Need-unchanged-requires-4
-unchanged-requires-4 c κs = search needs
+only-fed-requires-4 : tie.Need-only-fed-requires-4
+only-fed-requires-4 c κs = search needs
 
 enum-told-10 : tie.Need-enum-told-10
 enum-told-10 c = search needs
 
-unchanged-requires-5 : tie.Need-unchanged-requires-5
-unchanged-requires-5 c κs = search needs
+only-fed-requires-5 : tie.Need-only-fed-requires-5
+only-fed-requires-5 c κs = search needs
 
 enum-told-11 : tie.Need-enum-told-11
 enum-told-11 c = search needs
 
-unchanged-requires-6 : tie.Need-unchanged-requires-6
-unchanged-requires-6 c κs = search needs
+only-fed-requires-6 : tie.Need-only-fed-requires-6
+only-fed-requires-6 c κs = search needs
 
 enum-told-12 : tie.Need-enum-told-12
 enum-told-12 c = search needs
 
-unchanged-requires-7 : tie.Need-unchanged-requires-7
-unchanged-requires-7 c κs = search needs
+only-fed-requires-7 : tie.Need-only-fed-requires-7
+only-fed-requires-7 c κs = search needs
 
 enum-told-13 : tie.Need-enum-told-13
 enum-told-13 c = search needs
 
-unchanged-requires-8 : tie.Need-unchanged-requires-8
-unchanged-requires-8 c κs = search needs
+only-fed-requires-8 : tie.Need-only-fed-requires-8
+only-fed-requires-8 c κs = search needs
 
 enum-known-c-6 : tie.Need-enum-known-c-6
 enum-known-c-6 c = search needs
@@ -133,7 +133,7 @@ returns c = rw (c .before .enum-told .given .1, c .restarted .ensures)
 
 returns-2 : tie.Need-returns-2
 unfolding runOf acceptedOf acceptedWith refusedOf
-returns-2 c = rw (c .before .enum-told2 .given .1, c .unchanged .ensures)
+returns-2 c = rw (c .before .enum-told2 .given .1, c .only-fed .ensures)
 
 returns-3 : tie.Need-returns-3
 unfolding runOf
@@ -141,7 +141,7 @@ returns-3 c = rw (c .before .enum-told3 .given .1, c .cancelled .ensures)
 
 returns-4 : tie.Need-returns-4
 unfolding runOf acceptedOf acceptedWith refusedOf
-returns-4 c = rw (c .before .enum-told4 .given .1, c .unchanged2 .ensures)
+returns-4 c = rw (c .before .enum-told4 .given .1, c .only-fed2 .ensures)
 
 returns-5 : tie.Need-returns-5
 unfolding runOf
@@ -173,7 +173,7 @@ returns-11 c = rw (c .before .before .enum-told6 .given .1, c .switched-mode2 .e
 
 returns-12 : tie.Need-returns-12
 unfolding runOf faultsOf acceptedOf acceptedWith refusedOf
-returns-12 c = rw (c .before .enum-told7 .given .1, c .unchanged3 .ensures)
+returns-12 c = rw (c .before .enum-told7 .given .1, c .only-fed3 .ensures)
 
 returns-13 : tie.Need-returns-13
 unfolding runOf
@@ -181,23 +181,23 @@ returns-13 c = rw (c .before .enum-told8 .given .1, c .housekeeping .ensures)
 
 returns-14 : tie.Need-returns-14
 unfolding runOf parameterOf acceptedOf acceptedWith refusedOf
-returns-14 c = rw (c .before .enum-told9 .given .1, c .unchanged4 .ensures)
+returns-14 c = rw (c .before .enum-told9 .given .1, c .only-fed4 .ensures)
 
 returns-15 : tie.Need-returns-15
 unfolding runOf parameterOf acceptedOf acceptedWith refusedOf
-returns-15 c = rw (c .before .enum-told10 .given .1, c .unchanged5 .ensures)
+returns-15 c = rw (c .before .enum-told10 .given .1, c .only-fed5 .ensures)
 
 returns-16 : tie.Need-returns-16
 unfolding runOf parameterOf acceptedOf acceptedWith refusedOf
-returns-16 c = rw (c .before .enum-told11 .given .1, c .unchanged6 .ensures)
+returns-16 c = rw (c .before .enum-told11 .given .1, c .only-fed6 .ensures)
 
 returns-17 : tie.Need-returns-17
 unfolding runOf rememberedOf acceptedOf acceptedWith refusedOf
-returns-17 c = rw (c .before .enum-told12 .given .1, c .unchanged7 .ensures)
+returns-17 c = rw (c .before .enum-told12 .given .1, c .only-fed7 .ensures)
 
 returns-18 : tie.Need-returns-18
 unfolding runOf rememberedOf acceptedOf acceptedWith refusedOf
-returns-18 c = rw (c .before .enum-told13 .given .1, c .unchanged8 .ensures)
+returns-18 c = rw (c .before .enum-told13 .given .1, c .only-fed8 .ensures)
 
 returns-19 : tie.Need-returns-19
 unfolding runOf
@@ -210,11 +210,11 @@ run-spec =
     enum-told
     restarted-requires
     enum-told-2
-    unchanged-requires
+    only-fed-requires
     enum-told-3
     cancelled-requires
     enum-told-4
-    unchanged-requires-2
+    only-fed-requires-2
     enum-known-c
     group-on-requires
     enum-known-c-2
@@ -232,19 +232,19 @@ run-spec =
     to-safety-requires
     switched-mode-requires-2
     enum-told-7
-    unchanged-requires-3
+    only-fed-requires-3
     enum-told-8
     housekeeping-requires
     enum-told-9
-    unchanged-requires-4
+    only-fed-requires-4
     enum-told-10
-    unchanged-requires-5
+    only-fed-requires-5
     enum-told-11
-    unchanged-requires-6
+    only-fed-requires-6
     enum-told-12
-    unchanged-requires-7
+    only-fed-requires-7
     enum-told-13
-    unchanged-requires-8
+    only-fed-requires-8
     enum-known-c-6
     saved-requires
     returns

@@ -22,8 +22,8 @@ accepted-requires c κs = search needs
 enum-told : tie.Need-enum-told
 enum-told c = search needs
 
-unchanged-requires : tie.Need-unchanged-requires
-unchanged-requires c κs = search needs
+only-fed-requires : tie.Need-only-fed-requires
+only-fed-requires c κs = search needs
 
 returns : tie.Need-returns
 unfolding switchedModeOf
@@ -31,7 +31,7 @@ returns c = rw (c .before .before .before .before .before .change .given .1, c .
 
 returns-2 : tie.Need-returns-2
 unfolding switchedModeOf
-returns-2 c = rw (c .before .enum-told .given .1, c .unchanged .ensures)
+returns-2 c = rw (c .before .enum-told .given .1, c .only-fed .ensures)
 
 pub switched-mode-spec : {M : Type 1} → statement M
 switched-mode-spec =
@@ -43,6 +43,6 @@ switched-mode-spec =
     entering-requires
     accepted-requires
     enum-told
-    unchanged-requires
+    only-fed-requires
     returns
     returns-2)

@@ -15,7 +15,7 @@ use Rattle.commands.proofs.step.commanded.Statement.{statement}
 use Rattle.commands.proofs.step.commanded.Tie as tie
 
 -- the board where the branches on the memory meet, and where those on the reply do
-remembered : (j : tie.Joined1) → j .if1 .b ≡ altered (j .before .before .remembers .result) (j .before .before .before .before .before .before .before .before .args .b)
+remembered : (j : tie.Joined1) → j .if1 .b ≡ altered (j .before .before .memory-change .result) (j .before .before .before .before .before .before .before .before .args .b)
 remembered j =
     ⊎-elim
     (λ x. x .2 ∙ rw (sym (j .before .is-altering .ensures) ∙ x .0 .taken, x .1 .ensures))
@@ -30,13 +30,13 @@ answered j =
     (λ y. y .1 ∙ rw (y .0 .left))
     (j .if2 .came)
 
-obeying : (j : tie.Joined2) → let start = j .before .before .before .before .before .before .before .before .before in Obeying (start .args .rail) (start .args .limits) (start .args .sent) (start .args .transfer .now) (start .args .b) (j .before .before .before .before .before .asked-of .result) (j .before .before .before .before .obeyed .result) (j .before .before .before .remembers .result) (j .before .if1 .b) (j .if2 .b)
+obeying : (j : tie.Joined2) → let start = j .before .before .before .before .before .before .before .before .before in Obeying (start .args .rail) (start .args .limits) (start .args .sent) (start .args .transfer .now) (start .args .b) (j .before .before .before .before .before .asked-of .result) (j .before .before .before .before .obeyed .result) (j .before .before .before .memory-change .result) (j .before .if1 .b) (j .if2 .b)
 obeying j =
     let start = j .before .before .before .before .before .before .before .before .before in
     record {
       asks = rw (j .before .before .before .before .before .asked-of .ensures, j .before .before .before .before .before .before .header .ensures, j .before .before .before .before .before .before .before .mode .ensures);
       tells = rw (j .before .before .before .before .obeyed .ensures, toZ-ofZ w16 (start .args .rail) (start .fits .rail));
-      keeps = j .before .before .before .remembers .ensures;
+      keeps = j .before .before .before .memory-change .ensures;
       alters-it = remembered (j .before);
       answers-it = answered j;
     }
@@ -53,8 +53,8 @@ asked-of-requires c κs = search needs
 obeyed-requires : tie.Need-obeyed-requires
 obeyed-requires c κs = search needs
 
-remembers-requires : tie.Need-remembers-requires
-remembers-requires c κs = search needs
+memory-change-requires : tie.Need-memory-change-requires
+memory-change-requires c κs = search needs
 
 is-altering-requires : tie.Need-is-altering-requires
 is-altering-requires c κs = search needs
@@ -91,7 +91,7 @@ commanded-spec =
     header-requires
     asked-of-requires
     obeyed-requires
-    remembers-requires
+    memory-change-requires
     is-altering-requires
     memory-after-requires
     start-of-requires

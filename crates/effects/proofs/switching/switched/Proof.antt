@@ -14,24 +14,24 @@ mode-requires c κs = search needs
 is-nominal-requires : tie.Need-is-nominal-requires
 is-nominal-requires c κs = search needs
 
-unchanged-requires : tie.Need-unchanged-requires
-unchanged-requires c κs = search needs
+only-fed-requires : tie.Need-only-fed-requires
+only-fed-requires c κs = search needs
 
 returns : tie.Need-returns
 unfolding switchedOf
 returns c =
     let told : c .before .before .is-nominal .result ≡ false = search (not-true, needs) in
-    rw (ap isNominal (sym (c .before .before .before .mode .ensures)) ∙ sym (c .before .before .is-nominal .ensures) ∙ told, c .unchanged .ensures)
+    rw (ap isNominal (sym (c .before .before .before .mode .ensures)) ∙ sym (c .before .before .is-nominal .ensures) ∙ told, c .only-fed .ensures)
 
-unchanged-requires-2 : tie.Need-unchanged-requires-2
-unchanged-requires-2 c κs = search needs
+only-fed-requires-2 : tie.Need-only-fed-requires-2
+only-fed-requires-2 c κs = search needs
 
 returns-2 : tie.Need-returns-2
 unfolding switchedOf
 returns-2 c =
     let told : c .before .before .before .is-nominal .result ≡ true = search (not-false, needs) in
     let wrong : c .before .before .before .before .before .args .right ≡ false = search (not-true, needs) in
-    rw (ap isNominal (sym (c .before .before .before .before .mode .ensures)) ∙ sym (c .before .before .before .is-nominal .ensures) ∙ told, wrong, c .unchanged2 .ensures)
+    rw (ap isNominal (sym (c .before .before .before .before .mode .ensures)) ∙ sym (c .before .before .before .is-nominal .ensures) ∙ told, wrong, c .only-fed2 .ensures)
 
 kept-requires : tie.Need-kept-requires
 kept-requires c κs = search needs
@@ -52,9 +52,9 @@ switched-spec =
     (tie.spec
     mode-requires
     is-nominal-requires
-    unchanged-requires
+    only-fed-requires
     returns
-    unchanged-requires-2
+    only-fed-requires-2
     returns-2
     kept-requires
     accepted-requires

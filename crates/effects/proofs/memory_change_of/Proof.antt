@@ -1,7 +1,7 @@
 -- Command by command.
 use borrow.Author.Needs.{needs}
-use Rattle.effects.proofs.remembers_of.Statement.{statement}
-use Rattle.effects.proofs.remembers_of.Tie as tie
+use Rattle.effects.proofs.memory_change_of.Statement.{statement}
+use Rattle.effects.proofs.memory_change_of.Tie as tie
 
 enum-told : tie.Need-enum-told
 enum-told c = search needs
@@ -117,8 +117,8 @@ returns-18 c = rw (c .enum-told16 .given .1)
 returns-19 : tie.Need-returns-19
 returns-19 c = rw (c .before .c3 .given .1)
 
-pub remembers-of-spec : {M : Type 1} → statement M
-remembers-of-spec =
+pub memory-change-of-spec : {M : Type 1} → statement M
+memory-change-of-spec =
     tie.close
     (tie.spec
     enum-told

@@ -1,7 +1,7 @@
 -- Answer by answer.
 use borrow.Author.Needs.{needs}
-use Rattle.commands.proofs.asked.timer_after.Statement.{statement}
-use Rattle.commands.proofs.asked.timer_after.Tie as tie
+use Rattle.commands.proofs.asked.timer_answered.Statement.{statement}
+use Rattle.commands.proofs.asked.timer_answered.Tie as tie
 
 enum-told : tie.Need-enum-told
 enum-told c = search needs
@@ -51,8 +51,8 @@ returns-7 c = rw (c .enum-told7 .given .1)
 returns-8 : tie.Need-returns-8
 returns-8 c = rw (c .enum-told8 .given .1)
 
-pub timer-after-spec : {M : Type 1} → statement M
-timer-after-spec =
+pub timer-answered-spec : {M : Type 1} → statement M
+timer-answered-spec =
     tie.close
     (tie.spec
     enum-told

@@ -1,7 +1,7 @@
 use Rattle.answers.specs.Answers.{refusedOf}
 use borrow.Author.Needs.{needs}
-use Rattle.effects.proofs.unchanged.Statement.{statement}
-use Rattle.effects.proofs.unchanged.Tie as tie
+use Rattle.effects.proofs.only_fed.Statement.{statement}
+use Rattle.effects.proofs.only_fed.Tie as tie
 
 kept-requires : tie.Need-kept-requires
 kept-requires c κs = search needs
@@ -10,5 +10,5 @@ returns : tie.Need-returns
 unfolding refusedOf
 returns c = rw (c .before .kept .ensures)
 
-pub unchanged-spec : {M : Type 1} → statement M
-unchanged-spec = tie.close (tie.spec kept-requires returns)
+pub only-fed-spec : {M : Type 1} → statement M
+only-fed-spec = tie.close (tie.spec kept-requires returns)
