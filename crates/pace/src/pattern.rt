@@ -82,13 +82,13 @@ pub fn named(kind: u8, drawn: u16) -> u32 {
     0
 }
 
-// How many words a tick lends.
+// The words that a tick lends: all or none.
 // argued: an instrument; its digest is compared with the second program's
-pub fn lent(kind: u8) -> usize {
+pub fn lent(words: &[u16], kind: u8) -> &[u16] {
     if kind == b'w' {
-        return 122;
+        return words;
     }
-    0
+    &words[..0]
 }
 
 // How many bytes the transfer of a tick has; none where it brings no transfer.

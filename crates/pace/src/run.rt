@@ -7,6 +7,7 @@ use state::Measured;
 use state::Profile;
 use state::Resets;
 use unit::Machine;
+use unit::Told;
 use wire::Reply;
 
 // A machine that has just been started, all of its channels fitted and nothing stored.
@@ -123,6 +124,22 @@ fn closed(digest: u32, m: Machine) -> u32 {
     shown_taken(d, board.memory)
 }
 
+// One tick of a kind.
+// argued: an instrument; its digest is compared with the second program's
+fn ticked(m: Machine, words: &mut [u16; 122], kind: u8, drawn: u16) -> Told {
+    crate::pattern::change(words, kind, drawn);
+    let n = crate::pattern::length(kind);
+    let bytes = crate::pattern::transfer(kind, drawn);
+    unit::tick(
+        m,
+        crate::pattern::rail(drawn),
+        crate::pattern::named(kind, drawn),
+        crate::pattern::lent(words, kind),
+        n > 0,
+        wire::first(&bytes, n),
+    )
+}
+
 // The digest of a run of a kind. The ticks that wake the board run at the same place as the others: `unit::tick` is called once in the program, so that the compiler lays it into the loop.
 // argued: an instrument; its digest is compared with the second program's
 pub fn digest_of(run: u8, count: u64) -> u32 {
@@ -138,15 +155,11 @@ pub fn digest_of(run: u8, count: u64) -> u32 {
         let kind = crate::pattern::kind_at(run, turn);
         let mut told = 0;
         if kind != b'z' {
-            crate::pattern::change(&mut words, kind, drawn);
-            let n = crate::pattern::length(kind);
-            let lent = crate::pattern::lent(kind);
-            let bytes = crate::pattern::transfer(kind, drawn);
-            let rail = crate::pattern::rail(drawn);
-            let named = crate::pattern::named(kind, drawn);
-            let t = unit::tick(m, rail, named, &words[..lent], n > 0, &bytes[..n]);
+            let t = ticked(m, &mut words, kind, drawn);
+            let outcome = t.outcome;
+            let event = t.event;
             m = t.machine;
-            told = crate::digest::told(t.outcome, t.event, t.replied);
+            told = crate::digest::told(outcome, event, t.replied);
         }
         d = seen(turn, d, told, m);
         turn += 1;
