@@ -82,13 +82,19 @@ pub fn named(kind: u8, drawn: u16) -> u32 {
     0
 }
 
-// The words that a tick lends: all or none.
+// The first words of a kind's tick, which are all or none.
 // argued: an instrument; its digest is compared with the second program's
-pub fn lent(words: &[u16], kind: u8) -> &[u16] {
+fn all_or_none(words: &[u16], kind: u8) -> &[u16] {
     if kind == b'w' {
         return words;
     }
     &words[..0]
+}
+
+// The words that a tick lends.
+// argued: an instrument; its digest is compared with the second program's
+pub fn lent(words: &[u16; 122], kind: u8) -> &[u16] {
+    all_or_none(words, kind)
 }
 
 // How many bytes the transfer of a tick has; none where it brings no transfer.

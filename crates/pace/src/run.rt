@@ -7,7 +7,6 @@ use state::Measured;
 use state::Profile;
 use state::Resets;
 use unit::Machine;
-use unit::Told;
 use wire::Reply;
 
 // A machine that has just been started, all of its channels fitted and nothing stored.
@@ -34,9 +33,8 @@ fn of_channels(c: Channels, i: u64) -> u64 {
 // argued: an instrument; its digest is compared with the second program's
 fn of_reply(r: Reply, i: u64) -> u64 {
     let at = (i % 274) as usize;
-    let bytes = r.bytes;
     if at < r.len {
-        return crate::digest::waiting(r.len, bytes[at]);
+        return crate::digest::waiting(r.len, r.bytes[at]);
     }
     crate::digest::waiting(r.len, 0)
 }
@@ -124,22 +122,6 @@ fn closed(digest: u32, m: Machine) -> u32 {
     shown_taken(d, board.memory)
 }
 
-// One tick of a kind.
-// argued: an instrument; its digest is compared with the second program's
-fn ticked(m: Machine, words: &mut [u16; 122], kind: u8, drawn: u16) -> Told {
-    crate::pattern::change(words, kind, drawn);
-    let n = crate::pattern::length(kind);
-    let bytes = crate::pattern::transfer(kind, drawn);
-    unit::tick(
-        m,
-        crate::pattern::rail(drawn),
-        crate::pattern::named(kind, drawn),
-        crate::pattern::lent(words, kind),
-        n > 0,
-        wire::first(&bytes, n),
-    )
-}
-
 // The digest of a run of a kind. The ticks that wake the board run at the same place as the others: `unit::tick` is called once in the program, so that the compiler lays it into the loop.
 // argued: an instrument; its digest is compared with the second program's
 pub fn digest_of(run: u8, count: u64) -> u32 {
@@ -155,7 +137,13 @@ pub fn digest_of(run: u8, count: u64) -> u32 {
         let kind = crate::pattern::kind_at(run, turn);
         let mut told = 0;
         if kind != b'z' {
-            let t = ticked(m, &mut words, kind, drawn);
+            crate::pattern::change(&mut words, kind, drawn);
+            let n = crate::pattern::length(kind);
+            let bytes = crate::pattern::transfer(kind, drawn);
+            let rail = crate::pattern::rail(drawn);
+            let named = crate::pattern::named(kind, drawn);
+            let lent = crate::pattern::lent(&words, kind);
+            let t = unit::tick(m, rail, named, lent, n > 0, wire::first(&bytes, n));
             let outcome = t.outcome;
             let event = t.event;
             m = t.machine;

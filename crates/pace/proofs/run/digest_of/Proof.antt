@@ -31,8 +31,32 @@ draw-requires c κs = search needs
 kind-at-requires : tie.Need-kind-at-requires Inv-loop μ-loop
 kind-at-requires c κs = search needs
 
-ticked-requires : tie.Need-ticked-requires Inv-loop μ-loop
-ticked-requires c κs = search needs
+change-requires : tie.Need-change-requires Inv-loop μ-loop
+change-requires c κs = search needs
+
+length-requires : tie.Need-length-requires Inv-loop μ-loop
+length-requires c κs = search needs
+
+transfer-requires : tie.Need-transfer-requires Inv-loop μ-loop
+transfer-requires c κs = search needs
+
+rail-requires : tie.Need-rail-requires Inv-loop μ-loop
+rail-requires c κs = search needs
+
+named-requires : tie.Need-named-requires Inv-loop μ-loop
+named-requires c κs = search needs
+
+lent-requires : tie.Need-lent-requires Inv-loop μ-loop
+lent-requires c κs = search needs
+
+slice-aggregate-first : tie.Need-slice-aggregate-first Inv-loop μ-loop
+slice-aggregate-first c = search needs
+
+first-requires : tie.Need-first-requires Inv-loop μ-loop
+first-requires c κs = search needs
+
+tick-requires : tie.Need-tick-requires Inv-loop μ-loop
+tick-requires c κs = search needs
 
 told-requires : tie.Need-told-requires Inv-loop μ-loop
 told-requires c κs = search needs
@@ -68,7 +92,15 @@ digest-of-spec =
     next-requires
     draw-requires
     kind-at-requires
-    ticked-requires
+    change-requires
+    length-requires
+    transfer-requires
+    rail-requires
+    named-requires
+    lent-requires
+    slice-aggregate-first
+    first-requires
+    tick-requires
     told-requires
     seen-requires
     add-turn
