@@ -1,9 +1,11 @@
 // The digest: one number that all that it took in has a part in.
 use answers::Answer;
 use answers::Outcome;
+use channels::Channels;
 use modes::Mode;
-use state::Cause;
+use modes::ModeAge;
 use watchdog::Event;
+use wire::Reply;
 
 // A digest that took in one number more.
 // argued: an instrument; its digest is compared with the second program's
@@ -45,15 +47,6 @@ pub fn words_taken(digest: u32, words: &[u16]) -> u32 {
         i += 1;
     }
     d
-}
-
-// A digest that took in whether something is so.
-// argued: an instrument; its digest is compared with the second program's
-pub fn truth_taken(digest: u32, so: bool) -> u32 {
-    if so {
-        return taken(digest, 1);
-    }
-    taken(digest, 0)
 }
 
 // A mode as a number.
@@ -114,24 +107,26 @@ pub fn told(outcome: Outcome, event: Event, replied: bool) -> u64 {
 
 // What the digest takes in of a mode, its age and the timer.
 // argued: an instrument; its digest is compared with the second program's
-pub fn timed(mode: Mode, age: u64, timer: u64) -> u64 {
-    5 * (age % 65536) + 7 * (timer % 65536) + 11 * (mode_number(mode) as u64)
+pub fn timed(phase: ModeAge, timer: u64) -> u64 {
+    let mode = mode_number(phase.mode());
+    5 * (phase.age() % 65536) + 7 * (timer % 65536) + 11 * (mode as u64)
 }
 
-// What the digest takes in of the channels at tick i.
+// What the digest takes in of the channels at tick i. The remainder of a count is the count: it tells the prover its bound, here and below.
 // argued: an instrument; its digest is compared with the second program's
-pub fn switched(on: u32, latched: u32, count: u16) -> u64 {
-    on as u64 + 3 * (latched as u64) + 31 * (count as u64)
+pub fn switched(channels: Channels, i: u64) -> u64 {
+    let counts = channels.counts();
+    let count = counts[(i % 32) as usize];
+    channels.on() as u64 + 3 * (channels.latched() as u64) + 31 * (count as u64 % 65536)
 }
 
-// What the digest takes in of the waiting reply: its length and one of its bytes.
+// What the digest takes in of the waiting reply at tick i: its length and one of its bytes, 0 past its end.
 // argued: an instrument; its digest is compared with the second program's
-pub fn waiting(length: usize, byte: u8) -> u64 {
-    23 * (length as u64 % 65536) + 29 * (byte as u64)
-}
-
-// The number of a cause.
-// argued: an instrument; its digest is compared with the second program's
-pub fn cause_taken(digest: u32, cause: Cause) -> u32 {
-    taken(digest, answers::cause_number(cause))
+pub fn waiting(reply: Reply, i: u64) -> u64 {
+    let at = (i % 274) as usize;
+    let length = 23 * (reply.len as u64 % 65536);
+    if at < reply.len {
+        return length + 29 * (reply.bytes[at] as u64 % 256);
+    }
+    length
 }

@@ -2,12 +2,10 @@
 use channels::Channels;
 use memory::Memory;
 use memory::Store;
-use modes::ModeAge;
 use state::Measured;
 use state::Profile;
 use state::Resets;
 use unit::Machine;
-use wire::Reply;
 
 // A machine that has just been started, all of its channels fitted and nothing stored.
 // argued: an instrument; its digest is compared with the second program's
@@ -19,30 +17,6 @@ fn started() -> Machine {
     };
     let begun = unit::start(unit::unstarted(), profile, Store::empty());
     begun.machine
-}
-
-// What the digest takes in of the channels at tick i.
-// argued: an instrument; its digest is compared with the second program's
-fn of_channels(c: Channels, i: u64) -> u64 {
-    let counts = c.counts();
-    let one = (i % 32) as usize;
-    crate::digest::switched(c.on(), c.latched(), counts[one])
-}
-
-// What the digest takes in of the waiting reply at tick i; a byte past its end counts as 0.
-// argued: an instrument; its digest is compared with the second program's
-fn of_reply(r: Reply, i: u64) -> u64 {
-    let at = (i % 274) as usize;
-    if at < r.len {
-        return crate::digest::waiting(r.len, r.bytes[at]);
-    }
-    crate::digest::waiting(r.len, 0)
-}
-
-// What the digest takes in of a mode and the timer.
-// argued: an instrument; its digest is compared with the second program's
-fn of_phase(p: ModeAge, timer: u64) -> u64 {
-    crate::digest::timed(p.mode(), p.age(), timer)
 }
 
 // The sum of what the digest takes in after a tick.
@@ -59,10 +33,10 @@ fn seen(turn: u64, digest: u32, told: u64, m: Machine) -> u32 {
     }
     let i = crate::pattern::place(turn);
     let b = m.board;
-    let channels = of_channels(b.channels, i);
-    let reply = of_reply(b.reply, i);
-    let phase = of_phase(b.phase, b.timer);
-    crate::digest::taken(digest, summed(told, channels, reply, phase))
+    let switched = crate::digest::switched(b.channels, i);
+    let waiting = crate::digest::waiting(b.reply, i);
+    let timed = crate::digest::timed(b.phase, b.timer);
+    crate::digest::taken(digest, summed(told, switched, waiting, timed))
 }
 
 // A digest that took in the resets of a board.
@@ -70,7 +44,7 @@ fn seen(turn: u64, digest: u32, told: u64, m: Machine) -> u32 {
 fn resets_taken(digest: u32, r: Resets) -> u32 {
     let cause = r.cause;
     let d = crate::digest::words_taken(digest, &[r.power, r.watchdog, r.command]);
-    crate::digest::cause_taken(d, cause)
+    crate::digest::taken(d, answers::cause_number(cause))
 }
 
 // A digest that took in the measured words of a board, and whether they are new.
@@ -78,7 +52,10 @@ fn resets_taken(digest: u32, r: Resets) -> u32 {
 fn measured_taken(digest: u32, m: Measured) -> u32 {
     let words = m.words;
     let d = crate::digest::words_taken(digest, &words);
-    crate::digest::truth_taken(d, m.fresh)
+    if m.fresh {
+        return crate::digest::taken(d, 1);
+    }
+    crate::digest::taken(d, 0)
 }
 
 // A digest that took in the settings of a board.
