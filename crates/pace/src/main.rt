@@ -37,15 +37,9 @@ fn is_kind(letter: u8) -> bool {
     }
 }
 
-// The number of ticks that one to nine decimal digits make.
+// The number that decimal digits make; of more than nine the last nine count.
 // argued: an instrument; its digest is compared with the second program's
-fn count_in(digits: &[u8]) -> Count {
-    if digits.len() == 0 {
-        return Count::Bad;
-    }
-    if digits.len() > 9 {
-        return Count::Bad;
-    }
+fn number(digits: &[u8]) -> Count {
     let mut n: u64 = 0;
     let mut i = 0;
     while i < digits.len() {
@@ -62,24 +56,34 @@ fn count_in(digits: &[u8]) -> Count {
     Count::Of(n)
 }
 
+// The number of ticks in the end of a line: one to nine digits and LF.
+// argued: an instrument; its digest is compared with the second program's
+fn count_in(text: &[u8]) -> Count {
+    let length = text.len();
+    if length < 2 {
+        return Count::Bad;
+    }
+    if length > 10 {
+        return Count::Bad;
+    }
+    if wire::byte(text, length - 1) != 10 {
+        return Count::Bad;
+    }
+    number(wire::first(text, length - 1))
+}
+
 // What a line asks for: a kind, a space, a number and LF.
 // argued: an instrument; its digest is compared with the second program's
 fn asked_by(line: &[u8]) -> Asked {
-    let length = line.len();
-    if length < 4 {
+    let kind = wire::byte(line, 0);
+    if !is_kind(kind) {
         return Asked::Bad;
     }
-    if !is_kind(line[0]) {
+    if wire::byte(line, 1) != b' ' {
         return Asked::Bad;
     }
-    if line[1] != b' ' {
-        return Asked::Bad;
-    }
-    if line[length - 1] != 10 {
-        return Asked::Bad;
-    }
-    match count_in(&line[2..length - 1]) {
-        Count::Of(n) => Asked::Run(line[0], n),
+    match count_in(wire::rest(line, 2)) {
+        Count::Of(n) => Asked::Run(kind, n),
         Count::Bad => Asked::Bad,
     }
 }

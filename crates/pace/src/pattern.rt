@@ -1,5 +1,13 @@
 // The pattern: what tick i of a kind brings, from the draw that belongs to it.
 
+// The rail in millivolts, the channels that report overcurrent, and the transfer, of which so many bytes are sent; there is none where that is 0.
+pub struct Brought {
+    pub length: usize,
+    pub named: u32,
+    pub rail: i16,
+    pub bytes: [u8; 8],
+}
+
 // Turns until startup is over, each with a plain tick at the lowest rail.
 const WAKING: u64 = 50;
 
@@ -69,13 +77,13 @@ pub fn kind_at(run: u8, turn: u64) -> u8 {
 
 // The rail of a tick in millivolts, above every threshold.
 // argued: an instrument; its digest is compared with the second program's
-pub fn rail(drawn: u16) -> i16 {
+fn rail(drawn: u16) -> i16 {
     (15000 + drawn % 1000) as i16
 }
 
 // The channels that a tick names.
 // argued: an instrument; its digest is compared with the second program's
-pub fn named(kind: u8, drawn: u16) -> u32 {
+fn named(kind: u8, drawn: u16) -> u32 {
     if kind == b'c' {
         return drawn as u32 * 65537;
     }
@@ -99,7 +107,7 @@ pub fn lent(words: &[u16; 122], kind: u8) -> &[u16] {
 
 // How many bytes the transfer of a tick has; none where it brings no transfer.
 // argued: an instrument; its digest is compared with the second program's
-pub fn length(kind: u8) -> usize {
+fn length(kind: u8) -> usize {
     match kind {
         b'n' => 4,
         b'f' => 4,
@@ -141,7 +149,7 @@ fn operand(kind: u8, drawn: u16) -> u16 {
 
 // The transfer of a tick, of which the first `length` bytes are sent.
 // argued: an instrument; its digest is compared with the second program's
-pub fn transfer(kind: u8, drawn: u16) -> [u8; 8] {
+fn transfer(kind: u8, drawn: u16) -> [u8; 8] {
     let first = wire::bytes16(operand(kind, drawn));
     let second = wire::bytes16(drawn);
     [
@@ -154,6 +162,18 @@ pub fn transfer(kind: u8, drawn: u16) -> [u8; 8] {
         second[0],
         second[1],
     ]
+}
+
+// What a tick of a kind brings besides its words.
+// argued: an instrument; its digest is compared with the second program's
+pub fn brought_by(kind: u8, drawn: u16) -> Brought {
+    let bytes = transfer(kind, drawn);
+    Brought {
+        named: named(kind, drawn),
+        rail: rail(drawn),
+        length: length(kind),
+        bytes,
+    }
 }
 
 // The words before the first tick: each is its own place.

@@ -115,12 +115,11 @@ pub fn digest_of(run: u8, count: u64) -> u32 {
         let mut told = 0;
         if kind != b'z' {
             crate::pattern::change(&mut words, kind, drawn);
-            let n = crate::pattern::length(kind);
-            let bytes = crate::pattern::transfer(kind, drawn);
-            let rail = crate::pattern::rail(drawn);
-            let named = crate::pattern::named(kind, drawn);
             let lent = crate::pattern::lent(&words, kind);
-            let t = unit::tick(m, rail, named, lent, n > 0, wire::first(&bytes, n));
+            let b = crate::pattern::brought_by(kind, drawn);
+            let bytes = b.bytes;
+            let sent = wire::first(&bytes, b.length);
+            let t = unit::tick(m, b.rail, b.named, lent, b.length > 0, sent);
             let outcome = t.outcome;
             let event = t.event;
             m = t.machine;

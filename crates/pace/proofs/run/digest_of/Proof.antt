@@ -34,20 +34,11 @@ kind-at-requires c κs = search needs
 change-requires : tie.Need-change-requires Inv-loop μ-loop
 change-requires c κs = search needs
 
-length-requires : tie.Need-length-requires Inv-loop μ-loop
-length-requires c κs = search needs
-
-transfer-requires : tie.Need-transfer-requires Inv-loop μ-loop
-transfer-requires c κs = search needs
-
-rail-requires : tie.Need-rail-requires Inv-loop μ-loop
-rail-requires c κs = search needs
-
-named-requires : tie.Need-named-requires Inv-loop μ-loop
-named-requires c κs = search needs
-
 lent-requires : tie.Need-lent-requires Inv-loop μ-loop
 lent-requires c κs = search needs
+
+brought-by-requires : tie.Need-brought-by-requires Inv-loop μ-loop
+brought-by-requires c κs = search needs
 
 slice-aggregate-first : tie.Need-slice-aggregate-first Inv-loop μ-loop
 slice-aggregate-first c = search needs
@@ -93,11 +84,8 @@ digest-of-spec =
     draw-requires
     kind-at-requires
     change-requires
-    length-requires
-    transfer-requires
-    rail-requires
-    named-requires
     lent-requires
+    brought-by-requires
     slice-aggregate-first
     first-requires
     tick-requires
