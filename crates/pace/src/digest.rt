@@ -1,4 +1,6 @@
 // The digest: one number that all that it took in has a part in.
+ghost use mathlib.Core.Path.{_≡_};
+ghost use Rattle.pace.specs.Pattern.{takenIn};
 use answers::Answer;
 use answers::Outcome;
 use channels::Channels;
@@ -8,20 +10,23 @@ use watchdog::Event;
 use wire::Reply;
 
 // A digest that took in one number more.
-// argued: an instrument; its digest is compared with the second program's
-pub fn taken(digest: u32, v: u64) -> u32 {
+pub fn taken(digest: u32, v: u64) -> u32
+    ensures { λ r. ⌜ r ≡ takenIn digest v ⌝ }
+{
     ((digest as u64 * 1000003 + v % 1099511627776) % 4294967291) as u32
 }
 
 // A digest that took in one byte more.
-// argued: an instrument; its digest is compared with the second program's
-fn byte_taken(digest: u32, byte: u8) -> u32 {
+fn byte_taken(digest: u32, byte: u8) -> u32
+    ensures { λ r. ⌜ r ≡ takenIn digest byte ⌝ }
+{
     taken(digest, byte as u64)
 }
 
 // A digest that took in one word more.
-// argued: an instrument; its digest is compared with the second program's
-fn word_taken(digest: u32, word: u16) -> u32 {
+fn word_taken(digest: u32, word: u16) -> u32
+    ensures { λ r. ⌜ r ≡ takenIn digest word ⌝ }
+{
     taken(digest, word as u64)
 }
 

@@ -1,4 +1,7 @@
 // The pattern: what tick i of a kind brings, from the draw that belongs to it.
+ghost use mathlib.Core.Path.{_≡_};
+ghost use lib.Dec.{ltb};
+ghost use Rattle.pace.specs.Pattern.{waking, turnsOf, drawOf};
 
 // The rail in millivolts, the channels that report overcurrent, and the transfer, of which so many bytes are sent; there is none where that is 0.
 pub struct Brought {
@@ -12,14 +15,16 @@ pub struct Brought {
 const WAKING: u64 = 50;
 
 // How many turns a run of so many ticks takes.
-// argued: an instrument; its digest is compared with the second program's
-pub fn turns(count: u64) -> u64 {
+pub fn turns(count: u64) -> u64
+    ensures { λ r. ⌜ r ≡ turnsOf count ⌝ }
+{
     WAKING + count % 1000000000
 }
 
 // Whether a turn belongs to the waking of the board.
-// argued: an instrument; its digest is compared with the second program's
-pub fn is_waking(turn: u64) -> bool {
+pub fn is_waking(turn: u64) -> bool
+    ensures { λ r. ⌜ r ≡ ltb turn waking ⌝ }
+{
     turn < WAKING
 }
 
@@ -42,8 +47,9 @@ pub fn next(turn: u64, x: u64) -> u64 {
 }
 
 // The draw of a number of the row: its upper 15 bits.
-// argued: an instrument; its digest is compared with the second program's
-pub fn draw(x: u64) -> u16 {
+pub fn draw(x: u64) -> u16
+    ensures { λ r. ⌜ r ≡ drawOf x ⌝ }
+{
     (x / 65536 % 32768) as u16
 }
 

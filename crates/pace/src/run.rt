@@ -1,4 +1,6 @@
 // A run: the board is brought out of startup, ticks, and is looked at after each tick and at the end.
+ghost use mathlib.Core.Path.{_≡_};
+ghost use Rattle.pace.specs.Pattern.{sumOf};
 use channels::Channels;
 use memory::Memory;
 use memory::Store;
@@ -20,8 +22,9 @@ fn started() -> Machine {
 }
 
 // The sum of what the digest takes in after a tick.
-// argued: an instrument; its digest is compared with the second program's
-fn summed(a: u64, b: u64, c: u64, d: u64) -> u64 {
+fn summed(a: u64, b: u64, c: u64, d: u64) -> u64
+    ensures { λ r. ⌜ r ≡ sumOf a b c d ⌝ }
+{
     a % 274877906944 + b % 274877906944 + c % 274877906944 + d % 274877906944
 }
 
