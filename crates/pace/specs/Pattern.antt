@@ -1,5 +1,14 @@
 -- The numbers of the speed pattern, as docs/SPEED.md gives them. Assumes nothing: these are definitions.
-use Prim.Native.Nat.{ℕ, _+_, _*_, _/_, _%_}
+use Prim.Native.Nat.{ℕ, _+_, _-_, _*_, _/_, _%_}
+use mathlib.Core.Bool.{cond}
+use lib.Dec.{ltb}
+use Rattle.answers.specs.Answers.{numberOf}
+use Rattle.answers.specs.declared.Outcome.{Outcome}
+use Rattle.answers.specs.declared.Outcome.the-variants.{WrongWordCount, NoTransfer, Answered}
+use Rattle.modes.specs.declared.Mode.{Mode}
+use Rattle.modes.specs.declared.Mode.the-variants.{Startup, Nominal, Safety, Emergency}
+use Rattle.watchdog.specs.declared.Event.{Event}
+use Rattle.watchdog.specs.declared.Event.the-variants.{NoEvent, PeripheralReset, WatchdogReset}
 
 -- the turns that wake the board
 abbrev pub waking : ℕ
@@ -9,9 +18,34 @@ waking = 50
 abbrev pub turnsOf : ℕ → ℕ
 turnsOf count = waking + count % 1000000000
 
+-- the tick's place in the pattern; the turns that wake the board have none, and count as 0
+abbrev pub placeOf : ℕ → ℕ
+placeOf turn = cond (ltb turn waking) 0 (turn - waking)
+
+-- the number that follows in the row of draws; the turns that wake the board draw none
+abbrev pub nextOf : ℕ → ℕ → ℕ
+nextOf turn x = cond (ltb turn waking) x ((x % 2147483648 * 1103515245 + 12345) % 2147483648)
+
 -- the upper 15 bits of a number of 31
 abbrev pub drawOf : ℕ → ℕ
 drawOf x = x / 65536 % 32768
+
+-- what a mode, an event and an outcome count in the digest
+abbrev pub modeNumber : Mode → ℕ
+modeNumber Startup = 0
+modeNumber Nominal = 1
+modeNumber Safety = 2
+modeNumber Emergency = 3
+
+abbrev pub eventNumber : Event → ℕ
+eventNumber NoEvent = 0
+eventNumber PeripheralReset = 1
+eventNumber WatchdogReset = 2
+
+abbrev pub outcomeNumber : Outcome → ℕ
+outcomeNumber WrongWordCount = 99
+outcomeNumber NoTransfer = 0
+outcomeNumber (Answered answer) = 1 + numberOf answer
 
 -- a digest and the number that it takes in, of which 40 bits count
 abbrev pub takenIn : ℕ → ℕ → ℕ

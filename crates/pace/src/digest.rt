@@ -1,6 +1,7 @@
 // The digest: one number that all that it took in has a part in.
 ghost use mathlib.Core.Path.{_≡_};
-ghost use Rattle.pace.specs.Pattern.{takenIn};
+ghost use Rattle.answers.specs.Answers.{numberOf};
+ghost use Rattle.pace.specs.Pattern.{modeNumber, eventNumber, outcomeNumber, takenIn};
 use answers::Answer;
 use answers::Outcome;
 use channels::Channels;
@@ -55,8 +56,9 @@ pub fn words_taken(digest: u32, words: &[u16]) -> u32 {
 }
 
 // A mode as a number.
-// argued: an instrument; its digest is compared with the second program's
-fn mode_number(mode: Mode) -> u8 {
+fn mode_number(mode: Mode) -> u8
+    ensures { λ r. ⌜ r ≡ modeNumber mode ⌝ }
+{
     match mode {
         Mode::Startup => 0,
         Mode::Nominal => 1,
@@ -66,8 +68,9 @@ fn mode_number(mode: Mode) -> u8 {
 }
 
 // What the watchdog did as a number.
-// argued: an instrument; its digest is compared with the second program's
-fn event_number(event: Event) -> u8 {
+fn event_number(event: Event) -> u8
+    ensures { λ r. ⌜ r ≡ eventNumber event ⌝ }
+{
     match event {
         Event::NoEvent => 0,
         Event::PeripheralReset => 1,
@@ -76,8 +79,9 @@ fn event_number(event: Event) -> u8 {
 }
 
 // An answer as the command table numbers it.
-// argued: an instrument; its digest is compared with the second program's
-fn answer_number(answer: Answer) -> u8 {
+fn answer_number(answer: Answer) -> u8
+    ensures { λ r. ⌜ r ≡ numberOf answer ⌝ }
+{
     match answer {
         Answer::Accepted => 0,
         Answer::FewerThanFourBytes => 1,
@@ -91,8 +95,9 @@ fn answer_number(answer: Answer) -> u8 {
 }
 
 // What a tick tells of its transfer as a number: the answer and 1, or 0 where there was no transfer.
-// argued: an instrument; its digest is compared with the second program's
-fn outcome_number(outcome: Outcome) -> u16 {
+fn outcome_number(outcome: Outcome) -> u16
+    ensures { λ r. ⌜ r ≡ outcomeNumber outcome ⌝ }
+{
     match outcome {
         Outcome::WrongWordCount => 99,
         Outcome::NoTransfer => 0,

@@ -1,7 +1,7 @@
 // The pattern: what tick i of a kind brings, from the draw that belongs to it.
 ghost use mathlib.Core.Path.{_≡_};
 ghost use lib.Dec.{ltb};
-ghost use Rattle.pace.specs.Pattern.{waking, turnsOf, drawOf};
+ghost use Rattle.pace.specs.Pattern.{waking, turnsOf, placeOf, nextOf, drawOf};
 
 // The rail in millivolts, the channels that report overcurrent, and the transfer, of which so many bytes are sent; there is none where that is 0.
 pub struct Brought {
@@ -29,8 +29,9 @@ pub fn is_waking(turn: u64) -> bool
 }
 
 // The place of a turn's tick in the pattern; 0 for one that is not in it.
-// argued: an instrument; its digest is compared with the second program's
-pub fn place(turn: u64) -> u64 {
+pub fn place(turn: u64) -> u64
+    ensures { λ r. ⌜ r ≡ placeOf turn ⌝ }
+{
     if turn < WAKING {
         return 0;
     }
@@ -38,8 +39,9 @@ pub fn place(turn: u64) -> u64 {
 }
 
 // The number of a turn in the row that the draws come from, which follows x; a waking turn draws none. The first, 1, makes the draw 0 and so the lowest rail.
-// argued: an instrument; its digest is compared with the second program's
-pub fn next(turn: u64, x: u64) -> u64 {
+pub fn next(turn: u64, x: u64) -> u64
+    ensures { λ r. ⌜ r ≡ nextOf turn x ⌝ }
+{
     if turn < WAKING {
         return x;
     }
