@@ -1,12 +1,13 @@
 -- The numbers of the speed pattern, as docs/SPEED.md gives them. Assumes nothing: these are definitions.
 use Prim.Native.Nat.{ℕ, _+_, _-_, _*_, _/_, _%_}
-use mathlib.Core.Bool.{cond}
+use mathlib.Core.Bool.{Bool, cond}
 use lib.Dec.{ltb}
 use Rattle.answers.specs.Answers.{numberOf}
 use Rattle.answers.specs.declared.Outcome.{Outcome}
 use Rattle.answers.specs.declared.Outcome.the-variants.{WrongWordCount, NoTransfer, Answered}
 use Rattle.modes.specs.declared.Mode.{Mode}
 use Rattle.modes.specs.declared.Mode.the-variants.{Startup, Nominal, Safety, Emergency}
+use Rattle.modes.specs.declared.ModeAge.{ModeAge}
 use Rattle.watchdog.specs.declared.Event.{Event}
 use Rattle.watchdog.specs.declared.Event.the-variants.{NoEvent, PeripheralReset, WatchdogReset}
 
@@ -46,6 +47,13 @@ abbrev pub outcomeNumber : Outcome → ℕ
 outcomeNumber WrongWordCount = 99
 outcomeNumber NoTransfer = 0
 outcomeNumber (Answered answer) = 1 + numberOf answer
+
+-- what a tick told, and the mode with the timer, in one number each
+abbrev pub toldBy : Outcome → Event → Bool → ℕ
+toldBy outcome event replied = 13 * eventNumber event + 17 * outcomeNumber outcome + cond replied 19 0
+
+abbrev pub timesOf : ModeAge → ℕ → ℕ
+timesOf phase timer = 5 * (phase .age % 65536) + 7 * (timer % 65536) + 11 * modeNumber (phase .mode)
 
 -- a digest and the number that it takes in, of which 40 bits count
 abbrev pub takenIn : ℕ → ℕ → ℕ

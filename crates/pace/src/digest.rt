@@ -1,7 +1,7 @@
 // The digest: one number that all that it took in has a part in.
 ghost use mathlib.Core.Path.{_≡_};
 ghost use Rattle.answers.specs.Answers.{numberOf};
-ghost use Rattle.pace.specs.Pattern.{modeNumber, eventNumber, outcomeNumber, takenIn};
+ghost use Rattle.pace.specs.Pattern.{modeNumber, eventNumber, outcomeNumber, toldBy, timesOf, takenIn};
 use answers::Answer;
 use answers::Outcome;
 use channels::Channels;
@@ -106,8 +106,9 @@ fn outcome_number(outcome: Outcome) -> u16
 }
 
 // What the digest takes in of what a tick told.
-// argued: an instrument; its digest is compared with the second program's
-pub fn told(outcome: Outcome, event: Event, replied: bool) -> u64 {
+pub fn told(outcome: Outcome, event: Event, replied: bool) -> u64
+    ensures { λ r. ⌜ r ≡ toldBy outcome event replied ⌝ }
+{
     let both = 13 * (event_number(event) as u64) + 17 * (outcome_number(outcome) as u64);
     if replied {
         return both + 19;
@@ -116,8 +117,9 @@ pub fn told(outcome: Outcome, event: Event, replied: bool) -> u64 {
 }
 
 // What the digest takes in of a mode, its age and the timer.
-// argued: an instrument; its digest is compared with the second program's
-pub fn timed(phase: ModeAge, timer: u64) -> u64 {
+pub fn timed(phase: ModeAge, timer: u64) -> u64
+    ensures { λ r. ⌜ r ≡ timesOf phase timer ⌝ }
+{
     let mode = mode_number(phase.mode());
     5 * (phase.age() % 65536) + 7 * (timer % 65536) + 11 * (mode as u64)
 }
