@@ -32,6 +32,10 @@ unfoldable pub digitsOf : ℕ → ℕ → List ℕ
 digitsOf zero n = []
 digitsOf (suc k) n = capitalOf (over k n % 16) ∷ digitsOf k n
 
+-- a space and a number of k digits
+abbrev pub fieldOf : ℕ → ℕ → List ℕ
+fieldOf k n = 32 ∷ digitsOf k n
+
 -- numbers of k digits each, with nothing between them
 unfoldable pub row : ℕ → List ℕ → List ℕ
 row k [] = []

@@ -8,7 +8,7 @@ use Rattle.wire.specs.Replies.{shown}
 use Rattle.wire.specs.declared.reply.Reply.{Reply}
 use Rattle.state.specs.Parts.{modeOf}
 use Rattle.state.specs.declared.parts.Board.{Board}
-use Rattle.showing.specs.Naming.{modeLetter}
+use Rattle.naming.specs.Naming.{modeLetter}
 use Rattle.sheet.specs.Form.{ticksWord}
 
 -- ---- a number in decimal, without leading zeros

@@ -89,7 +89,7 @@ pub fn tick_line(out: &mut [u8], number: u32, replied: bool, b: Board) -> usize
     let c = b.channels;
     let mut at = decimal(out, 0, number);
     at = put(out, at, 32);
-    at = put(out, at, showing::mode_letter(phase.mode()));
+    at = put(out, at, naming::mode_letter(phase.mode()));
     at = set(out, at, c.on());
     at = set(out, at, c.latched());
     at = made(out, at, replied, b.reply);

@@ -15,13 +15,10 @@ use Rattle.answers.specs.declared.Outcome.{Outcome}
 use Rattle.state.specs.Parts.{causeNumber}
 use Rattle.state.specs.declared.parts.Resets.{Resets}
 use Rattle.state.specs.declared.parts.Board.{Board}
-use Rattle.script.specs.Printing.{digitsOf, row, hexOf}
-use Rattle.showing.specs.Naming.{modeLetter, eventLetter, answerDigit, formLetter}
+use Rattle.script.specs.Printing.{fieldOf, row, hexOf}
+use Rattle.naming.specs.Naming.{modeLetter, eventLetter, answerDigit, formLetter}
 
--- a space and a number of k digits; a space and one character
-abbrev pub fieldOf : ℕ → ℕ → List ℕ
-fieldOf k n = 32 ∷ digitsOf k n
-
+-- a space and one character
 abbrev pub letterOf : ℕ → List ℕ
 letterOf c = 32 ∷ c ∷ []
 

@@ -1,20 +1,14 @@
-// The long lines of a replay: what a tick prints, the state, and what a read of the text line and a framing print.
-mod naming;
-mod speaking;
-
+// The long lines of a replay: what a tick prints, and the state.
 use answers::Outcome;
 use channels::Channels;
 use memory::Memory;
 use memory::Store;
 use modes::ModeAge;
-pub use naming::mode_letter;
 use script::printing::field;
 use script::printing::put;
 use script::printing::string;
 use script::printing::text;
 use script::printing::words;
-pub use speaking::framed;
-pub use speaking::heard;
 use state::Board;
 use state::Measured;
 use state::Resets;

@@ -24,6 +24,8 @@ pub mod Board
 pub mod Unit
 pub mod Script
 pub mod Lines
+pub mod Naming
+pub mod Speaking
 pub mod Showing
 pub mod Trial
 pub mod Session

@@ -5,9 +5,6 @@ use Rattle.single.specs.Single.{Single}
 use Rattle.single.proofs.Pages.{held-same, place-same}
 use Rattle.showing.proofs.ticked.Reads as ticked
 use Rattle.showing.proofs.state.Reads as state
-use Rattle.showing.proofs.mode_letter.Reads as mode-letter
-use Rattle.showing.proofs.heard.Reads as heard
-use Rattle.showing.proofs.framed.Reads as framed
 
 pub single-ticked : Single ticked.Post (λ κ r s. r)
 single-ticked κ a r r′ s s′ p q = place-same (p ∙ sym q)
@@ -20,18 +17,3 @@ single-state κ a r r′ s s′ p q = place-same (p ∙ sym q)
 
 pub held-state : Single state.Post (λ κ r s. now (s .1 .0))
 held-state κ a r r′ s s′ p q = held-same (p ∙ sym q)
-
-pub single-mode-letter : Single mode-letter.Post (λ κ r s. r)
-single-mode-letter κ a r r′ s s′ p q = p ∙ sym q
-
-pub single-heard : Single heard.Post (λ κ r s. r)
-single-heard κ a r r′ s s′ p q = place-same (p ∙ sym q)
-
-pub held-heard : Single heard.Post (λ κ r s. now (s .1 .1 .1 .0))
-held-heard κ a r r′ s s′ p q = held-same (p ∙ sym q)
-
-pub single-framed : Single framed.Post (λ κ r s. r)
-single-framed κ a r r′ s s′ p q = place-same (p ∙ sym q)
-
-pub held-framed : Single framed.Post (λ κ r s. now (s .1 .1 .0))
-held-framed κ a r r′ s s′ p q = held-same (p ∙ sym q)

@@ -26,7 +26,7 @@ use Rattle.script.specs.Reading.{wordsOf}
 use Rattle.lines.specs.declared.Asked.{Asked}
 use Rattle.lines.specs.declared.Look.{Look}
 use Rattle.showing.specs.Showing.{tickedLine, stateLine}
-use Rattle.showing.specs.Speaking.{heardLine, framedLine}
+use Rattle.speaking.specs.Speaking.{heardLine, framedLine}
 use Rattle.trial.specs.declared.Bench.{Bench}
 use Rattle.trial.specs.declared.Ran.{Ran}
 use Rattle.trial.specs.declared.Span.{Span}

@@ -217,7 +217,7 @@ fn answer<'a>(
 {
     let span = span_of(line);
     let payload = unit::payload(m, received, scratch, span.start, span.end);
-    showing::heard(line, payload, scratch, out)
+    speaking::heard(line, payload, scratch, out)
 }
 
 // A read of the text line, which may switch its form.
@@ -243,7 +243,7 @@ fn framed(m: Machine, room: usize, out: &mut [u8]) -> usize
     let mut buffer = untouched();
     let n = within(room);
     let framed = unit::frame(m, &mut buffer[..n]);
-    showing::framed(framed, wire::first(&buffer, n), out)
+    speaking::framed(framed, wire::first(&buffer, n), out)
 }
 
 // What a line prints that changes nothing.

@@ -1,9 +1,9 @@
 -- By what the read answers. Assumes nothing.
 use Rattle.script.specs.Printing.{typed}
-use Rattle.showing.specs.Speaking.{lineText}
+use Rattle.speaking.specs.Speaking.{lineText}
 use borrow.Author.Needs.{needs}
-use Rattle.showing.proofs.speaking.answer.Statement.{statement}
-use Rattle.showing.proofs.speaking.answer.Tie as tie
+use Rattle.speaking.proofs.answer.Statement.{statement}
+use Rattle.speaking.proofs.answer.Tie as tie
 
 enum-known-line : tie.Need-enum-known-line
 enum-known-line c = search needs

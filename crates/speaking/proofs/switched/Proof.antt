@@ -2,8 +2,8 @@
 use Rattle.script.specs.Printing.{typed}
 use Rattle.script.proofs.Turns.{typed-append}
 use borrow.Author.Needs.{needs}
-use Rattle.showing.proofs.speaking.switched.Statement.{statement}
-use Rattle.showing.proofs.speaking.switched.Tie as tie
+use Rattle.speaking.proofs.switched.Statement.{statement}
+use Rattle.speaking.proofs.switched.Tie as tie
 
 form-name-requires : tie.Need-form-name-requires
 form-name-requires c κs = search needs

@@ -1,9 +1,8 @@
 // What a read of the text line and a framing print, each with the whole of the buffer that was lent.
 ghost use mathlib.Core.Path.{_≡_};
 ghost use mathlib.Core.List.{_++_};
-ghost use Rattle.script.specs.Printing.{page, typed};
-ghost use Rattle.showing.specs.Showing.{fieldOf};
-ghost use Rattle.showing.specs.Speaking.{formName, commandText, lineText, wholeText, heardLine, framedText, framedLine};
+ghost use Rattle.script.specs.Printing.{page, typed, fieldOf};
+ghost use Rattle.speaking.specs.Speaking.{formName, commandText, lineText, wholeText, heardLine, framedText, framedLine};
 use script::printing::field;
 use script::printing::put;
 use script::printing::string;

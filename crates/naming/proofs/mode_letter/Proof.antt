@@ -1,8 +1,8 @@
 -- A letter for each mode. Assumes nothing.
 use mathlib.Core.Path.{refl}
 use borrow.Author.Needs.{needs}
-use Rattle.showing.proofs.naming.mode_letter.Statement.{statement}
-use Rattle.showing.proofs.naming.mode_letter.Tie as tie
+use Rattle.naming.proofs.mode_letter.Statement.{statement}
+use Rattle.naming.proofs.mode_letter.Tie as tie
 
 enum-told : tie.Need-enum-told
 enum-told c = search needs

@@ -5,8 +5,7 @@ use mathlib.Core.List.{List, [], _∷_, _++_}
 use Rattle.wire.specs.declared.forms.Form.{Form}
 use Rattle.text.specs.declared.reading.Line.{Line}
 use Rattle.text.specs.declared.framing.Framed.{Framed}
-use Rattle.script.specs.Printing.{hexOf}
-use Rattle.showing.specs.Showing.{fieldOf}
+use Rattle.script.specs.Printing.{hexOf, fieldOf}
 
 -- form raw; form ascii
 abbrev pub formName : Form → List ℕ

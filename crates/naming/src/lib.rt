@@ -4,7 +4,7 @@ use modes::Mode;
 use watchdog::Event;
 use wire::Form;
 ghost use mathlib.Core.Path.{_≡_};
-ghost use Rattle.showing.specs.Naming.{modeLetter, eventLetter, answerDigit, formLetter};
+ghost use Rattle.naming.specs.Naming.{modeLetter, eventLetter, answerDigit, formLetter};
 
 // The letter of a mode.
 pub fn mode_letter(mode: Mode) -> u8

@@ -1,10 +1,10 @@
 -- The buffer stands behind the answer. Assumes nothing.
 use Rattle.script.specs.Printing.{typed}
 use Rattle.script.proofs.Turns.{typed-append}
-use Rattle.showing.specs.Speaking.{heardLine}
+use Rattle.speaking.specs.Speaking.{heardLine}
 use borrow.Author.Needs.{needs}
-use Rattle.showing.proofs.speaking.heard.Statement.{statement}
-use Rattle.showing.proofs.speaking.heard.Tie as tie
+use Rattle.speaking.proofs.heard.Statement.{statement}
+use Rattle.speaking.proofs.heard.Tie as tie
 
 answer-requires : tie.Need-answer-requires
 answer-requires c κs = search needs

@@ -1,8 +1,8 @@
 -- Each form has its name. Assumes nothing.
 use Rattle.script.specs.Printing.{typed}
 use borrow.Author.Needs.{needs}
-use Rattle.showing.proofs.speaking.form_name.Statement.{statement}
-use Rattle.showing.proofs.speaking.form_name.Tie as tie
+use Rattle.speaking.proofs.form_name.Statement.{statement}
+use Rattle.speaking.proofs.form_name.Tie as tie
 
 enum-told : tie.Need-enum-told
 enum-told c = search needs

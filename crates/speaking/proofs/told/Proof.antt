@@ -2,8 +2,8 @@
 use Rattle.script.specs.Printing.{typed}
 use Rattle.script.proofs.Turns.{typed-append}
 use borrow.Author.Needs.{needs}
-use Rattle.showing.proofs.speaking.told.Statement.{statement}
-use Rattle.showing.proofs.speaking.told.Tie as tie
+use Rattle.speaking.proofs.told.Statement.{statement}
+use Rattle.speaking.proofs.told.Tie as tie
 
 text-requires : tie.Need-text-requires
 text-requires c κs = search needs

@@ -1,9 +1,9 @@
 -- By what the framing answers. Assumes nothing.
 use Rattle.script.specs.Printing.{typed}
-use Rattle.showing.specs.Speaking.{framedText}
+use Rattle.speaking.specs.Speaking.{framedText}
 use borrow.Author.Needs.{needs}
-use Rattle.showing.proofs.speaking.framing.Statement.{statement}
-use Rattle.showing.proofs.speaking.framing.Tie as tie
+use Rattle.speaking.proofs.framing.Statement.{statement}
+use Rattle.speaking.proofs.framing.Tie as tie
 
 enum-known-answer : tie.Need-enum-known-answer
 enum-known-answer c = search needs

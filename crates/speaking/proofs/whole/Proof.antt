@@ -2,8 +2,8 @@
 use Rattle.script.specs.Printing.{typed}
 use Rattle.script.proofs.Turns.{typed-append}
 use borrow.Author.Needs.{needs}
-use Rattle.showing.proofs.speaking.whole.Statement.{statement}
-use Rattle.showing.proofs.speaking.whole.Tie as tie
+use Rattle.speaking.proofs.whole.Statement.{statement}
+use Rattle.speaking.proofs.whole.Tie as tie
 
 string-requires : tie.Need-string-requires
 string-requires c κs = search needs

@@ -1,10 +1,10 @@
 -- The buffer stands behind the answer. Assumes nothing.
 use Rattle.script.specs.Printing.{typed}
 use Rattle.script.proofs.Turns.{typed-append}
-use Rattle.showing.specs.Speaking.{framedLine}
+use Rattle.speaking.specs.Speaking.{framedLine}
 use borrow.Author.Needs.{needs}
-use Rattle.showing.proofs.speaking.framed.Statement.{statement}
-use Rattle.showing.proofs.speaking.framed.Tie as tie
+use Rattle.speaking.proofs.framed.Statement.{statement}
+use Rattle.speaking.proofs.framed.Tie as tie
 
 framing-requires : tie.Need-framing-requires
 framing-requires c κs = search needs

@@ -1,10 +1,10 @@
 -- The payload stands behind the place. Assumes nothing.
 use Rattle.script.specs.Printing.{typed}
 use Rattle.script.proofs.Turns.{typed-append}
-use Rattle.showing.specs.Speaking.{commandText}
+use Rattle.speaking.specs.Speaking.{commandText}
 use borrow.Author.Needs.{needs}
-use Rattle.showing.proofs.speaking.command.Statement.{statement}
-use Rattle.showing.proofs.speaking.command.Tie as tie
+use Rattle.speaking.proofs.command.Statement.{statement}
+use Rattle.speaking.proofs.command.Tie as tie
 
 slice-aggregate-told : tie.Need-slice-aggregate-told
 slice-aggregate-told c = search needs
