@@ -27,3 +27,4 @@ pub mod Lines
 pub mod Showing
 pub mod Trial
 pub mod Session
+pub mod Pattern

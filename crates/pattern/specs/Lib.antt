@@ -1,0 +1,3 @@
+pub mod Pattern
+pub mod Digest
+pub mod Ticks
