@@ -6,6 +6,7 @@ use Rattle.pattern.proofs.taken.Reads as taken
 use Rattle.pattern.proofs.bytes_taken.Reads as bytes-taken
 use Rattle.pattern.proofs.words_taken.Reads as words-taken
 use Rattle.pattern.proofs.summed.Reads as summed
+use Rattle.pattern.proofs.asked_by.Reads as asked-by
 use Rattle.pattern.proofs.turns.Reads as turns
 use Rattle.pattern.proofs.is_waking.Reads as is-waking
 use Rattle.pattern.proofs.place.Reads as place
@@ -25,6 +26,9 @@ single-words-taken κ a r r′ s s′ p q = p ∙ sym q
 
 pub single-summed : Single summed.Post (λ κ r s. r)
 single-summed κ a r r′ s s′ p q = p ∙ sym q
+
+pub single-asked-by : Single asked-by.Post (λ κ r s. r)
+single-asked-by κ a r r′ s s′ p q = p ∙ sym q
 
 pub single-turns : Single turns.Post (λ κ r s. r)
 single-turns κ a r r′ s s′ p q = p ∙ sym q
