@@ -1,1 +1,1 @@
-pub mod Pattern
+pub mod Seen

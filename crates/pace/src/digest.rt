@@ -1,7 +1,7 @@
-// The digest: one number that all that it took in has a part in.
+// What the digest takes in of a board and of what a tick told.
 ghost use mathlib.Core.Path.{_≡_};
 ghost use Rattle.answers.specs.Answers.{numberOf};
-ghost use Rattle.pace.specs.Pattern.{modeNumber, eventNumber, outcomeNumber, toldBy, timesOf, takenIn};
+ghost use Rattle.pace.specs.Seen.{modeNumber, eventNumber, outcomeNumber, toldBy, timesOf};
 use answers::Answer;
 use answers::Outcome;
 use channels::Channels;
@@ -9,51 +9,6 @@ use modes::Mode;
 use modes::ModeAge;
 use watchdog::Event;
 use wire::Reply;
-
-// A digest that took in one number more.
-pub fn taken(digest: u32, v: u64) -> u32
-    ensures { λ r. ⌜ r ≡ takenIn digest v ⌝ }
-{
-    ((digest as u64 * 1000003 + v % 1099511627776) % 4294967291) as u32
-}
-
-// A digest that took in one byte more.
-fn byte_taken(digest: u32, byte: u8) -> u32
-    ensures { λ r. ⌜ r ≡ takenIn digest byte ⌝ }
-{
-    taken(digest, byte as u64)
-}
-
-// A digest that took in one word more.
-fn word_taken(digest: u32, word: u16) -> u32
-    ensures { λ r. ⌜ r ≡ takenIn digest word ⌝ }
-{
-    taken(digest, word as u64)
-}
-
-// A digest that took in bytes, one after another.
-// argued: an instrument; its digest is compared with the second program's
-pub fn bytes_taken(digest: u32, bytes: &[u8]) -> u32 {
-    let mut d = digest;
-    let mut i = 0;
-    while i < bytes.len() {
-        d = byte_taken(d, bytes[i]);
-        i += 1;
-    }
-    d
-}
-
-// A digest that took in words, one after another.
-// argued: an instrument; its digest is compared with the second program's
-pub fn words_taken(digest: u32, words: &[u16]) -> u32 {
-    let mut d = digest;
-    let mut i = 0;
-    while i < words.len() {
-        d = word_taken(d, words[i]);
-        i += 1;
-    }
-    d
-}
 
 // A mode as a number.
 fn mode_number(mode: Mode) -> u8

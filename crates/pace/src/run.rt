@@ -1,6 +1,4 @@
 // A run: the board is brought out of startup, ticks, and is looked at after each tick and at the end.
-ghost use mathlib.Core.Path.{_≡_};
-ghost use Rattle.pace.specs.Pattern.{sumOf};
 use channels::Channels;
 use memory::Memory;
 use memory::Store;
@@ -21,65 +19,58 @@ fn started() -> Machine {
     begun.machine
 }
 
-// The sum of what the digest takes in after a tick.
-fn summed(a: u64, b: u64, c: u64, d: u64) -> u64
-    ensures { λ r. ⌜ r ≡ sumOf a b c d ⌝ }
-{
-    a % 274877906944 + b % 274877906944 + c % 274877906944 + d % 274877906944
-}
-
 // A digest that took in what a turn told and what the machine then holds; the ticks that wake the board are not seen.
 // argued: an instrument; its digest is compared with the second program's
 fn seen(turn: u64, digest: u32, told: u64, m: Machine) -> u32 {
-    if crate::pattern::is_waking(turn) {
+    if pattern::is_waking(turn) {
         return digest;
     }
-    let i = crate::pattern::place(turn);
+    let i = pattern::place(turn);
     let b = m.board;
     let switched = crate::digest::switched(b.channels, i);
     let waiting = crate::digest::waiting(b.reply, i);
     let timed = crate::digest::timed(b.phase, b.timer);
-    crate::digest::taken(digest, summed(told, switched, waiting, timed))
+    pattern::taken(digest, pattern::summed(told, switched, waiting, timed))
 }
 
 // A digest that took in the resets of a board.
 // argued: an instrument; its digest is compared with the second program's
 fn resets_taken(digest: u32, r: Resets) -> u32 {
     let cause = r.cause;
-    let d = crate::digest::words_taken(digest, &[r.power, r.watchdog, r.command]);
-    crate::digest::taken(d, answers::cause_number(cause))
+    let d = pattern::words_taken(digest, &[r.power, r.watchdog, r.command]);
+    pattern::taken(d, answers::cause_number(cause))
 }
 
 // A digest that took in the measured words of a board, and whether they are new.
 // argued: an instrument; its digest is compared with the second program's
 fn measured_taken(digest: u32, m: Measured) -> u32 {
     let words = m.words;
-    let d = crate::digest::words_taken(digest, &words);
+    let d = pattern::words_taken(digest, &words);
     if m.fresh {
-        return crate::digest::taken(d, 1);
+        return pattern::taken(d, 1);
     }
-    crate::digest::taken(d, 0)
+    pattern::taken(d, 0)
 }
 
 // A digest that took in the settings of a board.
 // argued: an instrument; its digest is compared with the second program's
 fn settings_taken(digest: u32, m: Memory) -> u32 {
     let image = image::bytes(m.current);
-    crate::digest::bytes_taken(digest, &image)
+    pattern::bytes_taken(digest, &image)
 }
 
 // A digest that took in what a board shows of the last save.
 // argued: an instrument; its digest is compared with the second program's
 fn shown_taken(digest: u32, m: Memory) -> u32 {
     let shown = m.shown;
-    crate::digest::words_taken(digest, &[shown.save_count, shown.checksum])
+    pattern::words_taken(digest, &[shown.save_count, shown.checksum])
 }
 
 // A digest that took in the channel counts of a board.
 // argued: an instrument; its digest is compared with the second program's
 fn counts_taken(digest: u32, c: Channels) -> u32 {
     let counts = c.counts();
-    crate::digest::words_taken(digest, &counts)
+    pattern::words_taken(digest, &counts)
 }
 
 // A digest that took in a bus read of a machine.
@@ -87,7 +78,7 @@ fn counts_taken(digest: u32, c: Channels) -> u32 {
 fn read_taken(digest: u32, m: Machine) -> u32 {
     let mut bus = [0u8; 274];
     unit::bus_read(m, &mut bus);
-    crate::digest::bytes_taken(digest, &bus)
+    pattern::bytes_taken(digest, &bus)
 }
 
 // A digest that took in what a machine holds once the run is over.
@@ -106,22 +97,20 @@ fn closed(digest: u32, m: Machine) -> u32 {
 // argued: an instrument; its digest is compared with the second program's
 pub fn digest_of(run: u8, count: u64) -> u32 {
     let mut m = started();
-    let mut words = crate::pattern::first_words();
-    let turns = crate::pattern::turns(count);
+    let mut words = pattern::first_words();
+    let turns = pattern::turns(count);
     let mut x = 1;
     let mut d = 0;
     let mut turn = 0;
     while turn < turns {
-        x = crate::pattern::next(turn, x);
-        let drawn = crate::pattern::draw(x);
-        let kind = crate::pattern::kind_at(run, turn);
+        let b = pattern::brought_by(run, turn, x);
+        x = b.x;
         let mut told = 0;
-        if kind != b'z' {
-            crate::pattern::change(&mut words, kind, drawn);
-            let lent = crate::pattern::lent(&words, kind);
-            let b = crate::pattern::brought_by(kind, drawn);
+        if b.kind != b'z' {
             let bytes = b.bytes;
             let sent = wire::first(&bytes, b.length);
+            pattern::change(&mut words, b.kind, b.drawn);
+            let lent = pattern::lent(&words, b.kind);
             let t = unit::tick(m, b.rail, b.named, lent, b.length > 0, sent);
             let outcome = t.outcome;
             let event = t.event;

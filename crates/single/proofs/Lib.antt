@@ -29,3 +29,4 @@ pub mod Speaking
 pub mod Showing
 pub mod Trial
 pub mod Session
+pub mod Pattern

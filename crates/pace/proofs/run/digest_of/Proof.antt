@@ -22,21 +22,6 @@ turns-requires c κs = search needs
 loop-holds : tie.Need-loop-holds Inv-loop μ-loop
 loop-holds c = tt
 
-next-requires : tie.Need-next-requires Inv-loop μ-loop
-next-requires c κs = search needs
-
-draw-requires : tie.Need-draw-requires Inv-loop μ-loop
-draw-requires c κs = search needs
-
-kind-at-requires : tie.Need-kind-at-requires Inv-loop μ-loop
-kind-at-requires c κs = search needs
-
-change-requires : tie.Need-change-requires Inv-loop μ-loop
-change-requires c κs = search needs
-
-lent-requires : tie.Need-lent-requires Inv-loop μ-loop
-lent-requires c κs = search needs
-
 brought-by-requires : tie.Need-brought-by-requires Inv-loop μ-loop
 brought-by-requires c κs = search needs
 
@@ -45,6 +30,12 @@ slice-aggregate-first c = search needs
 
 first-requires : tie.Need-first-requires Inv-loop μ-loop
 first-requires c κs = search needs
+
+change-requires : tie.Need-change-requires Inv-loop μ-loop
+change-requires c κs = search needs
+
+lent-requires : tie.Need-lent-requires Inv-loop μ-loop
+lent-requires c κs = search needs
 
 tick-requires : tie.Need-tick-requires Inv-loop μ-loop
 tick-requires c κs = search needs
@@ -80,14 +71,11 @@ digest-of-spec =
     first-words-requires
     turns-requires
     loop-holds
-    next-requires
-    draw-requires
-    kind-at-requires
-    change-requires
-    lent-requires
     brought-by-requires
     slice-aggregate-first
     first-requires
+    change-requires
+    lent-requires
     tick-requires
     told-requires
     seen-requires

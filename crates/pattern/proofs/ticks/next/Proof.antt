@@ -1,8 +1,8 @@
 -- Waking or not. Assumes nothing.
 use borrow.Author.Tests.{lt-ltb, le-ltb}
 use borrow.Author.Needs.{needs}
-use Rattle.pace.proofs.pattern.next.Statement.{statement}
-use Rattle.pace.proofs.pattern.next.Tie as tie
+use Rattle.pattern.proofs.ticks.next.Statement.{statement}
+use Rattle.pattern.proofs.ticks.next.Tie as tie
 
 returns : tie.Need-returns
 returns c = rw (lt-ltb _ _ (c .if1 .taken))

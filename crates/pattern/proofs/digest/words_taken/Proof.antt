@@ -1,18 +1,22 @@
--- Safe and ending: the measure is the number of words that are left. Assumes nothing.
+-- What is left, taken in behind what was, makes what all of them make. Assumes nothing.
 use borrow.Author.Needs.{needs}
-use Prim.Native.Nat.{_-_}
-use lib.ListN.{length}
-use Rattle.pace.proofs.digest.words_taken.Statement.{statement}
-use Rattle.pace.proofs.digest.words_taken.Tie as tie
+use native.Mathlib.Omega.{arith}
+use Prim.Native.Nat.{_-_, _≤_}
+use mathlib.Core.Path.{_≡_, refl, ap, sym, _∙_}
+use lib.ListN.{length, drop}
+use Rattle.pattern.specs.Digest.{allTaken}
+use Rattle.pattern.proofs.Steps.{taken-turn, taken-end}
+use Rattle.pattern.proofs.digest.words_taken.Statement.{statement}
+use Rattle.pattern.proofs.digest.words_taken.Tie as tie
 
 abbrev Inv-loop : tie.InvT-loop
-Inv-loop digest words d₀ i₀ d i = Unit {0}
+Inv-loop digest words d₀ i₀ d i = (i ≤ length words) × (allTaken d (drop i words) ≡ allTaken digest words)
 
 abbrev μ-loop : tie.MeasureT-loop
 μ-loop digest words d₀ i₀ d i = length words - i
 
 loop-holds : tie.Need-loop-holds Inv-loop μ-loop
-loop-holds c = tt
+loop-holds c = (omega arith, refl)
 
 mul-word-taken : tie.Need-mul-word-taken Inv-loop μ-loop
 mul-word-taken c = search needs
@@ -30,10 +34,15 @@ loop-less : tie.Need-loop-less Inv-loop μ-loop
 loop-less c = search needs
 
 loop-again : tie.Need-loop-again Inv-loop μ-loop
-loop-again c = tt
+loop-again c =
+    let l = c .before .before .before .loop in
+    let s = c .before .before .before .before .before .args .words .now in
+    (omega arith, rw (c .word-taken .ensures) (sym (taken-turn (l .d) s (l .i) (omega arith)) ∙ l .inv .1))
 
 returns : tie.Need-returns Inv-loop μ-loop
-returns c = search needs
+returns c =
+    let l = c .before .loop in
+    sym (taken-end (l .d) (c .before .before .before .args .words .now) (l .i) (omega arith)) ∙ l .inv .1
 
 pub words-taken-spec : {M : Type 1} → statement M
 words-taken-spec =

@@ -1,7 +1,7 @@
 -- Waking or not. Assumes nothing.
 use borrow.Author.Tests.{lt-ltb, le-ltb}
-use Rattle.pace.proofs.pattern.place.Statement.{statement}
-use Rattle.pace.proofs.pattern.place.Tie as tie
+use Rattle.pattern.proofs.ticks.place.Statement.{statement}
+use Rattle.pattern.proofs.ticks.place.Tie as tie
 
 returns : tie.Need-returns
 returns c = rw (lt-ltb _ _ (c .if1 .taken))

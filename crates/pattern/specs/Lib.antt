@@ -1,0 +1,4 @@
+pub mod Pattern
+pub mod Digest
+pub mod Ticks
+pub mod Line
