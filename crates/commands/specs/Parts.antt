@@ -1,4 +1,4 @@
--- The command step part by part: a board is changed in place, so the code finds the small parts, the memory and the reply by themselves. `Effects` and `Step` say what the
+-- The command step part by part: a board is changed in place, so the code finds mode, timer, channels and words, the memory, and the reply each by itself. `Effects` and `Step` say what the
 -- command step is; these only name its parts, and proofs/Whole shows that together they are the step. Assumes nothing: these are definitions.
 use Prim.Native.Nat.{ℕ}
 use mathlib.Core.Bool.{Bool, true, false, cond, not}

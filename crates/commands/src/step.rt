@@ -120,6 +120,7 @@ fn memory_after(m: Memory, change: MemoryChange) -> Memory
 }
 
 // Step 4: no transfer, or one of any length and content. Where none was sent, the slice is not looked at.
+// What is put into the board is found from the board as it came, but for the reply, which a changed memory shows in; so the board is handed to nobody who changes it.
 pub fn commanded(mut b: Board, rail: i16, limits: Limits, sent: bool, transfer: &[u8]) -> Commanded
     ensures { λ r. ⌜ r ≡ commandedOf rail limits sent (now (transfer .entry)) b ⌝ }
 {
