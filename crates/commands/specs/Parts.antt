@@ -33,15 +33,15 @@ use Rattle.effects.specs.declared.parts.Layout.the-variants.{Short, Faults, Hou
 use Rattle.effects.specs.declared.parts.MemoryChange.{MemoryChange}
 use Rattle.effects.specs.declared.parts.MemoryChange.the-variants.{AsBefore, Set, ResetOne, Defaults, Load, Save, Restart}
 
--- ---- the checks 1 to 5, and 7 for key, id and value
+-- ---- the checks 1 to 5, and 7 for key, id and value, by their numbers
 abbrev pub refusedBy : refusal.Refusal → Asked
-refusedBy refusal.Refusal.FewerThanFourBytes = Silence (Answered Answer.FewerThanFourBytes)
-refusedBy refusal.Refusal.NotThisBoard = Refusal Answer.NotThisBoard
-refusedBy refusal.Refusal.CodeNotListed = Refusal Answer.CodeNotListed
-refusedBy refusal.Refusal.TooShort = Refusal Answer.TooShort
-refusedBy refusal.Refusal.WrongKey = Refusal Answer.Wrong
-refusedBy refusal.Refusal.WrongParameter = Refusal Answer.Wrong
-refusedBy refusal.Refusal.NotANumber = Refusal Answer.Wrong
+refusedBy refusal.Refusal.FewerThanFourBytes = Silence (Answered Answer.FewerThanFourBytes)  -- 1
+refusedBy refusal.Refusal.NotThisBoard = Refusal Answer.NotThisBoard  -- 3
+refusedBy refusal.Refusal.CodeNotListed = Refusal Answer.CodeNotListed  -- 4
+refusedBy refusal.Refusal.TooShort = Refusal Answer.TooShort  -- 5
+refusedBy refusal.Refusal.WrongKey = Refusal Answer.Wrong  -- 7
+refusedBy refusal.Refusal.WrongParameter = Refusal Answer.Wrong  -- 7
+refusedBy refusal.Refusal.NotANumber = Refusal Answer.Wrong  -- 7
 
 abbrev pub askedBy : decoded.Decoded → Asked
 askedBy (decoded.Decoded.Run c) = Run c
@@ -50,9 +50,9 @@ askedBy (decoded.Decoded.Refused r) = refusedBy r
 unfoldable pub askedOf : Mode → Header → Bool → List ℕ → Asked
 askedOf mode own sent s =
     cond (not sent) (Silence NoTransfer)
-    (cond (fewerThanFour s) (Silence (Answered Answer.FewerThanFourBytes))
-    (cond (isStartup mode) (Silence (Answered Answer.InStartup))
-    (askedBy (decodeOf own s))))
+    (cond (fewerThanFour s) (Silence (Answered Answer.FewerThanFourBytes))  -- 1
+    (cond (isStartup mode) (Silence (Answered Answer.InStartup))  -- 2
+    (askedBy (decodeOf own s))))  -- 3 to 5, 7 for key, id and value, or a command
 
 -- 4 to 7 start the timer again, 3 does not; no other answer comes here
 abbrev pub timerAnswered : Answer → ℕ → ℕ
