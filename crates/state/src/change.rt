@@ -88,11 +88,12 @@ pub fn timer_after(before: Mode, after: Mode, timer: u64) -> u64
 fn left_emergency(r: Resets) -> Resets
     ensures { λ s. ⌜ s ≡ leftEmergency r ⌝ }
 {
+    let cause = Cause::Emergency;
     Resets {
         power: memory::one_more(r.power),
         watchdog: r.watchdog,
         command: r.command,
-        cause: Cause::Emergency,
+        cause,
     }
 }
 
