@@ -2,7 +2,7 @@
 ghost use mathlib.Core.Path.{_≡_};
 ghost use Rattle.answers.specs.Answers.{silentOf};
 ghost use Rattle.commands.specs.Step.{isStartup};
-ghost use Rattle.effects.specs.Parts.{obeyedIn};
+ghost use Rattle.effects.specs.Parts.{anyCode, obeyedIn};
 ghost use Rattle.commands.specs.Parts.{refusedBy, askedOf, timerAnswered, refusedWith, askedIn, layoutAsked, memoryChangeAsked};
 use answers::Answer;
 use answers::Outcome;
@@ -97,7 +97,7 @@ fn timer_answered(answer: Answer, timer: u64) -> u64
 
 // After a refusal nothing has changed but the timer.
 fn refused(b: Board, answer: Answer) -> Obeyed
-    ensures { λ r. ⌜ r ≡ obeyedIn (refusedWith answer 0 b) ⌝ }
+    ensures { λ r. ⌜ r ≡ obeyedIn (refusedWith answer anyCode b) ⌝ }
 {
     let mut told = only_fed(b, answer);
     let timer = timer_answered(answer, b.timer);
@@ -124,7 +124,7 @@ fn silent(b: Board, outcome: Outcome) -> Obeyed
 
 // What a transfer leaves of mode, timer, channels and words, and what is told of it.
 pub fn obeyed(b: Board, rail: i16, limits: Limits, asked: Asked) -> Obeyed
-    ensures { λ r. ⌜ r ≡ obeyedIn (askedIn rail limits 0 asked b) ⌝ }
+    ensures { λ r. ⌜ r ≡ obeyedIn (askedIn rail limits anyCode asked b) ⌝ }
 {
     match asked {
         Asked::Silence(outcome) => silent(b, outcome),

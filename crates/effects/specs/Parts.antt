@@ -1,5 +1,6 @@
 -- The effects part by part, for code that changes a board in place: some parts of a board, what becomes of its memory, and the layout of its reply. That these are the effects
 -- of `Effects` is shown where they are put together, in proofs/Whole of `commands`. Assumes nothing: these are definitions.
+use Prim.Native.Nat.{ℕ}
 use Rattle.command.specs.declared.Command.{Command}
 use Rattle.answers.specs.declared.Commanded.{Commanded}
 use Rattle.effects.specs.declared.parts.Obeyed.{Obeyed}
@@ -8,7 +9,12 @@ use Rattle.effects.specs.declared.parts.Layout.the-variants.{Short, Faul
 use Rattle.effects.specs.declared.parts.MemoryChange.{MemoryChange}
 use Rattle.effects.specs.declared.parts.MemoryChange.the-variants.{AsBefore, Set, ResetOne, Defaults, Load, Save, Restart}
 
--- mode and age, timer, channels, whether the words are new, and what is told; none depends on the code, so where one is asked for 0 stands
+-- Nothing of what `obeyedIn` takes of an answered command depends on the command's code, so its contracts need none:
+-- this stands where one is asked for, and is the code of no command.
+abbrev pub anyCode : ℕ
+anyCode = 0
+
+-- mode and age, timer, channels, whether the words are new, and what is told
 abbrev pub obeyedIn : Commanded → Obeyed
 obeyedIn c =
     record {

@@ -3,7 +3,7 @@ ghost use mathlib.Core.Path.{_≡_};
 ghost use Rattle.answers.specs.Answers.{acceptedOf, refusedOf};
 ghost use Rattle.state.specs.Parts.{withPhase, withChannels};
 ghost use Rattle.effects.specs.Effects.{switchedModeOf, housekeepingOf, savedIn, restartedOf, runOf};
-ghost use Rattle.effects.specs.Parts.{obeyedIn, layoutOf, memoryChangeOf};
+ghost use Rattle.effects.specs.Parts.{anyCode, obeyedIn, layoutOf, memoryChangeOf};
 
 mod parts;
 mod switching;
@@ -27,7 +27,7 @@ use switching::group_state;
 
 // Accepted, with a mode and channels of its own; the timer is fed.
 fn accepted(b: Board, phase: ModeAge, channels: Channels) -> Obeyed
-    ensures { λ r. ⌜ r ≡ obeyedIn (acceptedOf 0 (withPhase phase (withChannels channels b))) ⌝ }
+    ensures { λ r. ⌜ r ≡ obeyedIn (acceptedOf anyCode (withPhase phase (withChannels channels b))) ⌝ }
 {
     let fresh = b.measured.fresh;
     Obeyed {
@@ -42,7 +42,7 @@ fn accepted(b: Board, phase: ModeAge, channels: Channels) -> Obeyed
 
 // Answered with 0 or with 4 to 7, and nothing but the timer changes: it is fed, which 3 would not do.
 pub fn only_fed(b: Board, answer: Answer) -> Obeyed
-    ensures { λ r. ⌜ r ≡ obeyedIn (refusedOf answer 0 b) ⌝ }
+    ensures { λ r. ⌜ r ≡ obeyedIn (refusedOf answer anyCode b) ⌝ }
 {
     let phase = b.phase.kept();
     let channels = b.channels;
@@ -59,7 +59,7 @@ pub fn only_fed(b: Board, answer: Answer) -> Obeyed
 
 // 0x30 and 0x32: the mode, and with it the channels, where the change is available.
 fn switched_mode(b: Board, change: modes::Commanded) -> Obeyed
-    ensures { λ r. ⌜ r ≡ obeyedIn (switchedModeOf 0 change b) ⌝ }
+    ensures { λ r. ⌜ r ≡ obeyedIn (switchedModeOf anyCode change b) ⌝ }
 {
     match change {
         modes::Commanded::Accepted(phase) => {
@@ -72,7 +72,7 @@ fn switched_mode(b: Board, change: modes::Commanded) -> Obeyed
 
 // 0x50: the measured words are no longer new.
 fn housekeeping(b: Board) -> Obeyed
-    ensures { λ r. ⌜ r ≡ obeyedIn (housekeepingOf 0 b) ⌝ }
+    ensures { λ r. ⌜ r ≡ obeyedIn (housekeepingOf anyCode b) ⌝ }
 {
     let mut told = only_fed(b, Answer::Accepted);
     told.fresh = false;
@@ -81,7 +81,7 @@ fn housekeeping(b: Board) -> Obeyed
 
 // 0x94: refused where the checksum is neither 0 nor right.
 fn saved(b: Board, checksum: u16) -> Obeyed
-    ensures { λ r. ⌜ r ≡ obeyedIn (savedIn 0 checksum b) ⌝ }
+    ensures { λ r. ⌜ r ≡ obeyedIn (savedIn anyCode checksum b) ⌝ }
 {
     let s = b.memory.save(checksum);
     if !s.right {
@@ -108,7 +108,7 @@ fn restarted(b: Board) -> Obeyed
 
 // What a command that the decoder let through leaves of those parts.
 pub fn run(b: Board, rail: i16, limits: Limits, c: Command) -> Obeyed
-    ensures { λ r. ⌜ r ≡ obeyedIn (runOf rail limits 0 c b) ⌝ }
+    ensures { λ r. ⌜ r ≡ obeyedIn (runOf rail limits anyCode c b) ⌝ }
 {
     match c {
         Command::SystemReset => restarted(b),

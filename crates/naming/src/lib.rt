@@ -1,4 +1,4 @@
-// The letters and numbers by which a line names a mode, an event, an answer, a cause and a form.
+// The letters and digits by which a printed line names a mode, an event, an answer and a form.
 use answers::Answer;
 use modes::Mode;
 use watchdog::Event;

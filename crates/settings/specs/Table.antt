@@ -109,8 +109,8 @@ readOnlyRows =
     ∷ 0x2801 to 0x2801 are-read Uint8  -- IVID
     ∷ 0x2802 to 0x2802 are-read Uint8  -- BID_USED
     ∷ 0x2803 to 0x2803 are-read Uint8  -- BOOT_RESUME_SHORT
-    ∷ 0x3800 to 0x3800 are-read Int16  -- ADC_MCU_TEMP_V25_T30
-    ∷ 0x3801 to 0x3801 are-read Int16  -- ADC_MCU_TEMP_V25_T85
+    ∷ 0x3800 to 0x3800 are-read Int16  -- ADC_MCU_TEMP_V25T30
+    ∷ 0x3801 to 0x3801 are-read Int16  -- ADC_MCU_TEMP_V25T85
     ∷ 0x4800 to 0x4800 are-read Uint16  -- TTC_I2C_SLAVE_ADDR
     ∷ 0x4801 to 0x4801 are-read Uint16  -- CONF_NVM_SAVE_CNTR
     ∷ 0x4802 to 0x4802 are-read Uint16  -- CONF_NVM_SAVE_CHKS
