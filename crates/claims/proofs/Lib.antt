@@ -12,3 +12,4 @@ pub mod Dark
 pub mod Wrong
 pub mod CountRuns
 pub mod RefusalExamples
+pub mod Claims

@@ -1,0 +1,44 @@
+-- All that is claimed is proved: each claim by the proof of its own name. Assumes nothing.
+use Rattle.refusals.proofs.Answered.{exactly-when}
+use Rattle.refusals.proofs.Refused.{refused-command}
+use Rattle.refusals.proofs.RefusedTicks.{refused-tick}
+use Rattle.refusals.proofs.Untouched.{other-refusals}
+use Rattle.groups.proofs.Groups.{groups}
+use Rattle.groups.proofs.Altered.{altered}
+use Rattle.groups.proofs.Resets.{reset-is-told}
+use Rattle.groups.proofs.Unfitted.{unfitted}
+use Rattle.groups.proofs.Counts.{counts}
+use Rattle.power.proofs.Theorem.{powered}
+use Rattle.power.proofs.Tight.{tight}
+use Rattle.claims.specs.Claims.{Claims}
+use Rattle.claims.proofs.Boundary.{boundary-table}
+use Rattle.claims.proofs.Dark.{dark}
+use Rattle.claims.proofs.Power.{power, power-of-one}
+use Rattle.claims.proofs.PowerNeeded.{power-needed}
+use Rattle.claims.proofs.PowerReal.{power-real}
+use Rattle.claims.proofs.Standing.{standing}
+use Rattle.claims.proofs.Wrong.{all-caught}
+
+pub claims : Claims
+claims =
+    record {
+      boundary-table = boundary-table;
+      exactly-when = exactly-when;
+      refused-command = refused-command;
+      refused-tick = refused-tick;
+      other-refusals = other-refusals;
+      groups = groups;
+      altered = altered;
+      reset-is-told = reset-is-told;
+      unfitted = unfitted;
+      counts = counts;
+      dark = dark;
+      power = power;
+      power-of-one = power-of-one;
+      power-needed = power-needed;
+      power-real = power-real;
+      standing = standing;
+      small-machine = powered;
+      tight = tight;
+      all-caught = all-caught;
+    }

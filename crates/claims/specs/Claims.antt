@@ -1,0 +1,57 @@
+-- All that is claimed of the machine, on one page. Each field is a claim, which its own file states with its premises; where a
+-- claim is about one transfer, one tick or one machine, it is claimed of all of them. docs/CLAIMS.md has each in words.
+-- Assumes nothing: this is what is claimed, and `claims` in the proofs/ of this crate is its one proof.
+use Prim.Native.Nat.{ℕ}
+use mathlib.Core.List.{List}
+use lib.IntN.{ℤ}
+use Rattle.modes.specs.declared.Limits.{Limits}
+use Rattle.memory.specs.declared.Store.{Store}
+use Rattle.state.specs.declared.parts.Board.{Board}
+use Rattle.state.specs.declared.parts.Profile.{Profile}
+use Rattle.unit.specs.declared.Machine.{Machine}
+use Rattle.unit.specs.Runs.{Sample, Reached}
+use Rattle.refusals.specs.Conditions.{ExactlyWhen}
+use Rattle.refusals.specs.Refused.{RefusedCommand}
+use Rattle.refusals.specs.RefusedTicks.{RefusedTick}
+use Rattle.refusals.specs.Untouched.{OtherRefusals}
+use Rattle.groups.specs.Groups.{Groups}
+use Rattle.groups.specs.Altered.{Altered}
+use Rattle.groups.specs.Resets.{ResetIsTold}
+use Rattle.groups.specs.Unfitted.{Unfitted}
+use Rattle.groups.specs.Counts.{Counts}
+use Rattle.power.specs.Claim.{Claim}
+use Rattle.power.specs.Tight.{Tight}
+use Rattle.claims.specs.Boundary.{BoundaryTable}
+use Rattle.claims.specs.Dark.{Dark}
+use Rattle.claims.specs.Power.{Power}
+use Rattle.claims.specs.PowerOfOne.{PowerOfOne}
+use Rattle.claims.specs.PowerNeeded.{PowerNeeded}
+use Rattle.claims.specs.PowerReal.{PowerReal}
+use Rattle.claims.specs.Standing.{Standing}
+use Rattle.claims.specs.Wrong.{AllCaught}
+
+pub record Claims : Type 0 where
+  -- document 01's boundary table
+  pub boundary-table : BoundaryTable
+  -- demand 1: one answer to every transfer, sample, text line and sheet, and what a refusal leaves
+  pub exactly-when : ExactlyWhen
+  pub refused-command : RefusedCommand
+  pub refused-tick : RefusedTick
+  pub other-refusals : OtherRefusals
+  -- demand 2: what commands, overcurrent and resets do, at every tick
+  pub groups : (rail : ℤ) (limits : Limits) (transfer : List ℕ) (board : Board) → Groups rail limits transfer board
+  pub altered : (rail : ℤ) (limits : Limits) (transfer : List ℕ) (board : Board) → Altered rail limits transfer board
+  pub reset-is-told : (m : Machine) (i : Sample) → ResetIsTold m i
+  pub unfitted : (m : Machine) (r : Reached m) → Unfitted m r
+  pub counts : (there : Machine) (profile : Profile) (store : Store) → Counts there profile store
+  pub dark : Dark
+  -- demand 3: how long a force-enabled channel is off, and on
+  pub power : Power
+  pub power-of-one : PowerOfOne
+  pub power-needed : PowerNeeded
+  pub power-real : PowerReal
+  pub standing : Standing
+  pub small-machine : Claim
+  pub tight : Tight
+  -- the wrong programs that document 01 lists
+  pub all-caught : AllCaught
