@@ -1,0 +1,6 @@
+pub mod Accepted
+pub mod ChannelsAfter
+pub mod SettingsChange
+pub mod ModeChange
+pub mod CountsShown
+pub mod SoundMachine
