@@ -1,0 +1,4 @@
+pub mod Ranges
+pub mod Step
+pub mod Ticks
+pub mod ChannelsAfter
