@@ -2,3 +2,4 @@ pub mod Ranges
 pub mod Step
 pub mod Ticks
 pub mod ChannelsAfter
+pub mod SettingsChange

@@ -1,7 +1,8 @@
 -- A tick that happens is its command step, and then the watchdog, which after an accepted command tells nothing. Assumes nothing.
 use Prim.Native.Nat.{ℕ, _≤_, _<_}
 use mathlib.Core.Path.{_≡_, refl, sym, ap, _∙_}
-use mathlib.Core.Bool.{Bool, true, false, _&&_, _||_, false≢true}
+use mathlib.Core.Bool.{Bool, true, false, _&&_, _||_, or-false, false≢true}
+use mathlib.Core.List.{[], _∷_}
 use mathlib.Core.Logic.{⊎-elim}
 use mathlib.Core.Option.{Option, none, some}
 use native.Mathlib.Omega.{arith}
@@ -9,6 +10,8 @@ use lib.Dec.{eqb}
 use borrow.Author.Tests.{eqb-true}
 use Rattle.laws.proofs.Cases.{cases}
 use Rattle.laws.proofs.Lists.{lt-or-le}
+use Rattle.command.specs.Codes.{isIn}
+use Rattle.command.specs.Decode.{codeOf}
 use Rattle.watchdog.specs.Watchdog as dog
 use Rattle.watchdog.specs.declared.Event.{Event}
 use Rattle.watchdog.specs.declared.Event.the-variants.{NoEvent, PeripheralReset, WatchdogReset}
@@ -26,6 +29,7 @@ use Rattle.unit.specs.Runs.{Sample, told, happens, afterStep3, afterStep4}
 use Rattle.unit.proofs.Laws.{refused-tick-leaves}
 use Rattle.groups.specs.Resets.{isByWatchdog, isAccepted, tellsWatchdogReset}
 use Rattle.groups.proofs.Counts.{watched-tells}
+use Rattle.changes.specs.Accepted.{acceptsOneOf}
 use Rattle.changes.proofs.Step.{Takes, leaving, obeying, takes}
 
 -- ---- what is told
@@ -45,6 +49,16 @@ of-accepted o x y e h = rw e at h
 pub both-hold : (x y : Bool) → (x && y) ≡ true → (x ≡ true) × (y ≡ true)
 both-hold true y e = (refl, e)
 both-hold false y e = absurd (false≢true e)
+
+-- a disjunction that fails fails on both sides
+pub neither : (x y : Bool) → (x || y) ≡ false → (x ≡ false) × (y ≡ false)
+neither true y e = absurd (false≢true (sym e))
+neither false y e = (refl, e)
+
+-- a list of one code has that code and no other
+pub only-one : (code k : ℕ) (y : Bool) → isIn code (k ∷ []) ≡ y → eqb code k ≡ y
+unfolding isIn
+only-one code k y e = rw or-false at e
 
 -- ---- step 5
 -- a timer at 0 brings no event
@@ -125,3 +139,22 @@ module _ (m : Machine) (i : Sample) where
 
     pub accepted-leaves : told m i .machine .board ≡ afterStep4 m i
     accepted-leaves = leaves-step-4 (happened 0 (omega arith) q) accepted-quiet
+
+  -- ---- an accepted command of one code
+  abbrev Accepts : ℕ → Type 0
+  Accepts k = acceptsOneOf (k ∷ []) m i ≡ true
+
+  both-told : (k : ℕ) → Accepts k → (isAccepted (toldNumber (told m i .outcome)) ≡ true) × (isIn (codeOf (i .transfer)) (k ∷ []) ≡ true)
+  both-told k h = both-hold (isAccepted (toldNumber (told m i .outcome))) (isIn (codeOf (i .transfer)) (k ∷ [])) h
+
+  -- the tick tells 0
+  pub told-0 : (k : ℕ) → Accepts k → toldNumber (told m i .outcome) ≡ some 0
+  told-0 k h = is-accepted (toldNumber (told m i .outcome)) (both-told k h .0)
+
+  -- and so does its step
+  pub step-0 : (k : ℕ) → Accepts k → toldNumber (commanded .outcome) ≡ some 0
+  step-0 k h = step-accepts (told-0 k h)
+
+  -- the code is that one
+  pub code-is : (k : ℕ) → Accepts k → eqb (codeOf (i .transfer)) k ≡ true
+  code-is k h = only-one (codeOf (i .transfer)) k true (both-told k h .1)
