@@ -3,3 +3,4 @@ pub mod Step
 pub mod Ticks
 pub mod ChannelsAfter
 pub mod SettingsChange
+pub mod ModeChange
