@@ -4,3 +4,4 @@ pub mod Ticks
 pub mod ChannelsAfter
 pub mod SettingsChange
 pub mod ModeChange
+pub mod CountsShown
