@@ -5,3 +5,4 @@ pub mod ChannelsAfter
 pub mod SettingsChange
 pub mod ModeChange
 pub mod CountsShown
+pub mod SoundMachine
