@@ -1,10 +1,11 @@
--- Why the channels are what they are after a tick: step 4 does what `Groups` says, and step 5 nothing to them short of a reset. Assumes nothing.
+-- Why the channels are what they are after a tick: step 4 does what `Groups` says, and step 5 nothing to them short of
+-- a reset. Assumes nothing.
 use Prim.Native.Nat.{ℕ, suc, _≤_, _<_}
-use mathlib.Core.Path.{_≡_, refl, sym, ap, _∙_}
+use mathlib.Core.Path.{_≡_, sym, ap, _∙_}
 use mathlib.Core.Bool.{Bool, true, false, false≢true}
 use mathlib.Core.Option.{some}
 use native.Mathlib.Omega.{arith}
-use Rattle.channels.specs.Chan.{Chan, chan}
+use Rattle.channels.specs.Chan.{chan}
 use Rattle.command.specs.Decode.{codeOf}
 use Rattle.memory.specs.Limits.{limitsOf}
 use Rattle.state.specs.declared.parts.Board.{Board}
@@ -12,7 +13,7 @@ use Rattle.answers.specs.Answers.{toldNumber}
 use Rattle.answers.specs.declared.Commanded.{Commanded}
 use Rattle.commands.specs.Step.{commandedOf}
 use Rattle.unit.specs.declared.Machine.{Machine}
-use Rattle.unit.specs.Runs.{Sample, told, happens, afterStep3, afterStep4}
+use Rattle.unit.specs.Runs.{Sample, told, happens, afterStep3}
 use Rattle.groups.specs.Groups.{sentences, madeBy}
 use Rattle.groups.specs.Resets.{isAccepted, tellsWatchdogReset}
 use Rattle.groups.proofs.Groups.{groups}

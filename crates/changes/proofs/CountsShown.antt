@@ -1,12 +1,12 @@
--- Why 0x42 shows the counts: its reply lays out those of the board that the tick leaves, and `Counts` says what they are. Assumes nothing.
+-- Why 0x42 shows the counts: its reply lays out those of the board that the tick leaves, and `Counts` says what they
+-- are. Assumes nothing.
 use Prim.Native.Nat.{ℕ, _+_, _*_, _^_, _≤_, _<_, min}
 use mathlib.Core.Path.{_≡_, refl, sym, ap, _∙_, subst}
-use mathlib.Core.Bool.{Bool, true, false, false≢true}
+use mathlib.Core.Bool.{true, false, false≢true}
 use mathlib.Core.List.{List, [], _∷_, _++_}
 use mathlib.Core.Logic.{⊎-elim}
 use mathlib.Core.Option.{some}
 use native.Mathlib.Omega.{arith}
-use lib.Dec.{eqb}
 use lib.ListN.{length, getD, drop, List·getD-eq-default}
 use Rattle.laws.proofs.Lists.{lt-or-le}
 use Rattle.wire.specs.Numbers.{number}
@@ -39,10 +39,12 @@ after-one m [] call = refl
 after-one m (c ∷ calls) call = after-one (afterCall m c) calls call
 
 -- ---- the reply of a tick that accepts 0x42
+-- the bytes that lay out the channels of a board
 abbrev faultsOn : Header → ℕ → Board → List ℕ
 faultsOn header code b = faultsReply header code new (b .channels .on) (b .channels .latched) (b .channels .counts)
 
 module _ (m : Machine) (i : Sample) (a : acceptsOneOf (0x42 ∷ []) m i ≡ true) where
+  -- what the board is called by
   abbrev header : Header
   header = headerOf (afterStep3 m i .profile)
 
@@ -68,13 +70,15 @@ module _ (m : Machine) (i : Sample) (a : acceptsOneOf (0x42 ∷ []) m i ≡ true
 
 -- ---- after a start
 module _ (there : Machine) (profile : Profile) (store : Store) (accepted : keepsTheRules profile store ≡ true) (calls : List Call) (i : Sample) where
+  -- the machine after the tick
   abbrev last : Machine
   last = told (reached there profile store calls) i .machine
 
+  -- the calls with the tick behind them
   abbrev all-calls : List Call
   all-calls = calls ++ tick i ∷ []
 
-  -- the machine after the tick is that of all calls
+  -- it is the machine after all of them
   last-is : after (started there profile store) all-calls ≡ last
   last-is = after-one (started there profile store) calls (tick i)
 

@@ -1,38 +1,36 @@
--- Why the mode changes only so: step 2 asks the table, no command but 0x30, 0x32 and 0xAA alters the mode, and step 5 alters it only by a reset. Assumes nothing.
-use Prim.Native.Nat.{ℕ}
+-- Why the mode changes only so: step 2 asks the table, no command but 0x30, 0x32 and 0xAA alters the mode, and step 5
+-- alters it only by a reset. Assumes nothing.
 use mathlib.Core.Path.{_≡_, refl, sym, ap, _∙_, subst}
-use mathlib.Core.Bool.{Bool, true, false, cond, _&&_, _||_, false≢true}
+use mathlib.Core.Bool.{true, false, _&&_, false≢true}
 use mathlib.Core.List.{List, [], _∷_}
 use mathlib.Core.Option.{some}
 use lib.Dec.{eqb}
-use lib.IntN.{ℤ}
 use borrow.Author.Tests.{eq-eqb}
 use Rattle.laws.proofs.Cases.{cases}
-use Rattle.modes.specs.Table.{Row, from_when_to_, table, entered, number, same, first, stepOf, olderOf}
+use Rattle.modes.specs.Table.{Row, from_when_to_, table, number, same, first, stepOf, olderOf}
 use Rattle.modes.specs.Commands.{toNominal, toSafety, leaves}
 use Rattle.modes.specs.declared.Mode.{Mode}
 use Rattle.modes.specs.declared.Mode.the-variants.{Startup, Nominal, Safety, Emergency}
 use Rattle.modes.specs.declared.ModeAge.{ModeAge}
-use Rattle.modes.specs.declared.Limits.{Limits}
 use Rattle.command.specs.Codes.{isIn}
 use Rattle.command.specs.Decode.{codeOf}
-use Rattle.memory.specs.Limits.{limitsOf}
 use Rattle.state.specs.declared.parts.Board.{Board}
 use Rattle.answers.specs.Answers.{toldNumber}
 use Rattle.answers.specs.declared.Commanded.{Commanded}
 use Rattle.board.specs.Tick.{risenOf, changedOf, trippedOf}
 use Rattle.unit.specs.declared.Machine.{Machine}
-use Rattle.unit.specs.Runs.{Sample, told, happens, afterStep3}
+use Rattle.unit.specs.Runs.{Sample, afterStep3}
 use Rattle.groups.specs.Resets.{isAccepted, tellsWatchdogReset, tellsCommandReset, tellsReset}
-use Rattle.changes.specs.Accepted.{acceptsOneOf}
-use Rattle.changes.specs.ModeChange.{_is-in_, here, further, before, afterwards, limits, ByARow, TableAlone, ModeChange}
+use Rattle.changes.specs.ModeChange.{_is-in_, here, further, modeCommands, before, afterwards, limits, ByARow, TableAlone, ModeChange}
 use Rattle.changes.proofs.Step.{Takes, leaving, obeying}
 use Rattle.changes.proofs.Ticks.{of-accepted, both-hold, neither, step, tells, leaves-step-4, accepted-leaves, told-0, step-0, code-is}
 
 -- ---- the table
+-- a mode is itself
 same-itself : (m : Mode) → same m m ≡ true
 same-itself m = eq-eqb (number m) (number m) refl
 
+-- modes that are not told apart are the same
 is-same : (m n : Mode) → same m n ≡ true → m ≡ n
 is-same Startup Startup e = refl
 is-same Startup Nominal e = absurd (false≢true e)
@@ -78,7 +76,7 @@ module _ (m : Machine) (i : Sample) where
   Stepped x = Takes (i .rail) (limits m) (i .transfer) (afterStep3 m i) x
 
   -- a command that is none of the three
-  step-phase : {x : Commanded} → Stepped x → (isAccepted (toldNumber (x .outcome)) && isIn (codeOf (i .transfer)) (0x30 ∷ 0x32 ∷ [])) ≡ false
+  step-phase : {x : Commanded} → Stepped x → (isAccepted (toldNumber (x .outcome)) && isIn (codeOf (i .transfer)) modeCommands) ≡ false
       → (isAccepted (toldNumber (x .outcome)) && eqb (codeOf (i .transfer)) 0xAA) ≡ false → x .board .phase ≡ afterStep3 m i .phase
   step-phase (leaving a left) n r = left .phase
   step-phase (obeying t obeyed) n r = obeyed .phase (of-accepted _ _ false t n) (of-accepted _ _ false t r)

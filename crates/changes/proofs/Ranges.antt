@@ -1,13 +1,13 @@
--- Settings in range stay in range, whatever the lengths of the arrays that hold them: a number is stored in its range, or not at all. Assumes nothing.
+-- Settings in range stay in range, whatever the lengths of the arrays that hold them: a number is stored in its range,
+-- or not at all. Assumes nothing.
 use Prim.Native.Nat.{ℕ, _-_, _≤_, _<_}
-use mathlib.Core.Path.{_≡_, refl, sym, ap, _∙_, subst}
-use mathlib.Core.Bool.{Bool, true, false, cond}
+use mathlib.Core.Path.{_≡_, sym, subst}
+use mathlib.Core.Bool.{Bool, true, false}
 use mathlib.Core.List.{List}
 use mathlib.Core.Logic.{⊎-elim}
-use native.Mathlib.Omega.{arith}
 use native.Mathlib.Decide.{ℕ-discrete}
 use lib.IntN.{ℤ, pos}
-use lib.ListN.{length, getD, set}
+use lib.ListN.{length, getD}
 use lib.Seq.{set-out, getD-set-same}
 use Rattle.laws.proofs.Cases.{cases}
 use Rattle.laws.proofs.Lists.{lt-or-le}
@@ -15,7 +15,7 @@ use Rattle.value.specs.Types.{codeOf}
 use Rattle.value.specs.declared.ParamValue.{ParamValue}
 use Rattle.value.specs.declared.ValueType.{ValueType}
 use Rattle.settings.specs.Table.{same, parameterOf, insideOf}
-use Rattle.settings.specs.Values.{numbers, numberOf, stored, withNumber, defaultsOf, setOf, resetOf, inRangeOf}
+use Rattle.settings.specs.Values.{numbers, numberOf, stored, withNumber, inRangeOf}
 use Rattle.settings.specs.declared.Parameter.{Parameter}
 use Rattle.settings.specs.declared.Settings.{Settings}
 use Rattle.settings.proofs.Places.{at, number-at}

@@ -1,9 +1,7 @@
--- Why settings change only so: steps 1 to 3 leave the memory, each command but the four the settings in force, each but a save the store, and a reset takes them from the store.
--- Assumes nothing.
-use Prim.Native.Nat.{ℕ}
-use mathlib.Core.Path.{_≡_, refl, sym, ap, _∙_}
-use mathlib.Core.Bool.{Bool, true, false, _&&_, _||_, false≢true}
-use mathlib.Core.List.{[], _∷_}
+-- Why settings change only so: steps 1 to 3 leave the memory, each command but the four the settings in force, each but
+-- a save the store, and a reset takes them from the store. Assumes nothing.
+use mathlib.Core.Path.{_≡_, refl, ap, _∙_}
+use mathlib.Core.Bool.{false, _&&_}
 use lib.Dec.{eqb}
 use Rattle.laws.proofs.Cases.{cases}
 use Rattle.command.specs.Codes.{isIn}
@@ -21,9 +19,9 @@ use Rattle.unit.specs.Runs.{Sample, told, happens, afterStep3, afterStep4}
 use Rattle.groups.specs.Resets.{isAccepted, tellsWatchdogReset, tellsCommandReset, tellsReset}
 use Rattle.groups.proofs.Resets.{reset-is-told}
 use Rattle.changes.specs.Accepted.{acceptsOneOf}
-use Rattle.changes.specs.SettingsChange.{SettingsChange}
-use Rattle.changes.proofs.Step.{setters, Takes, leaving, obeying}
-use Rattle.changes.proofs.Ticks.{of-accepted, neither, only-one, commanded, step, leaves-all, tells, leaves-step-4}
+use Rattle.changes.specs.SettingsChange.{settingCommands, savingCommands, SettingsChange}
+use Rattle.changes.proofs.Step.{Takes, leaving, obeying}
+use Rattle.changes.proofs.Ticks.{of-accepted, neither, step, leaves-all, tells, leaves-step-4}
 
 -- a reset takes its settings from the store, and leaves that
 reset-store : (b : Board) → watchdogResetOf b .memory .store ≡ b .memory .store
@@ -41,18 +39,18 @@ module _ (m : Machine) (i : Sample) where
   Stepped x = Takes (i .rail) (limitsOf (m .board .memory)) (i .transfer) (afterStep3 m i) x
 
   -- the settings in force
-  step-current : {x : Commanded} → Stepped x → (isAccepted (toldNumber (x .outcome)) && isIn (codeOf (i .transfer)) setters) ≡ false
+  step-current : {x : Commanded} → Stepped x → (isAccepted (toldNumber (x .outcome)) && isIn (codeOf (i .transfer)) settingCommands) ≡ false
       → (isAccepted (toldNumber (x .outcome)) && eqb (codeOf (i .transfer)) 0xAA) ≡ false → x .board .memory .current ≡ m .board .memory .current
   step-current (leaving a left) n r = ap (λ (x : Memory). x .current) (left .memory ∙ settled)
   step-current (obeying t obeyed) n r = obeyed .current (of-accepted _ _ false t n) (of-accepted _ _ false t r) ∙ ap (λ (x : Memory). x .current) settled
 
   -- the store
-  step-store : {x : Commanded} → Stepped x → (isAccepted (toldNumber (x .outcome)) && isIn (codeOf (i .transfer)) (0x94 ∷ [])) ≡ false → x .board .memory .store ≡ m .board .memory .store
+  step-store : {x : Commanded} → Stepped x → (isAccepted (toldNumber (x .outcome)) && isIn (codeOf (i .transfer)) savingCommands) ≡ false → x .board .memory .store ≡ m .board .memory .store
   step-store (leaving a left) n = ap (λ (x : Memory). x .store) (left .memory ∙ settled)
-  step-store (obeying t obeyed) n = obeyed .store (only-one _ _ false (of-accepted _ _ false t n)) ∙ ap (λ (x : Memory). x .store) settled
+  step-store (obeying t obeyed) n = obeyed .store (of-accepted _ _ false t n) ∙ ap (λ (x : Memory). x .store) settled
 
   -- ---- the tick
-  in-force : tellsReset m i ≡ false → acceptsOneOf setters m i ≡ false → told m i .machine .board .memory .current ≡ m .board .memory .current
+  in-force : tellsReset m i ≡ false → acceptsOneOf settingCommands m i ≡ false → told m i .machine .board .memory .current ≡ m .board .memory .current
   unfolding tellsReset tellsCommandReset
   in-force r n =
       let w = neither (tellsWatchdogReset m i) _ r in
@@ -61,7 +59,7 @@ module _ (m : Machine) (i : Sample) where
       (λ a. ap (λ (b : Board). b .memory .current) (leaves-all m i a))
 
   -- a reset by the watchdog comes after step 4, and leaves the store
-  stored : acceptsOneOf (0x94 ∷ []) m i ≡ false → told m i .machine .board .memory .store ≡ m .board .memory .store
+  stored : acceptsOneOf savingCommands m i ≡ false → told m i .machine .board .memory .store ≡ m .board .memory .store
   stored n =
       cases (happens i)
       (λ a.

@@ -1,9 +1,9 @@
--- Why a reached machine stays sound: a start has all channels off and its settings from a store in range, and each step of a tick keeps both. Assumes nothing.
+-- Why a reached machine stays sound: a start has all channels off and its settings from a store in range, and each step
+-- of a tick keeps both. Assumes nothing.
 use Prim.Native.Nat.{ℕ, _<_}
-use mathlib.Core.Path.{_≡_, refl, sym, ap, _∙_, subst}
+use mathlib.Core.Path.{_≡_, refl, sym, _∙_, subst}
 use mathlib.Core.Bool.{Bool, true, false, cond, not, _&&_, and-false}
 use mathlib.Core.List.{List, [], _∷_}
-use mathlib.Core.Option.{some}
 use lib.Dec.{eqb, leb}
 use lib.IntN.{ℤ}
 use Rattle.laws.proofs.Cases.{cases}
@@ -22,7 +22,6 @@ use Rattle.state.specs.Start.{freshOf, neverReset, watchdogResetOf, storedInRan
 use Rattle.state.specs.declared.parts.Board.{Board}
 use Rattle.state.specs.declared.parts.Profile.{Profile}
 use Rattle.state.specs.declared.parts.Resets.{Resets}
-use Rattle.answers.specs.Answers.{toldNumber}
 use Rattle.answers.specs.declared.Commanded.{Commanded}
 use Rattle.commands.specs.Step.{commandedOf}
 use Rattle.board.specs.Tick.{risenOf, changedOf, trippedOf}
@@ -52,24 +51,29 @@ pub record Apart (ch : Chan) : Type 0 where
 pub record AllApart (ch : Channels) : Type 0 where
   pub each : (c : ℕ) → c < 32 → Apart (chan ch c)
 
+-- a board of which both hold, the channels and the memory
 pub record Sound (b : Board) : Type 0 where
   pub apart : AllApart (b .channels)
   pub range : InRange (b .memory)
 
 -- ---- the channels
--- what document 01 makes of a channel is not both
+-- what an operation makes of a channel is not both: here one that turns it on
 on-apart : (ch : Chan) → Apart (onAndCleared ch)
 on-apart ch = record { not-both = refl }
 
+-- one that turns it off and clears its latch
 off-apart : (ch : Chan) → Apart (offAndCleared ch)
 off-apart ch = record { not-both = refl }
 
+-- one that turns it off and keeps its latch
 kept-apart : (ch : Chan) → Apart (offAndLatchKept ch)
 kept-apart ch = record { not-both = refl }
 
+-- an overcurrent
 tripped-apart : (ch : Chan) → Apart (tripped ch)
 tripped-apart ch = record { not-both = refl }
 
+-- a reset
 reset-apart : Apart clearOne
 reset-apart = record { not-both = refl }
 
@@ -124,6 +128,7 @@ made-apart s b code c ch a =
     a
 
 -- ---- a tick
+-- steps 1 to 3
 settled : (m : Machine) (i : Sample) → Sound (m .board) → Sound (afterStep3 m i)
 unfolding trippedOf changedOf risenOf
 settled m i u =
@@ -132,29 +137,33 @@ settled m i u =
       range = u .range;
     }
 
--- step 4
+-- step 4, by what the command makes of the channels
 left-apart : (rail : ℤ) (limits : Limits) (s : List ℕ) (b : Board) (x : Commanded) → Leaves rail limits s b (codeOf s) x → AllApart (b .channels) → AllApart (x .board .channels)
 left-apart rail limits s b x (refusing n t kept) a = subst AllApart (sym (kept .channels)) a
 left-apart rail limits s b x (accepting t made) a = record { each = λ c h. rw (made .one-by-one c h) (made-apart s b (codeOf s) c (chan (b .channels) c) (a .each c h)) }
 
+-- with a transfer or without
 commanded-apart : (rail : ℤ) (limits : Limits) (sent : Bool) (s : List ℕ) (b : Board) → AllApart (b .channels) → AllApart (commandedOf rail limits sent s b .board .channels)
 unfolding commandedOf
 commanded-apart rail limits false s b a = a
 commanded-apart rail limits true s b a = left-apart rail limits s b _ (leaves rail limits s b) a
 
+-- and of the memory
 step-range : (m : Machine) (i : Sample) {x : Commanded} → Takes (i .rail) (limitsOf (m .board .memory)) (i .transfer) (afterStep3 m i) x → InRange (afterStep3 m i .memory) → InRange (x .board .memory)
 step-range m i (leaving a left) r = subst InRange (sym (left .memory)) r
 step-range m i (obeying t obeyed) r = obeyed .range r
 
+-- both together
 obeyed-sound : (m : Machine) (i : Sample) → Sound (afterStep3 m i) → Sound (afterStep4 m i)
 obeyed-sound m i u =
     record { apart = commanded-apart (i .rail) (limitsOf (m .board .memory)) (i .sent) (i .transfer) (afterStep3 m i) (u .apart); range = step-range m i (step m i) (u .range) }
 
--- step 5, and a start
+-- a board with nothing behind it
 fresh : (p : Profile) (store : Store) (resets : Resets) → storedInRange store ≡ true → Sound (freshOf p store resets)
 unfolding freshOf
 fresh p store resets h = record { apart = cleared-apart; range = loaded store h }
 
+-- step 5
 reset-sound : (b : Board) → Sound b → Sound (watchdogResetOf b)
 unfolding watchdogResetOf
 reset-sound b u = fresh (b .profile) (b .memory .store) _ (u .range .store)
@@ -171,6 +180,7 @@ ticked m i u =
     (λ a. subst Sound (sym (leaves-all m i a)) u)
 
 -- ---- a read of the text line, and any calls
+-- a read touches neither channels nor memory
 heard : (l : Line) (m : Machine) → Sound (m .board) → Sound (afterLine l m .board)
 heard (Switch form behind) m u = record { apart = u .apart; range = u .range }
 heard (Command start end behind) m u = u
@@ -179,11 +189,13 @@ heard (TooLong behind) m u = u
 heard (NotOfForm behind) m u = u
 heard (ScratchTooShort behind) m u = u
 
+-- any call
 called : (m : Machine) (call : Call) → Sound (m .board) → Sound (afterCall m call .board)
 unfolding heardOf
 called m (tick i) u = ticked m i u
 called m (line received room) u = heard (lineOf (m .board .form) received room) m u
 
+-- any calls, one after the other
 run : (m : Machine) (calls : List Call) → Sound (m .board) → Sound (after m calls .board)
 unfolding after
 run m [] u = u
@@ -194,6 +206,7 @@ run m (call ∷ calls) u = run (afterCall m call) calls (called m call u)
 abbrev keeps : Profile → Bool
 keeps p = leb 1 (p .bid) && leb (p .bid) 8 && not (eqb (p .fitted) 0) && isWithin (p .forced) (p .fitted)
 
+-- together they are the rules
 rules-are : (p : Profile) (store : Store) → keepsTheRules p store ≡ (keeps p && storedInRange store)
 unfolding keepsTheRules
 rules-are p store = refl

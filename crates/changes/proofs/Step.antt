@@ -1,7 +1,8 @@
--- What the command step makes of timer, mode, memory and reply, for every board and every transfer: one walk by the commands, for all that is shown of them. Assumes nothing.
+-- What the command step makes of timer, mode, memory and reply, for every board and every transfer: one walk by the
+-- commands, for all that is shown of them. Assumes nothing.
 use Prim.Native.Nat.{ℕ, suc}
 use mathlib.Core.Path.{_≡_, refl, sym, ap, _∙_, subst}
-use mathlib.Core.Bool.{Bool, true, false, cond, not, _&&_, false≢true}
+use mathlib.Core.Bool.{Bool, true, false, cond, not, false≢true}
 use mathlib.Core.List.{List, [], _∷_}
 use mathlib.Core.Option.{some}
 use lib.Dec.{eqb, ltb}
@@ -17,7 +18,6 @@ use Rattle.settings.specs.declared.Parameter.{Parameter}
 use Rattle.settings.specs.declared.Parameter.the-variants.{ReadWrite, ReadOnly, Unknown}
 use Rattle.modes.specs.Commands.{toSafety, toNominal, leaves}
 use Rattle.modes.specs.declared.Limits.{Limits}
-use Rattle.modes.specs.declared.ModeAge.{ModeAge}
 use Rattle.modes.specs.declared.Commanded as change
 use Rattle.channels.specs.declared.Channels.{Channels}
 use Rattle.command.specs.Table.{table, find}
@@ -28,12 +28,11 @@ use Rattle.command.specs.declared.Decoded.the-variants.{Refused}
 use Rattle.command.specs.declared.Refusal.{Refusal}
 use Rattle.command.specs.declared.Refusal.the-variants.{FewerThanFourBytes, NotThisBoard, CodeNotListed, TooShort, WrongKey, WrongParameter, NotANumber}
 use Rattle.command.proofs.Laws.{none, _and_, by-code}
-use Rattle.memory.specs.Memory.{loadedFrom, loadOf, defaultedOf, setIn, resetIn, savedOf}
+use Rattle.memory.specs.Memory.{loadOf, savedOf}
 use Rattle.memory.specs.declared.Memory.{Memory}
-use Rattle.memory.specs.declared.Store.{Store}
 use Rattle.memory.proofs.Laws.{load-leaves-store, set-leaves-store, reset-leaves-store, defaults-leave-store, save-leaves-current}
 use Rattle.replies.specs.Layouts.{faultsReply}
-use Rattle.state.specs.Parts.{modeOf, withMemory}
+use Rattle.state.specs.Parts.{modeOf}
 use Rattle.state.specs.Start.{freshOf, commandResetOf}
 use Rattle.state.specs.declared.parts.Board.{Board}
 use Rattle.answers.specs.Answers.{toldNumber, headerOf, new, acceptedWith, acceptedOf, refusedOf, notThisBoardOf}
@@ -43,11 +42,9 @@ use Rattle.effects.specs.Effects.{isNominal, switchedOf, groupOnOf, groupOffOf,
 use Rattle.commands.specs.Step.{isStartup, turnedDown, decodedOf, transferredOf, commandedOf}
 use Rattle.groups.specs.Resets.{isAccepted}
 use Rattle.groups.proofs.Counts.{not-accepted}
+use Rattle.changes.specs.SettingsChange.{settingCommands, savingCommands}
+use Rattle.changes.specs.ModeChange.{modeCommands}
 use Rattle.changes.proofs.Ranges.{InRange, loaded, set-one, reset-one, defaulted, load, saved}
-
--- the commands after which other settings may be in force
-abbrev pub setters : List ℕ
-setters = 0x84 ∷ 0x86 ∷ 0x90 ∷ 0x92 ∷ []
 
 -- a test that came to both
 both : {A : Type 0} {t : Bool} → t ≡ false → t ≡ true → A
@@ -71,15 +68,16 @@ module _ (rail : ℤ) (limits : Limits) (s : List ℕ) (b : Board) where
   -- that of an accepted command of code k
   pub record Obeyed (k : ℕ) (after : Board) : Type 0 where
     pub timer : after .timer ≡ 0
-    pub phase : isIn k (0x30 ∷ 0x32 ∷ []) ≡ false → eqb k 0xAA ≡ false → after .phase ≡ b .phase
+    pub phase : isIn k modeCommands ≡ false → eqb k 0xAA ≡ false → after .phase ≡ b .phase
     pub nominal : eqb k 0x30 ≡ true → after .phase ≡ leaves (toNominal (b .phase) rail limits) (b .phase)
     pub safety : eqb k 0x32 ≡ true → after .phase ≡ leaves (toSafety (b .phase)) (b .phase)
-    pub current : isIn k setters ≡ false → eqb k 0xAA ≡ false → after .memory .current ≡ b .memory .current
-    pub store : eqb k 0x94 ≡ false → after .memory .store ≡ b .memory .store
+    pub current : isIn k settingCommands ≡ false → eqb k 0xAA ≡ false → after .memory .current ≡ b .memory .current
+    pub store : isIn k savingCommands ≡ false → after .memory .store ≡ b .memory .store
     pub range : InRange (b .memory) → InRange (after .memory)
     pub faults : eqb k 0x42 ≡ true
         → after .reply ≡ replyOf (faultsReply (headerOf (b .profile)) k new (after .channels .on) (after .channels .latched) (after .channels .counts))
 
+  -- a command of code k is refused or accepted
   pub data Does (k : ℕ) (c : Commanded) : Type 0 where
     refusing : (n : ℕ) → toldNumber (c .outcome) ≡ some (suc n) → Left (c .board) → Does k c
     accepting : toldNumber (c .outcome) ≡ some 0 → Obeyed k (c .board) → Does k c
@@ -114,18 +112,18 @@ module _ (rail : ℤ) (limits : Limits) (s : List ℕ) (b : Board) where
   abbrev Plain : ℕ → Type 0
   Plain k = isIn k moving ≡ false
 
-  -- with other settings in force: they are among the setters
+  -- with other settings in force: its code is listed for that
   setting-up : (k : ℕ) (c : Commanded) → toldNumber (c .outcome) ≡ some 0 → c .board .timer ≡ 0 → c .board .phase ≡ b .phase → Plain k
-      → isIn k setters ≡ true → c .board .memory .store ≡ b .memory .store → (InRange (b .memory) → InRange (c .board .memory)) → Does k c
+      → isIn k settingCommands ≡ true → c .board .memory .store ≡ b .memory .store → (InRange (b .memory) → InRange (c .board .memory)) → Does k c
   unfolding isIn
-  setting-up k c t timer phase o in-setters store range =
+  setting-up k c t timer phase o listed-there store range =
       accepting t
       (record {
         timer = timer;
         phase = λ _ _. phase;
         nominal = λ e. other k 0x30 o refl e;
         safety = λ e. other k 0x32 o refl e;
-        current = λ n _. both n in-setters;
+        current = λ n _. both n listed-there;
         store = λ _. store;
         range = range;
         faults = λ e. other k 0x42 o refl e;
@@ -158,12 +156,12 @@ module _ (rail : ℤ) (limits : Limits) (s : List ℕ) (b : Board) where
   got-one id = plainly 0x82 _ refl refl refl refl refl
 
   -- with another memory
-  parameter : (k id : ℕ) (x : Memory) → Plain k → isIn k setters ≡ true → x .store ≡ b .memory .store → (InRange (b .memory) → InRange x) → Does k (parameterRun k id x b)
+  parameter : (k id : ℕ) (x : Memory) → Plain k → isIn k settingCommands ≡ true → x .store ≡ b .memory .store → (InRange (b .memory) → InRange x) → Does k (parameterRun k id x b)
   unfolding parameterRun acceptedWith
   parameter k id x o i store range = setting-up k _ refl refl refl o i store range
 
   -- 0x90 and 0x92
-  remembered : (k : ℕ) (x : Memory) → Plain k → isIn k setters ≡ true → x .store ≡ b .memory .store → (InRange (b .memory) → InRange x) → Does k (rememberedOf k x b)
+  remembered : (k : ℕ) (x : Memory) → Plain k → isIn k settingCommands ≡ true → x .store ≡ b .memory .store → (InRange (b .memory) → InRange x) → Does k (rememberedOf k x b)
   unfolding rememberedOf acceptedOf acceptedWith
   remembered k x o i store range = setting-up k _ refl refl refl o i store range
 

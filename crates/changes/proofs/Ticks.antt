@@ -1,4 +1,5 @@
--- A tick that happens is its command step, and then the watchdog, which after an accepted command tells nothing. Assumes nothing.
+-- A tick that happens is its command step, and then the watchdog, which after an accepted command tells nothing.
+-- Assumes nothing.
 use Prim.Native.Nat.{ℕ, _≤_, _<_}
 use mathlib.Core.Path.{_≡_, refl, sym, ap, _∙_}
 use mathlib.Core.Bool.{Bool, true, false, _&&_, _||_, or-false, false≢true}
@@ -17,7 +18,6 @@ use Rattle.watchdog.specs.declared.Event.{Event}
 use Rattle.watchdog.specs.declared.Event.the-variants.{NoEvent, PeripheralReset, WatchdogReset}
 use Rattle.watchdog.proofs.Laws.{early, disabled}
 use Rattle.memory.specs.Limits.{timeoutOf, limitsOf}
-use Rattle.state.specs.declared.parts.Board.{Board}
 use Rattle.answers.specs.Answers.{toldNumber}
 use Rattle.answers.specs.declared.Commanded.{Commanded}
 use Rattle.commands.specs.Step.{commandedOf}
@@ -33,6 +33,7 @@ use Rattle.changes.specs.Accepted.{acceptsOneOf}
 use Rattle.changes.proofs.Step.{Takes, leaving, obeying, takes}
 
 -- ---- what is told
+-- two answers that are the same have the same number
 same-number : (n k : ℕ) → some n ≡ some k → n ≡ k
 same-number n k e = cc
 
@@ -86,6 +87,7 @@ module _ (m : Machine) (i : Sample) where
   abbrev pub commanded : Commanded
   commanded = commandedOf (i .rail) (limitsOf (m .board .memory)) (i .sent) (i .transfer) (afterStep3 m i)
 
+  -- and what kind of step that is
   pub step : Takes (i .rail) (limitsOf (m .board .memory)) (i .transfer) (afterStep3 m i) commanded
   step = takes (i .rail) (limitsOf (m .board .memory)) (i .transfer) (afterStep3 m i) (i .sent)
 
@@ -93,6 +95,7 @@ module _ (m : Machine) (i : Sample) where
   pub leaves-all : happens i ≡ false → told m i .machine .board ≡ m .board
   leaves-all e = ap (λ (x : Machine). x .board) (refused-tick-leaves (i .rail) (i .named) (i .words) (i .sent) (i .transfer) m e)
 
+  -- it is told by 9
   tells-9 : happens i ≡ false → toldNumber (told m i .outcome) ≡ some 9
   unfolding toldOf
   tells-9 e = number-9 (i .rail) (i .named) (i .words) (i .sent) (i .transfer) (m .board) e
@@ -111,21 +114,24 @@ module _ (m : Machine) (i : Sample) where
   pub happened : (n : ℕ) → n ≤ 7 → toldNumber (told m i .outcome) ≡ some n → happens i ≡ true
   happened n h q = cases (happens i) (λ a. a) (λ a. absurd (omega (arith, same-number 9 n (sym (tells-9 a) ∙ q))))
 
-  -- it had a transfer, too
+  -- without a transfer no number is told
   no-answer : i .sent ≡ false → toldNumber (commanded .outcome) ≡ none
   unfolding commandedOf
   no-answer e = rw e
 
+  -- so one that tells such a number had a transfer
   pub sends : (n : ℕ) → n ≤ 7 → toldNumber (told m i .outcome) ≡ some n → i .sent ≡ true
   sends n h q =
       cases (i .sent) (λ e. e)
       (λ e. let z : none ≡ some n = sym (no-answer e) ∙ sym (ap toldNumber (tells (happened n h q))) ∙ q in let y : _≡_ {A = ℕ} 0 1 = cc in absurd (omega arith))
 
-  -- after an accepted command the watchdog tells nothing
+  -- ---- a tick that tells 0
   module _ (q : toldNumber (told m i .outcome) ≡ some 0) where
+    -- its step told it
     step-accepts : toldNumber (commanded .outcome) ≡ some 0
     step-accepts = sym (ap toldNumber (tells (happened 0 (omega arith) q))) ∙ q
 
+    -- and left the timer at 0
     timer-at-0 : commanded .board .timer ≡ 0
     timer-at-0 = go step step-accepts
       where
@@ -133,10 +139,12 @@ module _ (m : Machine) (i : Sample) where
         go (leaving a left) t = absurd (false≢true (sym a ∙ rw t))
         go (obeying t obeyed) _ = obeyed .timer
 
+    -- so the watchdog tells of no reset
     pub accepted-quiet : tellsWatchdogReset m i ≡ false
     unfolding toldOf tellsWatchdogReset tickOf tickWith
     accepted-quiet = rw (happened 0 (omega arith) q) (fed-quiet commanded timer-at-0)
 
+    -- and what the step left stays
     pub accepted-leaves : told m i .machine .board ≡ afterStep4 m i
     accepted-leaves = leaves-step-4 (happened 0 (omega arith) q) accepted-quiet
 
@@ -144,6 +152,7 @@ module _ (m : Machine) (i : Sample) where
   abbrev Accepts : ℕ → Type 0
   Accepts k = acceptsOneOf (k ∷ []) m i ≡ true
 
+  -- both parts of it
   both-told : (k : ℕ) → Accepts k → (isAccepted (toldNumber (told m i .outcome)) ≡ true) × (isIn (codeOf (i .transfer)) (k ∷ []) ≡ true)
   both-told k h = both-hold (isAccepted (toldNumber (told m i .outcome))) (isIn (codeOf (i .transfer)) (k ∷ [])) h
 

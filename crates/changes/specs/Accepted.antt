@@ -1,4 +1,5 @@
--- When a tick accepts a command of some codes, by what it tells. `m` is the machine before the tick. Assumes nothing: these are definitions.
+-- When a tick accepts a command of some codes, by what it tells. `m` is the machine before the tick.
+-- Assumes nothing: these are definitions.
 use Prim.Native.Nat.{ℕ}
 use mathlib.Core.Bool.{Bool, _&&_}
 use mathlib.Core.List.{List}

@@ -1,6 +1,7 @@
--- Demand 2, the channels after a whole tick. Where it tells answer 0, every channel is what the sentences of `Groups` make of what step 3 left of it. Where it tells 1 to 7, or happens
--- and has no transfer, the channels are those that step 3 left, unless the tick tells of a reset by the watchdog: `Resets` has what that leaves. Of every machine and every tick.
--- `m` is the machine before the tick. Assumes nothing: these are definitions.
+-- Demand 2, the channels after a whole tick. Where it tells answer 0, every channel is what the sentences of `Groups`
+-- make of what step 3 left of it. Where it tells 1 to 7, or happens and has no transfer, the channels are those that
+-- step 3 left, unless the tick tells of a reset by the watchdog: `Resets` has what that leaves. Of every machine and
+-- every tick. `m` is the machine before the tick. Assumes nothing: these are definitions.
 use Prim.Native.Nat.{ℕ, _≤_, _<_}
 use mathlib.Core.Path.{_≡_}
 use mathlib.Core.Bool.{true, false}

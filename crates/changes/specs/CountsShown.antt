@@ -1,5 +1,6 @@
--- Demand 2, the counts that 0x42 shows: start a machine from an accepted profile, run it as you like, and then have a tick accept 0x42. In the reply that then waits, the two bytes at
--- 14 + 2 * c, the lower first, are the number of times that step 3 turned channel c off since the machine was last reset, this tick included, as far as 65,535 reaches.
+-- Demand 2, the counts that 0x42 shows: start a machine from an accepted profile, run it as you like, and then have a
+-- tick accept 0x42. In the reply that then waits, the two bytes at 14 + 2 * c, the lower first, are the number of times
+-- that step 3 turned channel c off since the machine was last reset, this tick included, as far as 65,535 reaches.
 -- Assumes nothing: these are definitions.
 use Prim.Native.Nat.{ℕ, _+_, _*_, _<_, min}
 use mathlib.Core.Path.{_≡_}

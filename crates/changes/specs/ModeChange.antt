@@ -1,13 +1,15 @@
--- Demand 2, by what the mode changes: by a row of the table, by 0x30, by 0x32, or by a reset. A tick that happens, tells of no reset and accepts neither 0x30 nor 0x32 leaves mode and age
--- as the table makes them of the mode one tick older; and if the mode is then another, a row of the table leads from the one to the other, what it asks for holds, and the age is 0.
--- An accepted 0x30 or 0x32 leaves what `toNominal` or `toSafety` makes of mode and age as step 3 left them. Of every machine and every tick; `Resets` has what a reset leaves.
--- `m` is the machine before the tick. Assumes nothing: these are definitions.
+-- Demand 2, by what the mode changes: by a row of the table, by 0x30, by 0x32, or by a reset. A tick that happens,
+-- tells of no reset and accepts neither 0x30 nor 0x32 leaves mode and age as the table makes them of the mode one tick
+-- older; and if the mode is then another, a row of the table leads from the one to the other, what it asks for holds,
+-- and the age is 0. An accepted 0x30 or 0x32 leaves what `toNominal` or `toSafety` makes of mode and age as step 3 left
+-- them. Of every machine and every tick; `Resets` has what a reset leaves. `m` is the machine before the tick.
+-- Assumes nothing: these are definitions.
+use Prim.Native.Nat.{ℕ}
 use mathlib.Core.Path.{_≡_}
 use mathlib.Core.Bool.{true, false}
 use mathlib.Core.List.{List, [], _∷_}
 use Rattle.modes.specs.Table.{Row, from_when_to_, table, same, stepOf, olderOf}
 use Rattle.modes.specs.Commands.{toNominal, toSafety, leaves}
-use Rattle.modes.specs.declared.Mode.{Mode}
 use Rattle.modes.specs.declared.ModeAge.{ModeAge}
 use Rattle.modes.specs.declared.Limits.{Limits}
 use Rattle.memory.specs.Limits.{limitsOf}
@@ -21,6 +23,10 @@ infix 30 _is-in_
 pub data _is-in_ (row : Row) : List Row → Type 0 where
   here : {other : Row} {rows : List Row} → row ≡ other → row is-in other ∷ rows
   further : {other : Row} {rows : List Row} → row is-in rows → row is-in other ∷ rows
+
+-- to nominal, to safety: the commands that may change the mode
+abbrev pub modeCommands : List ℕ
+modeCommands = 0x30 ∷ 0x32 ∷ []
 
 -- mode and age before the tick, one tick older, and after it; and the limits in force
 abbrev pub before : Machine → ModeAge
@@ -41,7 +47,7 @@ pub record ByARow (m : Machine) (i : Sample) : Type 0 where
 pub record TableAlone (m : Machine) (i : Sample) : Type 0 where
   pub happening : happens i ≡ true
   pub no-reset : tellsReset m i ≡ false
-  pub no-command : acceptsOneOf (0x30 ∷ 0x32 ∷ []) m i ≡ false
+  pub no-command : acceptsOneOf modeCommands m i ≡ false
 
 pub record ModeChange (m : Machine) (i : Sample) : Type 0 where
   pub by-table : TableAlone m i → afterwards m i ≡ stepOf (before m) (i .rail) (limits m)

@@ -1,5 +1,6 @@
--- Demand 2, what every machine that can be reached keeps: no channel is both on and latched; the settings in force lie in range, and so does what is stored, if anything is; and hence a
--- start from the profile and the store that it has is accepted. Assumes nothing: these are definitions.
+-- Demand 2, what every machine that can be reached keeps: no channel is both on and latched; the settings in force lie
+-- in range, and so does what is stored, if anything is; and hence a start from the profile and the store that it has is
+-- accepted. Assumes nothing: these are definitions.
 use Prim.Native.Nat.{ℕ, _<_}
 use mathlib.Core.Path.{_≡_}
 use mathlib.Core.Bool.{true, false, _&&_}
