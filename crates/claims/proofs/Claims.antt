@@ -8,6 +8,11 @@ use Rattle.groups.proofs.Altered.{altered}
 use Rattle.groups.proofs.Resets.{reset-is-told}
 use Rattle.groups.proofs.Unfitted.{unfitted}
 use Rattle.groups.proofs.Counts.{counts}
+use Rattle.changes.proofs.ChannelsAfter.{channels-after}
+use Rattle.changes.proofs.SettingsChange.{settings-change}
+use Rattle.changes.proofs.ModeChange.{mode-change}
+use Rattle.changes.proofs.CountsShown.{counts-shown}
+use Rattle.changes.proofs.SoundMachine.{sound-machine}
 use Rattle.power.proofs.Theorem.{powered}
 use Rattle.power.proofs.Tight.{tight}
 use Rattle.claims.specs.Claims.{Claims}
@@ -32,6 +37,11 @@ claims =
       reset-is-told = reset-is-told;
       unfitted = unfitted;
       counts = counts;
+      channels-after = channels-after;
+      settings-change = settings-change;
+      mode-change = mode-change;
+      counts-shown = counts-shown;
+      sound-machine = sound-machine;
       dark = dark;
       power = power;
       power-of-one = power-of-one;

@@ -19,6 +19,11 @@ use Rattle.groups.specs.Altered.{Altered}
 use Rattle.groups.specs.Resets.{ResetIsTold}
 use Rattle.groups.specs.Unfitted.{Unfitted}
 use Rattle.groups.specs.Counts.{Counts}
+use Rattle.changes.specs.ChannelsAfter.{ChannelsAfter}
+use Rattle.changes.specs.SettingsChange.{SettingsChange}
+use Rattle.changes.specs.ModeChange.{ModeChange}
+use Rattle.changes.specs.CountsShown.{CountsShown}
+use Rattle.changes.specs.SoundMachine.{SoundMachine}
 use Rattle.power.specs.Claim.{Claim}
 use Rattle.power.specs.Tight.{Tight}
 use Rattle.claims.specs.Boundary.{BoundaryTable}
@@ -44,6 +49,11 @@ pub record Claims : Type 0 where
   pub reset-is-told : (m : Machine) (i : Sample) → ResetIsTold m i
   pub unfitted : (m : Machine) (r : Reached m) → Unfitted m r
   pub counts : (there : Machine) (profile : Profile) (store : Store) → Counts there profile store
+  pub channels-after : (m : Machine) (i : Sample) → ChannelsAfter m i
+  pub settings-change : (m : Machine) (i : Sample) → SettingsChange m i
+  pub mode-change : (m : Machine) (i : Sample) → ModeChange m i
+  pub counts-shown : (there : Machine) (profile : Profile) (store : Store) → CountsShown there profile store
+  pub sound-machine : (m : Machine) (r : Reached m) → SoundMachine m r
   pub dark : Dark
   -- demand 3: how long a force-enabled channel is off, and on
   pub power : Power
