@@ -1,5 +1,13 @@
 -- Document 01's number for each answer of this crate; 0 is no refusal. Assumes nothing: these are definitions.
 use Prim.Native.Nat.{ℕ}
+use mathlib.Core.Bool.{Bool, true, false, cond, not, _&&_}
+use mathlib.Core.Option.{Option, none, some}
+use mathlib.Core.List.{List, [], _∷_}
+use lib.Dec.{eqb, ltb}
+use lib.ListN.{length}
+use Rattle.hex.specs.Hex.{digitOf, payloadOf}
+use Rattle.hex.specs.declared.Hex.{Hex}
+use Rattle.hex.specs.declared.Hex.the-variants.{Value, Bad}
 use Rattle.hex.specs.declared.Payload.{Payload}
 use Rattle.hex.specs.declared.Payload.the-variants.{Bytes, NotOfForm, TooShort}
 use Rattle.hex.specs.declared.Written.{Written}
@@ -22,3 +30,43 @@ writeNumber NoRoom = 13
 abbrev pub wordNumber : Word → ℕ
 wordNumber (Number x) = 0
 wordNumber NotEight = 14
+
+-- ---- when each number is given
+
+-- 13 where there is less room than is needed
+abbrev pub shortNumber : ℕ → ℕ → ℕ
+shortNumber needed room = cond (ltb room needed) 13 0
+
+-- what is worth something is a hex digit, of either case, or a pair of them
+abbrev pub isGood : Hex → Bool
+isGood (Value v) = true
+isGood Bad = false
+
+abbrev pub isDigit : ℕ → Bool
+isDigit x = isGood (digitOf x)
+
+-- one or more pairs of hex digits, one space (32) between pairs and none elsewhere
+unfoldable pub isOfForm : List ℕ → Bool
+isOfForm [] = false
+isOfForm (a ∷ []) = false
+isOfForm (a ∷ b ∷ []) = isDigit a && isDigit b
+isOfForm (a ∷ b ∷ c ∷ text) = isDigit a && isDigit b && eqb c 32 && isOfForm text
+
+-- how many bytes are read
+abbrev pub bytesIn : Option (List ℕ) → ℕ
+bytesIn none = 0
+bytesIn (some bytes) = length bytes
+
+-- 12 where a payload is not of the form, and then 13 where the room is too short for the bytes read
+unfoldable pub payloadNumber : List ℕ → ℕ → ℕ
+payloadNumber text room =
+    cond (not (isOfForm text)) 12
+    (shortNumber (bytesIn (payloadOf text)) room)
+
+unfoldable pub areDigits : List ℕ → Bool
+areDigits [] = true
+areDigits (x ∷ text) = isDigit x && areDigits text
+
+-- eight hex digits and nothing else
+unfoldable pub isEightDigits : List ℕ → Bool
+isEightDigits text = eqb (length text) 8 && areDigits text

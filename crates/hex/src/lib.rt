@@ -1,10 +1,12 @@
 // Bytes as text: pairs of hex digits, read in either case and written in capitals.
 ghost use mathlib.Core.Path.{_≡_};
+ghost use mathlib.Core.Bool.{cond, _&&_};
 ghost use Prim.Native.Nat.{_+_, _*_, _/_, _%_, _^_, _<_, _≤_};
 ghost use lib.ListN.{length};
 ghost use lib.Seq.{sets};
 ghost use Rattle.hex.specs.Hex.{digitOf, pairOf, payloadOf, readOf, heldAfter, laid, capitalOf, digitsOf, textOf, writtenOf, fourPairs, wordOf, wordText};
 ghost use Rattle.hex.specs.Passes.{formOf, worth, values};
+ghost use Rattle.hex.specs.Answers.{readNumber, writeNumber, wordNumber, shortNumber, payloadNumber, isGood, isEightDigits};
 
 // What a digit or a pair of digits is worth.
 pub enum Hex {
@@ -121,6 +123,7 @@ pub enum Payload {
 pub fn read(text: &[u8], out: &mut [u8]) -> Payload
     ensures answer { λ r. ⌜ r ≡ readOf (payloadOf (now (text .entry))) (length (now (out .entry))) ⌝ }
     ensures held { λ _. ⌜ now (out .exit) ≡ heldAfter (payloadOf (now (text .entry))) (now (out .entry)) ⌝ }
+    ensures number { λ r. ⌜ readNumber r ≡ payloadNumber (now (text .entry)) (length (now (out .entry))) ⌝ }
 {
     let Form::Pairs(n) = count(text) else {
         return Payload::NotOfForm;
@@ -159,6 +162,7 @@ pub enum Written {
 pub fn write(bytes: &[u8], out: &mut [u8]) -> Written
     ensures answer { λ r. ⌜ r ≡ writtenOf (textOf (now (bytes .entry))) (length (now (out .entry))) ⌝ }
     ensures held { λ _. ⌜ now (out .exit) ≡ laid (textOf (now (bytes .entry))) (now (out .entry)) ⌝ }
+    ensures number { λ r. ⌜ writeNumber r ≡ shortNumber (length (textOf (now (bytes .entry)))) (length (now (out .entry))) ⌝ }
 {
     let n = bytes.len();
     if n == 0 {
@@ -195,6 +199,7 @@ fn join(a: u8, b: u8, c: u8, d: u8) -> u32
 // The number of four pairs, the uppermost first, where none of them is bad.
 fn four_pairs(upper: Hex, second: Hex, third: Hex, lowest: Hex) -> Word
     ensures { λ r. ⌜ r ≡ fourPairs upper second third lowest ⌝ }
+    ensures number { λ r. ⌜ wordNumber r ≡ cond (isGood upper && isGood second && isGood third && isGood lowest) 0 14 ⌝ }
 {
     let Hex::Value(a) = upper else {
         return Word::NotEight;
@@ -214,6 +219,7 @@ fn four_pairs(upper: Hex, second: Hex, third: Hex, lowest: Hex) -> Word
 // The 32-bit number that a text of exactly eight hex digits spells; any other text is not one.
 pub fn read_word(text: &[u8]) -> Word
     ensures { λ r. ⌜ r ≡ wordOf (now (text .entry)) ⌝ }
+    ensures number { λ r. ⌜ wordNumber r ≡ cond (isEightDigits (now (text .entry))) 0 14 ⌝ }
 {
     if text.len() != 8 {
         return Word::NotEight;

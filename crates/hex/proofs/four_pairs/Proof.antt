@@ -1,4 +1,9 @@
 -- Each pair in turn is bad, or has its byte. Assumes nothing.
+use mathlib.Core.Path.{_≡_, ap, _∙_}
+use Rattle.hex.specs.Hex.{fourPairs}
+use Rattle.hex.specs.Answers.{wordNumber}
+use Rattle.hex.specs.declared.Word.the-variants.{Number}
+use Rattle.hex.proofs.Numbers.{pairs-number}
 use borrow.Author.Needs.{needs}
 use Rattle.hex.proofs.four_pairs.Statement.{statement}
 use Rattle.hex.proofs.four_pairs.Tie as tie
@@ -43,7 +48,10 @@ join-requires : tie.Need-join-requires
 join-requires c κs = search needs
 
 returns-5 : tie.Need-returns-5
-returns-5 c = rw (c .before .before .before .before .before .before .before .before .before .before .before .upper .given .1, c .before .before .before .before .before .before .before .before .second .given .1, c .before .before .before .before .before .third .given .1, c .before .before .lowest .given .1, c .join .ensures)
+returns-5 c =
+    let a = c .before .before .before .before .before .before .before .before .before .before .before .before .before .args in
+    let is : Number (c .join .result) ≡ fourPairs (a .upper) (a .second) (a .third) (a .lowest) = rw (c .before .before .before .before .before .before .before .before .before .before .before .upper .given .1, c .before .before .before .before .before .before .before .before .second .given .1, c .before .before .before .before .before .third .given .1, c .before .before .lowest .given .1, c .join .ensures) in
+    (is, ap wordNumber is ∙ pairs-number (a .upper) (a .second) (a .third) (a .lowest))
 
 pub four-pairs-spec : {M : Type 1} → statement M
 four-pairs-spec =

@@ -2,14 +2,21 @@
 use native.Mathlib.Omega.{arith}
 use lib.ListN.{length}
 use borrow.Author.Tests.{eq-eqb, ne-eqb}
+use mathlib.Core.Path.{_≡_, ap, _∙_}
 use Rattle.hex.specs.Hex.{wordOf}
+use Rattle.hex.specs.Answers.{wordNumber}
+use Rattle.hex.specs.declared.Word.the-variants.{NotEight}
+use Rattle.hex.proofs.Numbers.{word-number}
 use borrow.Author.Needs.{needs}
 use Rattle.hex.proofs.read_word.Statement.{statement}
 use Rattle.hex.proofs.read_word.Tie as tie
 
 returns : tie.Need-returns
 unfolding wordOf
-returns c = simp (ne-eqb (length (c .before .before .args .text .now)) 8 (λ e. omega arith))
+returns c =
+    let text = c .before .before .args .text .now in
+    let is : NotEight ≡ wordOf text = simp (ne-eqb (length text) 8 (λ e. omega arith)) in
+    (is, ap wordNumber is ∙ word-number text)
 
 shared-slice-read-pair : tie.Need-shared-slice-read-pair
 shared-slice-read-pair c = search needs
@@ -52,7 +59,10 @@ four-pairs-requires c κs = search needs
 
 returns-2 : tie.Need-returns-2
 unfolding wordOf
-returns-2 c = rw (c .four-pairs .ensures, c .before .pair4 .ensures, c .before .before .before .before .pair3 .ensures, c .before .before .before .before .before .before .before .pair2 .ensures, c .before .before .before .before .before .before .before .before .before .before .pair .ensures, eq-eqb (length (c .before .before .before .before .before .before .before .before .before .before .before .before .before .before .before .args .text .now)) 8 (omega arith))
+returns-2 c =
+    let text = c .before .before .before .before .before .before .before .before .before .before .before .before .before .before .before .args .text .now in
+    let is : c .four-pairs .result ≡ wordOf text = rw (c .four-pairs .ensures .0, c .before .pair4 .ensures, c .before .before .before .before .pair3 .ensures, c .before .before .before .before .before .before .before .pair2 .ensures, c .before .before .before .before .before .before .before .before .before .before .pair .ensures, eq-eqb (length text) 8 (omega arith)) in
+    (is, ap wordNumber is ∙ word-number text)
 
 pub read-word-spec : {M : Type 1} → statement M
 read-word-spec =

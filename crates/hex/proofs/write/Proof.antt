@@ -6,8 +6,9 @@ use Prim.Native.Nat.{ℕ, _+_, _*_, _≤_, _-_}
 use mathlib.Core.Path.{_≡_, refl, sym, ap, _∙_}
 use lib.ListN.{length, drop, length-set}
 use lib.Seq.{sets}
-use Rattle.hex.specs.Hex.{spaced}
+use Rattle.hex.specs.Hex.{spaced, textOf}
 use Rattle.hex.proofs.Writing.{spaced-end, first-pair, next-pair, write-none, write-short, write-whole}
+use Rattle.hex.proofs.Numbers.{with-write-number}
 use Rattle.hex.proofs.write.Statement.{statement}
 use Rattle.hex.proofs.write.Tie as tie
 
@@ -18,13 +19,17 @@ abbrev μ-loop : tie.MeasureT-loop
 μ-loop bytes out₀ n k₀ i₀ out k i = n - i
 
 returns : tie.Need-returns Inv-loop μ-loop
-returns c = write-none (c .before .before .before .args .bytes .now) (c .before .before .before .args .out .now) (omega arith)
+returns c =
+    let a = c .before .before .before .args in
+    with-write-number (textOf (a .bytes .now)) (length (a .out .now)) (write-none (a .bytes .now) (a .out .now) (omega arith))
 
 add-if2 : tie.Need-add-if2 Inv-loop μ-loop
 add-if2 c = search needs
 
 returns-2 : tie.Need-returns-2 Inv-loop μ-loop
-returns-2 c = write-short (c .before .before .before .before .args .bytes .now) (c .before .before .before .before .args .out .now) (omega arith)
+returns-2 c =
+    let a = c .before .before .before .before .args in
+    with-write-number (textOf (a .bytes .now)) (length (a .out .now)) (write-short (a .bytes .now) (a .out .now) (omega arith))
 
 shared-slice-read-put : tie.Need-shared-slice-read-put Inv-loop μ-loop
 shared-slice-read-put c = search needs
@@ -77,11 +82,12 @@ returns-3 c =
     let l = c .before .loop in
     let bs = c .before .before .before .before .before .before .before .before .before .before .before .args .bytes .now in
     let o = c .before .before .before .before .before .before .before .before .before .before .before .args .out .now in
-    write-whole bs o (l .k) (l .out) (omega arith) (omega arith) (omega (arith, c .before .before .before .before .put .kept .0))
+    with-write-number (textOf bs) (length o)
+    (write-whole bs o (l .k) (l .out) (omega arith) (omega arith) (omega (arith, c .before .before .before .before .put .kept .0))
     (sym (ap (sets (l .out) (l .k)) (spaced-end bs (l .i) (omega arith)))
     ∙ l .inv .5
     ∙ ap (λ (p : List ℕ). sets p 2 (spaced (drop 1 bs))) (c .before .before .before .before .put .ensures)
-    ∙ first-pair bs o (omega arith))
+    ∙ first-pair bs o (omega arith)))
 
 pub write-spec : {M : Type 1} → statement M
 write-spec =
