@@ -1,6 +1,6 @@
 -- What follows from the table and the commands: by what each mode is left and for which, one change at most, and that the mode and its age change together.
 -- Assumes nothing.
-use mathlib.Core.Path.{_≡_, refl, ap}
+use mathlib.Core.Path.{_≡_, refl, ap, _∙_}
 use mathlib.Core.Bool.{Bool, true, false, not, cond, _&&_, _||_, or-true}
 use mathlib.Core.List.{List, [], _∷_}
 use Prim.Native.Nat.{ℕ, _+_, _-_, _^_, _≤_, _<_}
@@ -14,8 +14,9 @@ use Rattle.modes.specs.declared.Mode.the-variants.{Startup, Nominal, Saf
 use Rattle.modes.specs.declared.ModeAge.{ModeAge}
 use Rattle.modes.specs.declared.Limits.{Limits}
 use Rattle.modes.specs.declared.Commanded.{Commanded}
+use Rattle.modes.specs.declared.Commanded.the-variants.{Accepted, Unavailable}
 use Rattle.modes.specs.Table.{_reaches_, _exceeds_, _at-least_, _above_, _below_, _aged_, entered, Row, from_when_to_, _if_else_, table, number, same, first, stepOf, olderOf}
-use Rattle.modes.specs.Commands.{toSafetyFrom, toSafety, toNominalFrom, toNominal, answer, leaves}
+use Rattle.modes.specs.Commands.{toSafetyFrom, toSafety, toNominalFrom, toNominal, answer, safetyUnavailable, nominalUnavailable, leaves}
 
 -- ---- what each mode is left by, and for which
 module _ (s : ModeAge) (rail : ℤ) (limits : Limits) where
@@ -179,6 +180,19 @@ pub to-nominal-unavailable : (s : ModeAge) (rail : ℤ) (limits : Limits)
     → eqb (answer (toNominal s rail limits)) 6 ≡ (same Startup (s .mode) || same Emergency (s .mode) || (same Safety (s .mode) && not (rail at-least limits .«safety_low»)))
 unfolding toNominal
 to-nominal-unavailable s rail limits = to-nominal-answers (s .mode) s rail limits
+
+-- and the answer of a command has that number
+six : (c : Commanded) → answer c ≡ cond (eqb (answer c) 6) 6 0
+six (Accepted s) = refl
+six Unavailable = refl
+
+pub to-safety-number : {r : Commanded} (s : ModeAge) → r ≡ toSafety s → (r ≡ toSafety s) × (answer r ≡ cond (safetyUnavailable (s .mode)) 6 0)
+to-safety-number s e = (e, ap answer e ∙ six (toSafety s) ∙ ap (λ (b : Bool). cond b 6 0) (to-safety-unavailable s))
+
+pub to-nominal-number : {r : Commanded} (s : ModeAge) (rail : ℤ) (limits : Limits) → r ≡ toNominal s rail limits
+    → (r ≡ toNominal s rail limits) × (answer r ≡ cond (nominalUnavailable (s .mode) rail limits) 6 0)
+to-nominal-number s rail limits e =
+    (e, ap answer e ∙ six (toNominal s rail limits) ∙ ap (λ (b : Bool). cond b 6 0) (to-nominal-unavailable s rail limits))
 
 -- ---- the age rises by one below the top, where it stops
 pub older-rises : (s : ModeAge) → s .age < 2 ^ 64 - 1 → olderOf s .age ≡ s .age + 1

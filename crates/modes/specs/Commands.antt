@@ -1,8 +1,8 @@
 -- The commanded changes of mode, as document 01's list of effects has them. Startup obeys no command, so there both are unavailable too. Assumes nothing.
 use Prim.Native.Nat.{ℕ}
-use mathlib.Core.Bool.{cond}
+use mathlib.Core.Bool.{Bool, cond, not, _&&_, _||_}
 use lib.IntN.{ℤ}
-use Rattle.modes.specs.Table.{_at-least_, entered}
+use Rattle.modes.specs.Table.{_at-least_, entered, same}
 use Rattle.modes.specs.declared.Mode.{Mode}
 use Rattle.modes.specs.declared.Mode.the-variants.{Startup, Nominal, Safety, Emergency}
 use Rattle.modes.specs.declared.ModeAge.{ModeAge}
@@ -38,6 +38,13 @@ toNominal s rail limits = toNominalFrom (s .mode) s rail limits
 abbrev pub answer : Commanded → ℕ
 answer (Accepted s) = 0
 answer Unavailable = 6
+
+-- 6 is told by 0x32 in emergency, and by 0x30 in emergency and in safety unless the rail is at least safety low
+abbrev pub safetyUnavailable : Mode → Bool
+safetyUnavailable m = same Startup m || same Emergency m
+
+abbrev pub nominalUnavailable : Mode → ℤ → Limits → Bool
+nominalUnavailable m rail limits = same Startup m || same Emergency m || (same Safety m && not (rail at-least limits .«safety_low»))
 
 abbrev pub leaves : Commanded → ModeAge → ModeAge
 leaves (Accepted s) before = s

@@ -1,7 +1,8 @@
 // The modes of the board: how long it has been in one, the table by which it leaves, and the two commands that change it.
 ghost use mathlib.Core.Path.{_≡_};
 ghost use Rattle.modes.specs.Table.{_at-least_, _above_, _below_, entered, olderOf, stepOf};
-ghost use Rattle.modes.specs.Commands.{toSafety, toNominal};
+ghost use mathlib.Core.Bool.{cond};
+ghost use Rattle.modes.specs.Commands.{toSafety, toNominal, answer, safetyUnavailable, nominalUnavailable};
 ghost use Rattle.modes.specs.declared.Mode.the-variants.{Startup};
 
 pub enum Mode {
@@ -158,6 +159,7 @@ impl ModeAge {
     // 0x32: nominal is left for safety, safety stays as it is, and elsewhere the command is not available.
     pub fn to_safety(self) -> Commanded
         ensures { λ r. ⌜ r ≡ toSafety self ⌝ }
+        ensures number { λ r. ⌜ answer r ≡ cond (safetyUnavailable (self .mode)) 6 0 ⌝ }
     {
         let mode = self.mode;
         match mode {
@@ -171,6 +173,7 @@ impl ModeAge {
     // 0x30: nominal stays as it is, safety is left for nominal where the rail is not below safety low, and elsewhere the command is not available.
     pub fn to_nominal(self, rail: i16, limits: Limits) -> Commanded
         ensures { λ r. ⌜ r ≡ toNominal self rail limits ⌝ }
+        ensures number { λ r. ⌜ answer r ≡ cond (nominalUnavailable (self .mode) rail limits) 6 0 ⌝ }
     {
         let mode = self.mode;
         match mode {
