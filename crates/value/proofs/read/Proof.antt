@@ -8,7 +8,7 @@ use mir.ValLaws.{toZ-ofZ}
 use borrow.Author.Needs.{needs}
 use Rattle.wire.proofs.LittleEndian.{number-one}
 use Rattle.wire.specs.Numbers.{number, signed}
-use Rattle.value.proofs.Reading.{too-short, long-enough}
+use Rattle.value.proofs.Reading.{too-short, long-enough, with-value-number}
 use Rattle.value.specs.Types.{table, width}
 use Rattle.value.specs.Values.{valueOf}
 use Rattle.value.specs.declared.ValueType.{ValueType}
@@ -19,7 +19,7 @@ width-requires : tie.Need-width-requires
 width-requires c κs = search needs
 
 returns : tie.Need-returns
-returns c = sym (too-short (c .before .before .before .args .t) (now (c .before .before .before .args .s)) (omega (arith, c .before .width .ensures)))
+returns c = with-value-number (c .before .before .before .args .t) (now (c .before .before .before .args .s)) (sym (too-short (c .before .before .before .args .t) (now (c .before .before .before .args .s)) (omega (arith, c .before .width .ensures))))
 
 enum-told : tie.Need-enum-told
 enum-told c = search needs
@@ -106,14 +106,14 @@ returns-2 c =
     let r = c .twos8 .result in
     let f : SFits w8 r = search needs in
     let e : toZ w8 (ofZ w8 r) ≡ signed 1 (number 1 s) = toZ-ofZ w8 r f ∙ c .twos8 .ensures ∙ ap (signed 1) (c .before .byte .ensures ∙ sym (number-one s)) in
-    rw e (sym (long-enough (c .before .before .before .before .before .before .before .args .t) ValueType.Int8 s (c .before .before .enum-told .given .1) (omega (arith, c .before .before .before .before .before .width .ensures))))
+    with-value-number (c .before .before .before .before .before .before .before .args .t) s (rw e (sym (long-enough (c .before .before .before .before .before .before .before .args .t) ValueType.Int8 s (c .before .before .enum-told .given .1) (omega (arith, c .before .before .before .before .before .width .ensures)))))
 
 returns-3 : tie.Need-returns-3
 unfolding width valueOf
 returns-3 c =
     let s = now (c .before .before .before .before .before .before .args .s) in
     let e : c .byte2 .result ≡ number 1 s = c .byte2 .ensures ∙ sym (number-one s) in
-    rw e (sym (long-enough (c .before .before .before .before .before .before .args .t) ValueType.Uint8 s (c .before .enum-told2 .given .1) (omega (arith, c .before .before .before .before .width .ensures))))
+    with-value-number (c .before .before .before .before .before .before .args .t) s (rw e (sym (long-enough (c .before .before .before .before .before .before .args .t) ValueType.Uint8 s (c .before .enum-told2 .given .1) (omega (arith, c .before .before .before .before .width .ensures)))))
 
 returns-4 : tie.Need-returns-4
 unfolding width valueOf
@@ -122,14 +122,14 @@ returns-4 c =
     let r = c .twos16 .result in
     let f : SFits w16 r = search needs in
     let e : toZ w16 (ofZ w16 r) ≡ signed 2 (number 2 s) = toZ-ofZ w16 r f ∙ c .twos16 .ensures ∙ ap (signed 2) (c .before .le16 .ensures) in
-    rw e (sym (long-enough (c .before .before .before .before .before .before .before .args .t) ValueType.Int16 s (c .before .before .enum-told3 .given .1) (omega (arith, c .before .before .before .before .before .width .ensures))))
+    with-value-number (c .before .before .before .before .before .before .before .args .t) s (rw e (sym (long-enough (c .before .before .before .before .before .before .before .args .t) ValueType.Int16 s (c .before .before .enum-told3 .given .1) (omega (arith, c .before .before .before .before .before .width .ensures)))))
 
 returns-5 : tie.Need-returns-5
 unfolding width valueOf
 returns-5 c =
     let s = now (c .before .before .before .before .before .before .args .s) in
     let e : c .le162 .result ≡ number 2 s = c .le162 .ensures in
-    rw e (sym (long-enough (c .before .before .before .before .before .before .args .t) ValueType.Uint16 s (c .before .enum-told4 .given .1) (omega (arith, c .before .before .before .before .width .ensures))))
+    with-value-number (c .before .before .before .before .before .before .args .t) s (rw e (sym (long-enough (c .before .before .before .before .before .before .args .t) ValueType.Uint16 s (c .before .enum-told4 .given .1) (omega (arith, c .before .before .before .before .width .ensures)))))
 
 returns-6 : tie.Need-returns-6
 unfolding width valueOf
@@ -138,20 +138,20 @@ returns-6 c =
     let r = c .twos32 .result in
     let f : SFits w32 r = search needs in
     let e : toZ w32 (ofZ w32 r) ≡ signed 4 (number 4 s) = toZ-ofZ w32 r f ∙ c .twos32 .ensures ∙ ap (signed 4) (c .before .le32 .ensures) in
-    rw e (sym (long-enough (c .before .before .before .before .before .before .before .args .t) ValueType.Int32 s (c .before .before .enum-told5 .given .1) (omega (arith, c .before .before .before .before .before .width .ensures))))
+    with-value-number (c .before .before .before .before .before .before .before .args .t) s (rw e (sym (long-enough (c .before .before .before .before .before .before .before .args .t) ValueType.Int32 s (c .before .before .enum-told5 .given .1) (omega (arith, c .before .before .before .before .before .width .ensures)))))
 
 returns-7 : tie.Need-returns-7
 unfolding width valueOf
 returns-7 c =
     let s = now (c .before .before .before .before .before .before .args .s) in
     let e : c .le322 .result ≡ number 4 s = c .le322 .ensures in
-    rw e (sym (long-enough (c .before .before .before .before .before .before .args .t) ValueType.Uint32 s (c .before .enum-told6 .given .1) (omega (arith, c .before .before .before .before .width .ensures))))
+    with-value-number (c .before .before .before .before .before .before .args .t) s (rw e (sym (long-enough (c .before .before .before .before .before .before .args .t) ValueType.Uint32 s (c .before .enum-told6 .given .1) (omega (arith, c .before .before .before .before .width .ensures)))))
 
 returns-8 : tie.Need-returns-8
 unfolding width valueOf
 returns-8 c =
     let s = now (c .before .before .before .before .before .before .before .args .s) in
-    c .float .ensures ∙ ap (valueOf ValueType.Float) (c .before .le323 .ensures) ∙ sym (long-enough (c .before .before .before .before .before .before .before .args .t) ValueType.Float s (c .before .before .enum-told7 .given .1) (omega (arith, c .before .before .before .before .before .width .ensures)))
+    with-value-number (c .before .before .before .before .before .before .before .args .t) s (c .float .ensures .0 ∙ ap (valueOf ValueType.Float) (c .before .le323 .ensures) ∙ sym (long-enough (c .before .before .before .before .before .before .before .args .t) ValueType.Float s (c .before .before .enum-told7 .given .1) (omega (arith, c .before .before .before .before .before .width .ensures))))
 
 returns-9 : tie.Need-returns-9
 unfolding width valueOf
@@ -160,20 +160,20 @@ returns-9 c =
     let r = c .twos64 .result in
     let f : SFits w64 r = search needs in
     let e : toZ w64 (ofZ w64 r) ≡ signed 8 (number 8 s) = toZ-ofZ w64 r f ∙ c .twos64 .ensures ∙ ap (signed 8) (c .before .le64 .ensures) in
-    rw e (sym (long-enough (c .before .before .before .before .before .before .before .args .t) ValueType.Int64 s (c .before .before .enum-told8 .given .1) (omega (arith, c .before .before .before .before .before .width .ensures))))
+    with-value-number (c .before .before .before .before .before .before .before .args .t) s (rw e (sym (long-enough (c .before .before .before .before .before .before .before .args .t) ValueType.Int64 s (c .before .before .enum-told8 .given .1) (omega (arith, c .before .before .before .before .before .width .ensures)))))
 
 returns-10 : tie.Need-returns-10
 unfolding width valueOf
 returns-10 c =
     let s = now (c .before .before .before .before .before .before .args .s) in
     let e : c .le642 .result ≡ number 8 s = c .le642 .ensures in
-    rw e (sym (long-enough (c .before .before .before .before .before .before .args .t) ValueType.Uint64 s (c .before .enum-told9 .given .1) (omega (arith, c .before .before .before .before .width .ensures))))
+    with-value-number (c .before .before .before .before .before .before .args .t) s (rw e (sym (long-enough (c .before .before .before .before .before .before .args .t) ValueType.Uint64 s (c .before .enum-told9 .given .1) (omega (arith, c .before .before .before .before .width .ensures)))))
 
 returns-11 : tie.Need-returns-11
 unfolding width valueOf
 returns-11 c =
     let s = now (c .before .before .before .before .before .before .before .args .s) in
-    c .double .ensures ∙ ap (valueOf ValueType.Double) (c .before .le643 .ensures) ∙ sym (long-enough (c .before .before .before .before .before .before .before .args .t) ValueType.Double s (c .before .before .enum-told10 .given .1) (omega (arith, c .before .before .before .before .before .width .ensures)))
+    with-value-number (c .before .before .before .before .before .before .before .args .t) s (c .double .ensures .0 ∙ ap (valueOf ValueType.Double) (c .before .le643 .ensures) ∙ sym (long-enough (c .before .before .before .before .before .before .before .args .t) ValueType.Double s (c .before .before .enum-told10 .given .1) (omega (arith, c .before .before .before .before .before .width .ensures))))
 
 pub read-spec : {M : Type 1} → statement M
 read-spec =
