@@ -1,5 +1,6 @@
 pub mod Rows
 pub mod Places
+pub mod Numbers
 pub mod Ranges
 pub mod Stores
 pub mod Walks

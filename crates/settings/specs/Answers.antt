@@ -1,5 +1,8 @@
 -- Document 01's number for each answer of this crate; 0 is no refusal. Assumes nothing: these are definitions.
 use Prim.Native.Nat.{ℕ}
+use mathlib.Core.Bool.{Bool, false, cond, _||_}
+use mathlib.Core.List.{List, [], _∷_}
+use Rattle.settings.specs.Table.{Row, _to_are_with_default_, _to_are-read_, readWriteRows, readOnlyRows, lies}
 use Rattle.settings.specs.declared.Parameter.{Parameter}
 use Rattle.settings.specs.declared.Got.{Got}
 
@@ -14,3 +17,19 @@ abbrev pub getNumber : Got → ℕ
 getNumber (Got.Value v) = 0
 getNumber (Got.ReadOnly t) = 0
 getNumber Got.Unknown = 7
+
+-- ---- when each number is given
+
+-- one of a table's rows has the id
+unfoldable pub has : List Row → ℕ → Bool
+has [] id = false
+has (a to b are t with r default d ∷ rows) id = lies a b id || has rows id
+has (a to b are-read t ∷ rows) id = lies a b id || has rows id
+
+-- 7 where Table 3-25, of the read/write parameters, does not have the id
+unfoldable pub settableNumber : ℕ → ℕ
+settableNumber id = cond (has readWriteRows id) 0 7
+
+-- 7 where neither that table nor Table 3-26, of those that are only read, has the id
+unfoldable pub knownNumber : ℕ → ℕ
+knownNumber id = cond (has readWriteRows id || has readOnlyRows id) 0 7

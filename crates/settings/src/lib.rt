@@ -5,6 +5,7 @@ ghost use lib.IntN.{pos};
 ghost use Rattle.settings.specs.Table.{lies, parameterOf, lowOf, highOf, clampOf, insideOf, from};
 ghost use Rattle.settings.specs.Values.{getOf, setOf, resetOf, defaultsOf, allInside, inRangeOf};
 ghost use Rattle.settings.specs.Places.{placeOf};
+ghost use Rattle.settings.specs.Answers.{setNumber, getNumber, settableNumber, knownNumber};
 
 mod tables;
 
@@ -95,6 +96,7 @@ fn place_of(id: u16) -> Place
 // What an id is, and its type where it is a parameter.
 pub fn parameter_of(id: u16) -> Parameter
     ensures { λ r. ⌜ r ≡ parameterOf id ⌝ }
+    ensures number { λ r. ⌜ setNumber r ≡ settableNumber id ⌝ }
 {
     match place_of(id) {
         Place::Int8(_) => Parameter::ReadWrite(ValueType::Int8),
@@ -123,6 +125,7 @@ pub fn defaults() -> Settings
 // The value of a read/write parameter; of any other id, whether it is read-only or unknown.
 pub fn get(s: Settings, id: u16) -> Got
     ensures { λ r. ⌜ r ≡ getOf s id ⌝ }
+    ensures number { λ r. ⌜ getNumber r ≡ knownNumber id ⌝ }
 {
     let p = place_of(id);
     match p {

@@ -9,6 +9,7 @@ use mir.Val.{SFits}
 use mir.ValLaws.{toZ-ofZ}
 use Rattle.settings.specs.Values.{getOf}
 use Rattle.settings.proofs.Places.{stands-at, reads, readsN}
+use Rattle.settings.proofs.Numbers.{with-got-number}
 use Rattle.settings.proofs.get.Statement.{statement}
 use Rattle.settings.proofs.get.Tie as tie
 
@@ -64,38 +65,40 @@ returns : tie.Need-returns
 returns c =
     let a = stands-at (c .before .before .before .before .before .args .id) (sym (c .before .before .before .before .place-of .ensures) ∙ c .before .before .p .given .1) in
     let f : SFits w8 (getD (c .before .before .before .before .before .args .t1 .i8s) (c .before .before .p .given .0 .0) (pos 0)) = search needs in
-    rw (reads (c .before .before .before .before .before .args .t1) a, toZ-ofZ w8 _ f)
+    with-got-number (c .before .before .before .before .before .args .t1) (c .before .before .before .before .before .args .id) (rw (reads (c .before .before .before .before .before .args .t1) a, toZ-ofZ w8 _ f))
 
 returns-2 : tie.Need-returns-2
 returns-2 c =
     let a = stands-at (c .before .before .before .before .before .args .id) (sym (c .before .before .before .before .place-of .ensures) ∙ c .before .before .p2 .given .1) in
-    rw (reads (c .before .before .before .before .before .args .t1) a, readsN (c .before .before .before .before .before .args .t1 .u8s) (c .before .before .p2 .given .0 .0))
+    with-got-number (c .before .before .before .before .before .args .t1) (c .before .before .before .before .before .args .id) (rw (reads (c .before .before .before .before .before .args .t1) a, readsN (c .before .before .before .before .before .args .t1 .u8s) (c .before .before .p2 .given .0 .0)))
 
 returns-3 : tie.Need-returns-3
 returns-3 c =
     let a = stands-at (c .before .before .before .before .before .args .id) (sym (c .before .before .before .before .place-of .ensures) ∙ c .before .before .p3 .given .1) in
     let f : SFits w16 (getD (c .before .before .before .before .before .args .t1 .i16s) (c .before .before .p3 .given .0 .0) (pos 0)) = search needs in
-    rw (reads (c .before .before .before .before .before .args .t1) a, toZ-ofZ w16 _ f)
+    with-got-number (c .before .before .before .before .before .args .t1) (c .before .before .before .before .before .args .id) (rw (reads (c .before .before .before .before .before .args .t1) a, toZ-ofZ w16 _ f))
 
 returns-4 : tie.Need-returns-4
 returns-4 c =
     let a = stands-at (c .before .before .before .before .before .args .id) (sym (c .before .before .before .before .place-of .ensures) ∙ c .before .before .p4 .given .1) in
-    rw (reads (c .before .before .before .before .before .args .t1) a, readsN (c .before .before .before .before .before .args .t1 .u16s) (c .before .before .p4 .given .0 .0))
+    with-got-number (c .before .before .before .before .before .args .t1) (c .before .before .before .before .before .args .id) (rw (reads (c .before .before .before .before .before .args .t1) a, readsN (c .before .before .before .before .before .args .t1 .u16s) (c .before .before .p4 .given .0 .0)))
 
 returns-5 : tie.Need-returns-5
 returns-5 c =
     let a = stands-at (c .before .before .before .before .before .args .id) (sym (c .before .before .before .before .place-of .ensures) ∙ c .before .before .p5 .given .1) in
-    rw (reads (c .before .before .before .before .before .args .t1) a, readsN (c .before .before .before .before .before .args .t1 .u32s) (c .before .before .p5 .given .0 .0))
+    with-got-number (c .before .before .before .before .before .args .t1) (c .before .before .before .before .before .args .id) (rw (reads (c .before .before .before .before .before .args .t1) a, readsN (c .before .before .before .before .before .args .t1 .u32s) (c .before .before .p5 .given .0 .0)))
 
 returns-6 : tie.Need-returns-6
 unfolding getOf
 returns-6 c =
-    let a = stands-at (c .before .before .before .before .args .id) (sym (c .before .before .before .place-of .ensures) ∙ c .before .p6 .given .1) in rw a
+    let a = stands-at (c .before .before .before .before .args .id) (sym (c .before .before .before .place-of .ensures) ∙ c .before .p6 .given .1) in
+    with-got-number (c .before .before .before .before .args .t1) (c .before .before .before .before .args .id) (rw a)
 
 returns-7 : tie.Need-returns-7
 unfolding getOf
 returns-7 c =
-    let a = stands-at (c .before .before .before .args .id) (sym (c .before .before .place-of .ensures) ∙ c .enum-told .given .1) in rw a
+    let a = stands-at (c .before .before .before .args .id) (sym (c .before .before .place-of .ensures) ∙ c .enum-told .given .1) in
+    with-got-number (c .before .before .before .args .t1) (c .before .before .before .args .id) (rw a)
 
 pub get-spec : {M : Type 1} → statement M
 get-spec =
