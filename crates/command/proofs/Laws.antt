@@ -135,6 +135,9 @@ first-check codes board s =
     ∙ ap (cond (not (headerIs board s)) 3)
     (behind (not (isIn (codeOf s) codes)) _ _ ∙ ap (cond (not (isIn (codeOf s) codes)) 4) (answers-first s (codeOf s)))))
 
+pub with-answer : {r : Decoded} (codes : List ℕ) (board : Header) (s : List ℕ) → r ≡ decodeBy codes board s → (r ≡ decodeBy codes board s) × (answerOf r ≡ first (checks codes board s))
+with-answer codes board s e = (e, ap answerOf e ∙ first-check codes board s)
+
 -- ---- a number is answered exactly when its check applies and none before it does
 -- no check of a list has the number n, and n is not 0
 abbrev absent : ℕ → List Check → Bool

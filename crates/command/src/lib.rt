@@ -3,6 +3,8 @@ ghost use mathlib.Core.Path.{_≡_};
 ghost use Rattle.command.specs.Codes.{isIn, baseCodes};
 ghost use Rattle.command.specs.Table.{table, find};
 ghost use Rattle.command.specs.Decode.{fewerThanFour, headerIs, groupIn, getting, valued, setting, resetting, carried, listed, decodeBy};
+ghost use Rattle.command.specs.Checks.{first, checks};
+ghost use Rattle.command.specs.Answers.{answerOf};
 use settings::Parameter;
 use value::ParamValue;
 use value::Parsed;
@@ -296,6 +298,7 @@ fn by_list(entry: Listed, transfer: &[u8]) -> Decoded
 // What a transfer is to a board with its own header and list of codes: the first check that applies answers.
 pub fn decode(header: Header, codes: &[u8], transfer: &[u8]) -> Decoded
     ensures { λ r. ⌜ r ≡ decodeBy (now (codes .entry)) header (now (transfer .entry)) ⌝ }
+    ensures number { λ r. ⌜ answerOf r ≡ first (checks (now (codes .entry)) header (now (transfer .entry))) ⌝ }
 {
     let code = wire::byte(transfer, 2);
     let short = too_short(transfer);

@@ -19,15 +19,15 @@ enum-told-3 c = search needs
 
 returns : tie.Need-returns
 unfolding getting
-returns c = rw (sym (c .before .before .parameter-of .ensures) ∙ c .enum-told .given .1)
+returns c = rw (sym (c .before .before .parameter-of .ensures .0) ∙ c .enum-told .given .1)
 
 returns-2 : tie.Need-returns-2
 unfolding getting
-returns-2 c = rw (sym (c .before .before .parameter-of .ensures) ∙ c .enum-told2 .given .1)
+returns-2 c = rw (sym (c .before .before .parameter-of .ensures .0) ∙ c .enum-told2 .given .1)
 
 returns-3 : tie.Need-returns-3
 unfolding getting
-returns-3 c = rw (sym (c .before .before .parameter-of .ensures) ∙ c .enum-told3 .given .1)
+returns-3 c = rw (sym (c .before .before .parameter-of .ensures .0) ∙ c .enum-told3 .given .1)
 
 pub get-spec : {M : Type 1} → statement M
 get-spec =

@@ -19,15 +19,15 @@ enum-told-3 c = search needs
 
 returns : tie.Need-returns
 unfolding resetting
-returns c = rw (sym (c .before .before .parameter-of .ensures) ∙ c .enum-told .given .1)
+returns c = rw (sym (c .before .before .parameter-of .ensures .0) ∙ c .enum-told .given .1)
 
 returns-2 : tie.Need-returns-2
 unfolding resetting
-returns-2 c = rw (sym (c .before .before .parameter-of .ensures) ∙ c .enum-told2 .given .1)
+returns-2 c = rw (sym (c .before .before .parameter-of .ensures .0) ∙ c .enum-told2 .given .1)
 
 returns-3 : tie.Need-returns-3
 unfolding resetting
-returns-3 c = rw (sym (c .before .before .parameter-of .ensures) ∙ c .enum-told3 .given .1)
+returns-3 c = rw (sym (c .before .before .parameter-of .ensures .0) ∙ c .enum-told3 .given .1)
 
 pub reset-spec : {M : Type 1} → statement M
 reset-spec =

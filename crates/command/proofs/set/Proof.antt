@@ -28,15 +28,15 @@ enum-told-2 c = search needs
 
 returns : tie.Need-returns
 unfolding setting valuePart
-returns c = rw (sym (c .before .before .before .before .before .before .parameter-of .ensures) ∙ c .before .before .before .before .t .given .1, c .set-to .ensures, c .before .read .ensures, c .before .before .rest .ensures)
+returns c = rw (sym (c .before .before .before .before .before .before .parameter-of .ensures .0) ∙ c .before .before .before .before .t .given .1, c .set-to .ensures, c .before .read .ensures .0, c .before .before .rest .ensures)
 
 returns-2 : tie.Need-returns-2
 unfolding setting valuePart
-returns-2 c = rw (sym (c .before .before .parameter-of .ensures) ∙ c .enum-told .given .1)
+returns-2 c = rw (sym (c .before .before .parameter-of .ensures .0) ∙ c .enum-told .given .1)
 
 returns-3 : tie.Need-returns-3
 unfolding setting valuePart
-returns-3 c = rw (sym (c .before .before .parameter-of .ensures) ∙ c .enum-told2 .given .1)
+returns-3 c = rw (sym (c .before .before .parameter-of .ensures .0) ∙ c .enum-told2 .given .1)
 
 pub set-spec : {M : Type 1} → statement M
 set-spec =

@@ -165,11 +165,11 @@ returns-9 c = rw (c .before .before .c5 .given .1, c .channel-off .ensures)
 
 returns-10 : tie.Need-returns-10
 unfolding runOf
-returns-10 c = rw (c .before .before .enum-told5 .given .1, c .switched-mode .ensures, c .before .to-nominal .ensures, toZ-ofZ w16 (c .before .before .before .before .args .rail) (c .before .before .before .before .fits .rail))
+returns-10 c = rw (c .before .before .enum-told5 .given .1, c .switched-mode .ensures, c .before .to-nominal .ensures .0, toZ-ofZ w16 (c .before .before .before .before .args .rail) (c .before .before .before .before .fits .rail))
 
 returns-11 : tie.Need-returns-11
 unfolding runOf
-returns-11 c = rw (c .before .before .enum-told6 .given .1, c .switched-mode2 .ensures, c .before .to-safety .ensures)
+returns-11 c = rw (c .before .before .enum-told6 .given .1, c .switched-mode2 .ensures, c .before .to-safety .ensures .0)
 
 returns-12 : tie.Need-returns-12
 unfolding runOf faultsOf acceptedOf acceptedWith refusedOf

@@ -21,13 +21,13 @@ enum-told-2 : tie.Need-enum-told-2
 enum-told-2 c = search needs
 
 returns : tie.Need-returns
-returns c = got-is (c .before .before .before .before .before .args .s) (c .before .before .before .before .before .args .id) _ _ (sym (c .before .before .v .given .1) ∙ c .before .before .before .before .get .ensures) (c .bytes .ensures ∙ room-value _)
+returns c = got-is (c .before .before .before .before .before .args .s) (c .before .before .before .before .before .args .id) _ _ (sym (c .before .before .v .given .1) ∙ c .before .before .before .before .get .ensures .0) (c .bytes .ensures ∙ room-value _)
 
 returns-2 : tie.Need-returns-2
-returns-2 c = got-is (c .before .before .before .args .s) (c .before .before .before .args .id) _ _ (sym (c .enum-told .given .1) ∙ c .before .before .get .ensures) room-none
+returns-2 c = got-is (c .before .before .before .args .s) (c .before .before .before .args .id) _ _ (sym (c .enum-told .given .1) ∙ c .before .before .get .ensures .0) room-none
 
 returns-3 : tie.Need-returns-3
-returns-3 c = got-is (c .before .before .before .args .s) (c .before .before .before .args .id) _ _ (sym (c .enum-told2 .given .1) ∙ c .before .before .get .ensures) room-none
+returns-3 c = got-is (c .before .before .before .args .s) (c .before .before .before .args .id) _ _ (sym (c .enum-told2 .given .1) ∙ c .before .before .get .ensures .0) room-none
 
 pub parameter-bytes-spec : {M : Type 1} → statement M
 parameter-bytes-spec =

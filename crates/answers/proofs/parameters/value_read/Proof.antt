@@ -33,15 +33,15 @@ enum-told c = search needs
 returns : tie.Need-returns
 unfolding valueRead roomRead
 returns c =
-    rw (sym (c .before .before .before .before .get .ensures) ∙ c .before .before .v .given .1, c .bytes .ensures) (value-taken _, refl)
+    rw (sym (c .before .before .before .before .get .ensures .0) ∙ c .before .before .v .given .1, c .bytes .ensures) (value-taken _, refl)
 
 returns-2 : tie.Need-returns-2
 unfolding valueRead roomRead
-returns-2 c = rw (sym (c .before .before .before .before .before .before .get .ensures) ∙ c .before .before .before .before .t .given .1, c .bytes64 .ensures, c .before .read-only-number .ensures, c .before .before .width .ensures) (cut-at-width _ _, refl)
+returns-2 c = rw (sym (c .before .before .before .before .before .before .get .ensures .0) ∙ c .before .before .before .before .t .given .1, c .bytes64 .ensures, c .before .read-only-number .ensures, c .before .before .width .ensures) (cut-at-width _ _, refl)
 
 returns-3 : tie.Need-returns-3
 unfolding valueRead roomRead
-returns-3 c = rw (sym (c .before .before .get .ensures) ∙ c .enum-told .given .1) (refl, refl)
+returns-3 c = rw (sym (c .before .before .get .ensures .0) ∙ c .enum-told .given .1) (refl, refl)
 
 pub value-read-spec : {M : Type 1} → statement M
 value-read-spec =

@@ -68,11 +68,11 @@ refused-by-requires c κs = search needs
 
 returns-4 : tie.Need-returns-4
 unfolding askedOf decodeOf
-returns-4 c = rw (not-false (c .before .before .before .before .before .before .before .before .before .before .before .before .args .sent) (c .before .before .before .before .before .before .before .if1 .left), shown (c .before .before .before .before .before .before .before .before .before .too-short .ensures) (c .before .before .before .before .before .before .if2 .left), shown (c .before .before .before .before .before .before .before .before .is-startup .ensures) (c .before .before .before .before .before .if3 .left), sym (c .before .before .before .before .before .before .before .before .before .before .base-codes .ensures), sym (c .before .before .before .decode .ensures), c .before .c .given .1)
+returns-4 c = rw (not-false (c .before .before .before .before .before .before .before .before .before .before .before .before .args .sent) (c .before .before .before .before .before .before .before .if1 .left), shown (c .before .before .before .before .before .before .before .before .before .too-short .ensures) (c .before .before .before .before .before .before .if2 .left), shown (c .before .before .before .before .before .before .before .before .is-startup .ensures) (c .before .before .before .before .before .if3 .left), sym (c .before .before .before .before .before .before .before .before .before .before .base-codes .ensures), sym (c .before .before .before .decode .ensures .0), c .before .c .given .1)
 
 returns-5 : tie.Need-returns-5
 unfolding askedOf decodeOf
-returns-5 c = rw (not-false (c .before .before .before .before .before .before .before .before .before .before .before .before .before .args .sent) (c .before .before .before .before .before .before .before .before .if1 .left), shown (c .before .before .before .before .before .before .before .before .before .before .too-short .ensures) (c .before .before .before .before .before .before .before .if2 .left), shown (c .before .before .before .before .before .before .before .before .before .is-startup .ensures) (c .before .before .before .before .before .before .if3 .left), sym (c .before .before .before .before .before .before .before .before .before .before .before .base-codes .ensures), sym (c .before .before .before .before .decode .ensures), c .before .before .r .given .1, c .refused-by .ensures)
+returns-5 c = rw (not-false (c .before .before .before .before .before .before .before .before .before .before .before .before .before .args .sent) (c .before .before .before .before .before .before .before .before .if1 .left), shown (c .before .before .before .before .before .before .before .before .before .before .too-short .ensures) (c .before .before .before .before .before .before .before .if2 .left), shown (c .before .before .before .before .before .before .before .before .before .is-startup .ensures) (c .before .before .before .before .before .before .if3 .left), sym (c .before .before .before .before .before .before .before .before .before .before .before .base-codes .ensures), sym (c .before .before .before .before .decode .ensures .0), c .before .before .r .given .1, c .refused-by .ensures)
 
 pub asked-of-spec : {M : Type 1} → statement M
 asked-of-spec =
