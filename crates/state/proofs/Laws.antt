@@ -1,6 +1,6 @@
 -- The number of a start. Assumes nothing.
 use mathlib.Core.Bool.{Bool, true, false, cond}
-use mathlib.Core.Path.{_≡_, refl}
+use mathlib.Core.Path.{_≡_, refl, ap, _∙_}
 use Rattle.memory.specs.declared.Store.{Store}
 use Rattle.state.specs.Start.{keepsTheRules, startOf, startNumber}
 use Rattle.state.specs.declared.parts.Board.{Board}
@@ -15,6 +15,9 @@ chosen false x y = refl
 pub number-8 : (there : Board) (p : Profile) (store : Store) → startNumber (startOf there p store .answer) ≡ cond (keepsTheRules p store) 0 8
 unfolding startOf
 number-8 there p store = chosen (keepsTheRules p store) _ _
+
+pub with-number-8 : {r : Started} (there : Board) (p : Profile) (store : Store) → r ≡ startOf there p store → (r ≡ startOf there p store) × (startNumber (r .answer) ≡ cond (keepsTheRules p store) 0 8)
+with-number-8 there p store e = (e, ap (λ (s : Started). startNumber (s .answer)) e ∙ number-8 there p store)
 
 -- and then the board that was there stays
 pub refused-leaves : (there : Board) (p : Profile) (store : Store) → keepsTheRules p store ≡ false → startOf there p store .board ≡ there

@@ -1,6 +1,7 @@
 // Starting a board, and starting it over.
 ghost use mathlib.Core.Path.{_≡_};
-ghost use Rattle.state.specs.Start.{neverReset, freshOf, keepsTheRules, unstartedBoard, startOf, byWatchdog, byCommand, watchdogResetOf, commandResetOf};
+ghost use mathlib.Core.Bool.{cond};
+ghost use Rattle.state.specs.Start.{neverReset, freshOf, keepsTheRules, unstartedBoard, startOf, startNumber, byWatchdog, byCommand, watchdogResetOf, commandResetOf};
 use crate::parts::Board;
 use crate::parts::Cause;
 use crate::parts::Measured;
@@ -99,6 +100,7 @@ pub fn unstarted() -> Board
 // A board from a profile and what is stored; where the profile breaks a rule, the board that was there stays.
 pub fn start(there: Board, profile: Profile, store: Store) -> Started
     ensures { λ r. ⌜ r ≡ startOf there profile store ⌝ }
+    ensures number { λ r. ⌜ startNumber (r .answer) ≡ cond (keepsTheRules profile store) 0 8 ⌝ }
 {
     if keeps_the_rules(profile, store) {
         let board = fresh(profile, store, never_reset());

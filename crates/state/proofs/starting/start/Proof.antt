@@ -2,6 +2,7 @@
 use mathlib.Core.Path.{sym, _∙_}
 use Rattle.state.specs.Start.{startOf}
 use borrow.Author.Needs.{needs}
+use Rattle.state.proofs.Laws.{with-number-8}
 use Rattle.state.proofs.starting.start.Statement.{statement}
 use Rattle.state.proofs.starting.start.Tie as tie
 
@@ -16,11 +17,15 @@ fresh-requires c κs = search needs
 
 returns : tie.Need-returns
 unfolding startOf
-returns c = rw (sym (c .before .before .before .keeps-the-rules .ensures) ∙ c .before .before .if1 .taken, c .fresh .ensures, c .before .never-reset .ensures)
+returns c =
+    let a = c .before .before .before .before .args in
+    with-number-8 (a .there) (a .profile) (a .store) (rw (sym (c .before .before .before .keeps-the-rules .ensures) ∙ c .before .before .if1 .taken, c .fresh .ensures, c .before .never-reset .ensures))
 
 returns-2 : tie.Need-returns-2
 unfolding startOf
-returns-2 c = rw (sym (c .before .keeps-the-rules .ensures) ∙ c .if1 .left)
+returns-2 c =
+    let a = c .before .before .args in
+    with-number-8 (a .there) (a .profile) (a .store) (rw (sym (c .before .keeps-the-rules .ensures) ∙ c .if1 .left))
 
 pub start-spec : {M : Type 1} → statement M
 start-spec =
