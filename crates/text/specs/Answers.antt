@@ -1,5 +1,15 @@
 -- Document 01's number for each answer and the place that it tells. 0 stands for an answer that is no refusal. Assumes nothing: these are definitions.
 use Prim.Native.Nat.{ℕ}
+use mathlib.Core.Bool.{Bool, true, false, cond, not, _&&_, _||_}
+use mathlib.Core.List.{List, [], _∷_}
+use lib.Dec.{ltb}
+use lib.ListN.{length, drop}
+use Rattle.wire.specs.declared.forms.Form.{Form}
+use Rattle.wire.specs.declared.forms.Form.the-variants.{Raw, Ascii}
+use Rattle.hex.specs.Hex.{payloadOf}
+use Rattle.hex.specs.Answers.{isOfForm, bytesIn}
+use Rattle.text.specs.Frames.{startsWith, openingTag, closingTag, frameOf}
+use Rattle.text.specs.Lines.{part, switchText, same}
 use mathlib.Core.Option.{Option, none, some}
 use Rattle.text.specs.declared.frames.Frame.{Frame}
 use Rattle.text.specs.declared.frames.Frame.the-variants.{Found, NotThere}
@@ -35,3 +45,51 @@ lineTells (ScratchTooShort behind) = some behind
 abbrev pub framedNumber : Framed → ℕ
 framedNumber (Written n) = 0
 framedNumber OutputTooShort = 13
+
+-- ---- when each number is given
+
+-- a tag stands somewhere
+unfoldable pub holds : List ℕ → List ℕ → Bool
+holds tag [] = startsWith tag []
+holds tag (x ∷ s) = startsWith tag (x ∷ s) || holds tag s
+
+-- a complete frame is there: behind an opening tag, which has 5 characters, a closing tag stands
+unfoldable pub hasFrame : List ℕ → Bool
+hasFrame [] = false
+hasFrame (x ∷ s) = startsWith openingTag (x ∷ s) && holds closingTag (drop 5 (x ∷ s)) || hasFrame s
+
+-- 10 where no complete frame is there
+abbrev pub scanNumber : List ℕ → ℕ
+scanNumber s = cond (hasFrame s) 0 10
+
+-- the payload of the frame, and the place behind its closing tag
+abbrev pub framedPart : Frame → List ℕ → List ℕ
+framedPart NotThere s = []
+framedPart (Found start end behind) s = part start end s
+
+abbrev pub placeBehind : Frame → Option ℕ
+placeBehind NotThere = none
+placeBehind (Found start end behind) = some behind
+
+-- the text of one of the two switches
+abbrev pub isSwitch : List ℕ → Bool
+isSwitch payload = same payload (switchText Raw) || same payload (switchText Ascii)
+
+abbrev pub inAscii : Form → Bool
+inAscii Raw = false
+inAscii Ascii = true
+
+-- 11 to 13 of the table, for a payload that is no switch
+unfoldable pub commandNumber : Form → List ℕ → ℕ → ℕ
+commandNumber form payload room =
+    cond (ltb 256 (length payload)) 11  -- payload over 256 received bytes, in either form
+    (cond (inAscii form && not (isOfForm payload)) 12  -- ASCII payload not of the form
+    (cond (inAscii form && ltb room (bytesIn (payloadOf payload))) 13  -- scratch too short for the bytes read
+    0))
+
+-- the table of a read from the top: 10 before all, and a switch, which is no refusal, before 11 to 13
+unfoldable pub readingNumber : Form → List ℕ → ℕ → ℕ
+readingNumber form s room =
+    cond (not (hasFrame s)) 10
+    (cond (isSwitch (framedPart (frameOf s) s)) 0
+    (commandNumber form (framedPart (frameOf s) s) room))

@@ -3,6 +3,7 @@ ghost use mathlib.Core.Path.{_≡_};
 ghost use Prim.Native.Nat.{_≤_};
 ghost use lib.ListN.{length, drop};
 ghost use Rattle.text.specs.Frames.{firstAt, placeOf, Sits, frameOf, Inside};
+ghost use Rattle.text.specs.Answers.{frameNumber, scanNumber};
 
 // Where a tag stands: it begins at start, and behind is the place after it.
 pub enum Place {
@@ -55,6 +56,7 @@ pub enum Frame {
 pub fn scan(received: &[u8]) -> Frame
     ensures is { λ r. ⌜ r ≡ frameOf (now (received .entry)) ⌝ }
     ensures inside { λ r. ⌜ Inside r (length (now (received .entry))) ⌝ }
+    ensures number { λ r. ⌜ frameNumber r ≡ scanNumber (now (received .entry)) ⌝ }
 {
     let Place::At {
         start: _,

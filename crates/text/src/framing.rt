@@ -4,8 +4,10 @@ ghost use Prim.Native.Nat.{_+_, _≤_};
 ghost use lib.ListN.{length};
 ghost use lib.Seq.{sets};
 ghost use Rattle.hex.specs.Hex.{laid};
+ghost use Rattle.hex.specs.Answers.{shortNumber};
 ghost use Rattle.text.specs.Lines.{switchText};
 ghost use Rattle.text.specs.Framing.{replyFrame, written, dueText, framedOf, Fits, enclosedOf, enclosedHeld};
+ghost use Rattle.text.specs.Answers.{framedNumber};
 use hex::Written;
 use wire::Form;
 
@@ -39,6 +41,7 @@ fn lay(out: &mut [u8], at: usize, text: &[u8])
 fn copy(text: &[u8], out: &mut [u8]) -> Framed
     ensures answer { λ r. ⌜ r ≡ framedOf (now (text .entry)) (length (now (out .entry))) ⌝ }
     ensures held { λ _. ⌜ now (out .exit) ≡ laid (now (text .entry)) (now (out .entry)) ⌝ }
+    ensures number { λ r. ⌜ framedNumber r ≡ shortNumber (length (now (text .entry))) (length (now (out .entry))) ⌝ }
 {
     if out.len() < text.len() {
         return Framed::OutputTooShort;
@@ -51,6 +54,7 @@ fn copy(text: &[u8], out: &mut [u8]) -> Framed
 fn in_form(form: Form, reply: &[u8], out: &mut [u8]) -> Framed
     ensures answer { λ r. ⌜ r ≡ framedOf (written form (now (reply .entry))) (length (now (out .entry))) ⌝ }
     ensures held { λ _. ⌜ now (out .exit) ≡ laid (written form (now (reply .entry))) (now (out .entry)) ⌝ }
+    ensures number { λ r. ⌜ framedNumber r ≡ shortNumber (length (written form (now (reply .entry)))) (length (now (out .entry))) ⌝ }
 {
     match form {
         Form::Raw => copy(reply, out),
@@ -65,6 +69,7 @@ fn in_form(form: Form, reply: &[u8], out: &mut [u8]) -> Framed
 fn switch_text(form: Form, out: &mut [u8]) -> Framed
     ensures answer { λ r. ⌜ r ≡ framedOf (switchText form) (length (now (out .entry))) ⌝ }
     ensures held { λ _. ⌜ now (out .exit) ≡ laid (switchText form) (now (out .entry)) ⌝ }
+    ensures number { λ r. ⌜ framedNumber r ≡ shortNumber (length (switchText form)) (length (now (out .entry))) ⌝ }
 {
     match form {
         Form::Raw => copy(b"<cfg:raw/>", out),
@@ -78,6 +83,7 @@ fn enclose(inner: Framed, out: &mut [u8]) -> Framed
     requires { ⌜ Fits inner (length (now out)) ⌝ }
     ensures answer { λ r. ⌜ r ≡ enclosedOf inner ⌝ }
     ensures held { λ _. ⌜ now (out .exit) ≡ enclosedHeld inner (now (out .entry)) ⌝ }
+    ensures number { λ r. ⌜ framedNumber r ≡ framedNumber inner ⌝ }
 {
     match inner {
         Framed::Written(n) => {
@@ -93,6 +99,7 @@ fn enclose(inner: Framed, out: &mut [u8]) -> Framed
 fn reply_frame(form: Form, reply: &[u8], out: &mut [u8]) -> Framed
     ensures answer { λ r. ⌜ r ≡ framedOf (replyFrame (written form (now (reply .entry)))) (length (now (out .entry))) ⌝ }
     ensures held { λ _. ⌜ now (out .exit) ≡ laid (replyFrame (written form (now (reply .entry)))) (now (out .entry)) ⌝ }
+    ensures number { λ r. ⌜ framedNumber r ≡ shortNumber (length (replyFrame (written form (now (reply .entry))))) (length (now (out .entry))) ⌝ }
 {
     let room = out.len();
     if room < 13 {
@@ -106,6 +113,7 @@ fn reply_frame(form: Form, reply: &[u8], out: &mut [u8]) -> Framed
 fn echo_frame(form: Form, out: &mut [u8]) -> Framed
     ensures answer { λ r. ⌜ r ≡ framedOf (replyFrame (switchText form)) (length (now (out .entry))) ⌝ }
     ensures held { λ _. ⌜ now (out .exit) ≡ laid (replyFrame (switchText form)) (now (out .entry)) ⌝ }
+    ensures number { λ r. ⌜ framedNumber r ≡ shortNumber (length (replyFrame (switchText form))) (length (now (out .entry))) ⌝ }
 {
     let room = out.len();
     if room < 13 {
@@ -119,6 +127,7 @@ fn echo_frame(form: Form, out: &mut [u8]) -> Framed
 pub fn frame(due: Due, form: Form, reply: &[u8], out: &mut [u8]) -> Framed
     ensures answer { λ r. ⌜ r ≡ framedOf (dueText due form (now (reply .entry))) (length (now (out .entry))) ⌝ }
     ensures held { λ _. ⌜ now (out .exit) ≡ laid (dueText due form (now (reply .entry))) (now (out .entry)) ⌝ }
+    ensures number { λ r. ⌜ framedNumber r ≡ shortNumber (length (dueText due form (now (reply .entry)))) (length (now (out .entry))) ⌝ }
 {
     match due {
         Due::Nothing => Framed::Written(0),

@@ -1,8 +1,12 @@
 // What a read of the text line answers, and the payload that it hands on.
 ghost use mathlib.Core.Path.{_≡_};
+ghost use mathlib.Core.Option.{some};
 ghost use lib.ListN.{length};
 ghost use Rattle.text.specs.Lines.{same, switchOf, part, asciiLine, commandLine, commandHeld, lineOf, lineHeld, payloadIn};
+ghost use Rattle.text.specs.Frames.{frameOf};
+ghost use Rattle.text.specs.Answers.{lineNumber, lineTells, placeBehind, commandNumber, readingNumber};
 ghost use Rattle.hex.specs.Hex.{payloadOf, heldAfter};
+ghost use Rattle.hex.specs.Answers.{payloadNumber};
 use crate::frames::Frame;
 use crate::frames::scan;
 use hex::Payload;
@@ -76,6 +80,8 @@ fn switch_of(payload: &[u8]) -> Switched
 fn ascii_line(payload: &[u8], behind: usize, scratch: &mut [u8]) -> Line
     ensures answer { λ r. ⌜ r ≡ asciiLine behind (now (payload .entry)) (length (now (scratch .entry))) ⌝ }
     ensures held { λ _. ⌜ now (scratch .exit) ≡ heldAfter (payloadOf (now (payload .entry))) (now (scratch .entry)) ⌝ }
+    ensures number { λ r. ⌜ lineNumber r ≡ payloadNumber (now (payload .entry)) (length (now (scratch .entry))) ⌝ }
+    ensures place { λ r. ⌜ lineTells r ≡ some behind ⌝ }
 {
     match hex::read(payload, scratch) {
         Payload::Bytes(n) => Line::Command {
@@ -99,6 +105,8 @@ fn command_line(
 ) -> Line
     ensures answer { λ r. ⌜ r ≡ commandLine form (part start end (now (received .entry))) start end behind (length (now (scratch .entry))) ⌝ }
     ensures held { λ _. ⌜ now (scratch .exit) ≡ commandHeld form (part start end (now (received .entry))) (now (scratch .entry)) ⌝ }
+    ensures number { λ r. ⌜ lineNumber r ≡ commandNumber form (part start end (now (received .entry))) (length (now (scratch .entry))) ⌝ }
+    ensures place { λ r. ⌜ lineTells r ≡ some behind ⌝ }
 {
     let payload = part(received, start, end);
     if payload.len() > MOST {
@@ -115,6 +123,8 @@ fn command_line(
 pub fn read(form: Form, received: &[u8], scratch: &mut [u8]) -> Line
     ensures answer { λ r. ⌜ r ≡ lineOf form (now (received .entry)) (length (now (scratch .entry))) ⌝ }
     ensures held { λ _. ⌜ now (scratch .exit) ≡ lineHeld form (now (received .entry)) (now (scratch .entry)) ⌝ }
+    ensures number { λ r. ⌜ lineNumber r ≡ readingNumber form (now (received .entry)) (length (now (scratch .entry))) ⌝ }
+    ensures place { λ r. ⌜ lineTells r ≡ placeBehind (frameOf (now (received .entry))) ⌝ }
 {
     let Frame::Found { start, end, behind } = scan(received) else {
         return Line::NoFrame;

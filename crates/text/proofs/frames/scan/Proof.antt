@@ -3,6 +3,7 @@ use native.Mathlib.Omega.{arith}
 use mathlib.Core.Path.{sym, _∙_}
 use Rattle.text.proofs.Scanning.{unopened, unclosed, whole}
 use borrow.Author.Needs.{needs}
+use Rattle.text.proofs.Numbers.{with-scan-number}
 use Rattle.text.proofs.frames.scan.Statement.{statement}
 use Rattle.text.proofs.frames.scan.Tie as tie
 
@@ -19,7 +20,7 @@ enum-told : tie.Need-enum-told
 enum-told c = search needs
 
 returns : tie.Need-returns
-returns c = (unopened (c .before .before .before .before .before .args .received .now) (sym (c .before .before .find .ensures .0) ∙ c .enum-told .given .1), tt)
+returns c = let s = c .before .before .before .before .before .args .received .now in with-scan-number s (unopened s (sym (c .before .before .find .ensures .0) ∙ c .enum-told .given .1), tt)
 
 slice-aggregate-find-2 : tie.Need-slice-aggregate-find-2
 slice-aggregate-find-2 c = search needs
@@ -36,12 +37,13 @@ enum-told-2 : tie.Need-enum-told-2
 enum-told-2 c = search needs
 
 returns-2 : tie.Need-returns-2
-returns-2 c = (unclosed (c .before .before .before .before .before .before .before .before .before .before .args .received .now) _ _ (sym (c .before .before .before .before .before .before .before .find .ensures .0) ∙ c .before .before .before .before .before .start .given .1) (sym (c .before .before .find2 .ensures .0) ∙ c .enum-told2 .given .1), tt)
+returns-2 c = let s = c .before .before .before .before .before .before .before .before .before .before .args .received .now in with-scan-number s (unclosed s _ _ (sym (c .before .before .before .before .before .before .before .find .ensures .0) ∙ c .before .before .before .before .before .start .given .1) (sym (c .before .before .find2 .ensures .0) ∙ c .enum-told2 .given .1), tt)
 
 returns-3 : tie.Need-returns-3
 returns-3 c =
     let w = rw (c .before .end .given .1) at (c .before .before .before .find2 .ensures .1) in
-    (whole (c .before .before .before .before .before .before .before .before .before .before .before .args .received .now) _ _ (sym (c .before .before .before .before .before .before .before .before .find .ensures .0) ∙ c .before .before .before .before .before .before .start .given .1) _ _ (sym (c .before .before .before .find2 .ensures .0) ∙ c .before .end .given .1), omega arith)
+    let s = c .before .before .before .before .before .before .before .before .before .before .before .args .received .now in
+    with-scan-number s (whole s _ _ (sym (c .before .before .before .before .before .before .before .before .find .ensures .0) ∙ c .before .before .before .before .before .before .start .given .1) _ _ (sym (c .before .before .before .find2 .ensures .0) ∙ c .before .end .given .1), omega arith)
 
 pub scan-spec : {M : Type 1} → statement M
 scan-spec =

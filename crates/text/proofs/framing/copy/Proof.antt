@@ -6,13 +6,14 @@ use lib.ListN.{length}
 use Rattle.laws.proofs.Lists.{sets-front}
 use Rattle.text.proofs.Enclosing.{framed-fits, framed-short, laid-fits, laid-short}
 use borrow.Author.Needs.{needs}
+use Rattle.text.proofs.Numbers.{with-framed-number}
 use Rattle.text.proofs.framing.copy.Statement.{statement}
 use Rattle.text.proofs.framing.copy.Tie as tie
 
 returns : tie.Need-returns
 returns c =
     let a = c .before .before .before .args in
-    (sym (framed-short (a .text .now) (length (a .out .now)) (omega arith)), sym (laid-short (a .text .now) (a .out .now) (omega arith)))
+    with-framed-number (a .text .now) (length (a .out .now)) (sym (framed-short (a .text .now) (length (a .out .now)) (omega arith)), sym (laid-short (a .text .now) (a .out .now) (omega arith)))
 
 lay-requires : tie.Need-lay-requires
 lay-requires c κs = search needs
@@ -23,7 +24,8 @@ same-length c = search needs
 returns-2 : tie.Need-returns-2
 returns-2 c =
     let a = c .before .before .before .before .before .before .before .args in
-    let h : length (a .text .now) ≤ length (a .out .now) = omega arith in (
+    let h : length (a .text .now) ≤ length (a .out .now) = omega arith in
+    with-framed-number (a .text .now) (length (a .out .now)) (
       sym (framed-fits (a .text .now) (length (a .out .now)) h),
       c .before .before .lay .ensures ∙ sets-front (a .out .now) (a .text .now) h ∙ sym (laid-fits (a .text .now) (a .out .now) h),
     )

@@ -7,6 +7,7 @@ use Rattle.text.specs.Framing.{replyFrame}
 use Rattle.text.specs.Lines.{switchText}
 use Rattle.text.proofs.Enclosing.{frame-length, framed-short, laid-short, enclosed, enclose-fits}
 use borrow.Author.Needs.{needs}
+use Rattle.text.proofs.Numbers.{with-framed-number}
 use Rattle.text.proofs.framing.echo_frame.Statement.{statement}
 use Rattle.text.proofs.framing.echo_frame.Tie as tie
 
@@ -15,7 +16,7 @@ returns c =
     let a = c .before .before .args in
     let text = replyFrame (switchText (a .form)) in
     let short : length (a .out .now) < length text = omega (arith, frame-length (switchText (a .form))) in
-    (sym (framed-short text (length (a .out .now)) short), sym (laid-short text (a .out .now) short))
+    with-framed-number text (length (a .out .now)) (sym (framed-short text (length (a .out .now)) short), sym (laid-short text (a .out .now) short))
 
 sub-switch-text : tie.Need-sub-switch-text
 sub-switch-text c = search needs
@@ -46,8 +47,8 @@ returns-2 c =
     let a = c .before .before .before .before .before .before .before .before .before .before .args in
     let f = c .before .before .before .before .before .before .switch-text in
     let e = c .before .before .enclose .ensures in
-    let w = enclosed (switchText (a .form)) (a .out .now) (omega arith) (f .result) (f .last .1 .0) (f .ensures .0) (f .ensures .1) in
-    (e .0 ∙ w .0, e .1 ∙ w .1)
+    let w = enclosed (switchText (a .form)) (a .out .now) (omega arith) (f .result) (f .last .1 .0) (f .ensures .0) (f .ensures .1 .0) in
+    with-framed-number (replyFrame (switchText (a .form))) (length (a .out .now)) (e .0 ∙ w .0, e .1 .0 ∙ w .1)
 
 pub echo-frame-spec : {M : Type 1} → statement M
 echo-frame-spec =

@@ -33,7 +33,7 @@ same-length : tie.Need-same-length
 same-length c = search needs
 
 returns : tie.Need-returns
-returns c = rw (c .before .before .before .before .before .before .before .before .before .before .before .inner .given .1) (refl, rw (c .before .before .before .before .before .before .before .lay .ensures) at (c .before .before .lay2 .ensures))
+returns c = rw (c .before .before .before .before .before .before .before .before .before .before .before .inner .given .1) (refl, (rw (c .before .before .before .before .before .before .before .lay .ensures) at (c .before .before .lay2 .ensures), refl))
 
 returns-2 : tie.Need-returns-2
 returns-2 c = search needs

@@ -5,6 +5,7 @@ use mathlib.Core.List.{[]}
 use lib.ListN.{length}
 use Rattle.text.proofs.Enclosing.{framed-fits, laid-fits}
 use borrow.Author.Needs.{needs}
+use Rattle.text.proofs.Numbers.{with-framed-number}
 use Rattle.text.proofs.framing.frame.Statement.{statement}
 use Rattle.text.proofs.framing.frame.Tie as tie
 
@@ -26,7 +27,7 @@ echo-frame-requires c κs = search needs
 returns : tie.Need-returns
 returns c =
     let a = c .before .before .before .before .args in
-    rw (c .enum-told .given .1) (sym (framed-fits [] (length (a .out .now)) (omega arith)), sym (laid-fits [] (a .out .now) (omega arith)))
+    rw (c .enum-told .given .1) (with-framed-number [] (length (a .out .now)) (sym (framed-fits [] (length (a .out .now)) (omega arith)), sym (laid-fits [] (a .out .now) (omega arith))))
 
 same-length : tie.Need-same-length
 same-length c = search needs

@@ -4,6 +4,7 @@ use Rattle.hex.specs.Hex.{textOf}
 use mathlib.Core.Path.{sym, ap, _∙_}
 use Rattle.text.proofs.Enclosing.{framed, framed-digits}
 use borrow.Author.Needs.{needs}
+use Rattle.text.proofs.Numbers.{with-framed-number}
 use Rattle.text.proofs.framing.in_form.Statement.{statement}
 use Rattle.text.proofs.framing.in_form.Tie as tie
 
@@ -39,7 +40,7 @@ returns-2 c =
     let a = c .before .before .before .before .before .before .before .before .before .before .before .args in
     let w = c .before .before .before .before .before .write .ensures in
     rw (c .before .before .before .before .before .before .before .enum-told2 .given .1)
-    (sym (ap framed (c .before .n .given .1)) ∙ ap framed (w .0) ∙ framed-digits (textOf (a .reply .now)) (length (a .out .now)), w .1)
+    (with-framed-number (textOf (a .reply .now)) (length (a .out .now)) (sym (ap framed (c .before .n .given .1)) ∙ ap framed (w .0) ∙ framed-digits (textOf (a .reply .now)) (length (a .out .now)), w .1 .0))
 
 same-length-3 : tie.Need-same-length-3
 same-length-3 c = search needs
@@ -49,7 +50,7 @@ returns-3 c =
     let a = c .before .before .before .before .before .before .before .before .before .before .args in
     let w = c .before .before .before .before .write .ensures in
     rw (c .before .before .before .before .before .before .enum-told2 .given .1)
-    (sym (ap framed (c .enum-told3 .given .1)) ∙ ap framed (w .0) ∙ framed-digits (textOf (a .reply .now)) (length (a .out .now)), w .1)
+    (with-framed-number (textOf (a .reply .now)) (length (a .out .now)) (sym (ap framed (c .enum-told3 .given .1)) ∙ ap framed (w .0) ∙ framed-digits (textOf (a .reply .now)) (length (a .out .now)), w .1 .0))
 
 pub in-form-spec : {M : Type 1} → statement M
 in-form-spec =

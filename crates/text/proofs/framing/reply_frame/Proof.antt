@@ -6,6 +6,7 @@ use lib.ListN.{length}
 use Rattle.text.specs.Framing.{replyFrame, written}
 use Rattle.text.proofs.Enclosing.{frame-length, framed-short, laid-short, enclosed, enclose-fits}
 use borrow.Author.Needs.{needs}
+use Rattle.text.proofs.Numbers.{with-framed-number}
 use Rattle.text.proofs.framing.reply_frame.Statement.{statement}
 use Rattle.text.proofs.framing.reply_frame.Tie as tie
 
@@ -14,7 +15,7 @@ returns c =
     let a = c .before .before .before .args in
     let text = replyFrame (written (a .form) (a .reply .now)) in
     let short : length (a .out .now) < length text = omega (arith, frame-length (written (a .form) (a .reply .now))) in
-    (sym (framed-short text (length (a .out .now)) short), sym (laid-short text (a .out .now) short))
+    with-framed-number text (length (a .out .now)) (sym (framed-short text (length (a .out .now)) short), sym (laid-short text (a .out .now) short))
 
 sub-in-form : tie.Need-sub-in-form
 sub-in-form c = search needs
@@ -45,8 +46,8 @@ returns-2 c =
     let a = c .before .before .before .before .before .before .before .before .before .before .before .args in
     let f = c .before .before .before .before .before .before .in-form in
     let e = c .before .before .enclose .ensures in
-    let w = enclosed (written (a .form) (a .reply .now)) (a .out .now) (omega arith) (f .result) (f .last .1 .1 .0) (f .ensures .0) (f .ensures .1) in
-    (e .0 ∙ w .0, e .1 ∙ w .1)
+    let w = enclosed (written (a .form) (a .reply .now)) (a .out .now) (omega arith) (f .result) (f .last .1 .1 .0) (f .ensures .0) (f .ensures .1 .0) in
+    with-framed-number (replyFrame (written (a .form) (a .reply .now))) (length (a .out .now)) (e .0 ∙ w .0, e .1 .0 ∙ w .1)
 
 pub reply-frame-spec : {M : Type 1} → statement M
 reply-frame-spec =

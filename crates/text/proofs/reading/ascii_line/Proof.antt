@@ -2,6 +2,8 @@
 use mathlib.Core.Path.{sym, _∙_}
 use borrow.Author.Needs.{needs}
 use Rattle.text.specs.Lines.{asciiLine}
+use lib.ListN.{length}
+use Rattle.text.proofs.Numbers.{with-ascii-number}
 use Rattle.text.proofs.reading.ascii_line.Statement.{statement}
 use Rattle.text.proofs.reading.ascii_line.Tie as tie
 
@@ -22,21 +24,27 @@ same-length c = search needs
 
 returns : tie.Need-returns
 unfolding asciiLine
-returns c = (rw (sym (c .before .before .before .before .before .read .ensures .0) ∙ c .before .n .given .1), c .before .before .before .before .before .read .ensures .1)
+returns c =
+    let a = c .before .before .before .before .before .before .before .before .before .args in
+    with-ascii-number (a .behind) (a .payload .now) (length (a .scratch .now)) (rw (sym (c .before .before .before .before .before .read .ensures .0) ∙ c .before .n .given .1), c .before .before .before .before .before .read .ensures .1 .0)
 
 same-length-2 : tie.Need-same-length-2
 same-length-2 c = search needs
 
 returns-2 : tie.Need-returns-2
 unfolding asciiLine
-returns-2 c = (rw (sym (c .before .before .before .before .read .ensures .0) ∙ c .enum-told .given .1), c .before .before .before .before .read .ensures .1)
+returns-2 c =
+    let a = c .before .before .before .before .before .before .before .before .args in
+    with-ascii-number (a .behind) (a .payload .now) (length (a .scratch .now)) (rw (sym (c .before .before .before .before .read .ensures .0) ∙ c .enum-told .given .1), c .before .before .before .before .read .ensures .1 .0)
 
 same-length-3 : tie.Need-same-length-3
 same-length-3 c = search needs
 
 returns-3 : tie.Need-returns-3
 unfolding asciiLine
-returns-3 c = (rw (sym (c .before .before .before .before .read .ensures .0) ∙ c .enum-told2 .given .1), c .before .before .before .before .read .ensures .1)
+returns-3 c =
+    let a = c .before .before .before .before .before .before .before .before .args in
+    with-ascii-number (a .behind) (a .payload .now) (length (a .scratch .now)) (rw (sym (c .before .before .before .before .read .ensures .0) ∙ c .enum-told2 .given .1), c .before .before .before .before .read .ensures .1 .0)
 
 pub ascii-line-spec : {M : Type 1} → statement M
 ascii-line-spec =

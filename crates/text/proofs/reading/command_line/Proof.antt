@@ -3,6 +3,8 @@ use borrow.Author.Tests.{lt-ltb, le-ltb}
 use mathlib.Core.Path.{refl}
 use Rattle.text.specs.Lines.{part, commandLine, commandHeld}
 use borrow.Author.Needs.{needs}
+use lib.ListN.{length}
+use Rattle.text.proofs.Numbers.{with-command-number}
 use Rattle.text.proofs.reading.command_line.Statement.{statement}
 use Rattle.text.proofs.reading.command_line.Tie as tie
 
@@ -13,7 +15,8 @@ returns : tie.Need-returns
 unfolding commandLine commandHeld
 returns c =
     let long = lt-ltb 256 _ (c .if1 .taken) in
-    rw (← c .before .part .ensures, long) (refl, refl)
+    let a = c .before .before .before .before .args in
+    with-command-number (a .form) (part (a .start) (a .end) (a .received .now)) (a .start) (a .end) (a .behind) (length (a .scratch .now)) (rw (← c .before .part .ensures, long) (refl, refl))
 
 enum-told : tie.Need-enum-told
 enum-told c = search needs
@@ -28,7 +31,8 @@ returns-2 : tie.Need-returns-2
 unfolding commandLine commandHeld
 returns-2 c =
     let short = le-ltb 256 _ (c .before .before .if1 .left) in
-    rw (← c .before .before .before .part .ensures, short, c .enum-told .given .1) (refl, refl)
+    let a = c .before .before .before .before .before .before .args in
+    with-command-number (a .form) (part (a .start) (a .end) (a .received .now)) (a .start) (a .end) (a .behind) (length (a .scratch .now)) (rw (← c .before .before .before .part .ensures, short, c .enum-told .given .1) (refl, refl))
 
 same-length : tie.Need-same-length
 same-length c = search needs
@@ -37,7 +41,8 @@ returns-3 : tie.Need-returns-3
 unfolding commandLine commandHeld
 returns-3 c =
     let short = le-ltb 256 _ (c .before .before .before .before .before .before .if1 .left) in
-    rw (← c .before .before .before .before .before .before .before .part .ensures, short, c .before .before .before .before .enum-told2 .given .1) (c .before .before .ascii-line .ensures)
+    let a = c .before .before .before .before .before .before .before .before .before .before .args in
+    with-command-number (a .form) (part (a .start) (a .end) (a .received .now)) (a .start) (a .end) (a .behind) (length (a .scratch .now)) (rw (← c .before .before .before .before .before .before .before .part .ensures, short, c .before .before .before .before .enum-told2 .given .1) (c .before .before .ascii-line .ensures .0, c .before .before .ascii-line .ensures .1 .0))
 
 pub command-line-spec : {M : Type 1} → statement M
 command-line-spec =

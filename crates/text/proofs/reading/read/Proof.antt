@@ -2,6 +2,8 @@
 use mathlib.Core.Path.{refl, sym, _∙_}
 use Rattle.text.specs.Lines.{lineOf, lineHeld, part}
 use borrow.Author.Needs.{needs}
+use lib.ListN.{length}
+use Rattle.text.proofs.Numbers.{with-line-number}
 use Rattle.text.proofs.reading.read.Statement.{statement}
 use Rattle.text.proofs.reading.read.Tie as tie
 
@@ -16,7 +18,9 @@ enum-told c = search needs
 
 returns : tie.Need-returns
 unfolding lineOf lineHeld
-returns c = rw (sym (c .before .before .scan .ensures .0) ∙ c .enum-told .given .1) (refl, refl)
+returns c =
+    let a = c .before .before .before .before .before .args in
+    with-line-number (a .form) (a .received .now) (length (a .scratch .now)) (rw (sym (c .before .before .scan .ensures .0) ∙ c .enum-told .given .1) (refl, refl))
 
 part-requires : tie.Need-part-requires
 part-requires c κs = search needs
@@ -38,7 +42,8 @@ unfolding lineOf lineHeld
 returns-2 c =
     let scanned = sym (c .before .before .before .before .before .before .before .before .scan .ensures .0) ∙ c .before .before .before .before .before .before .start .given .1 in
     let switched = rw (c .before .before .before .before .part .ensures) at (sym (c .before .before .before .switch-of .ensures) ∙ c .before .new .given .1) in
-    rw (scanned, switched) (refl, refl)
+    let a = c .before .before .before .before .before .before .before .before .before .before .before .args in
+    with-line-number (a .form) (a .received .now) (length (a .scratch .now)) (rw (scanned, switched) (refl, refl))
 
 same-length : tie.Need-same-length
 same-length c = search needs
@@ -48,7 +53,8 @@ unfolding lineOf lineHeld
 returns-3 c =
     let scanned = sym (c .before .before .before .before .before .before .before .before .before .before .before .scan .ensures .0) ∙ c .before .before .before .before .before .before .before .before .before .start .given .1 in
     let switched = rw (c .before .before .before .before .before .before .before .part .ensures) at (sym (c .before .before .before .before .before .before .switch-of .ensures) ∙ c .before .before .before .before .enum-told2 .given .1) in
-    rw (scanned, switched) (c .before .before .command-line .ensures)
+    let a = c .before .before .before .before .before .before .before .before .before .before .before .before .before .before .args in
+    with-line-number (a .form) (a .received .now) (length (a .scratch .now)) (rw (scanned, switched) (c .before .before .command-line .ensures .0, c .before .before .command-line .ensures .1 .0))
 
 pub read-spec : {M : Type 1} → statement M
 read-spec =
