@@ -5,10 +5,12 @@ use mathlib.Core.Path.{_≡_, refl, ap, sym, subst, _∙_}
 use mathlib.Core.Bool.{Bool, true, false, cond, not, false≢true}
 use mathlib.Core.Logic.{_⊎_, inl, inr, ⊎-elim}
 use mathlib.Core.List.{List}
-use mathlib.Core.Option.{some}
+use mathlib.Core.Option.{Option, none, some}
 use native.Mathlib.Omega.{arith}
 use lib.IntN.{ℤ}
 use lib.ListN.{length}
+use borrow.Author.Tests.{ne-eqb}
+use Rattle.laws.proofs.Cases.{cases}
 use Rattle.modes.specs.Commands.{toSafety, toNominal}
 use Rattle.modes.specs.declared.Limits.{Limits}
 use Rattle.modes.specs.declared.Commanded as change
@@ -36,7 +38,9 @@ use Rattle.answers.specs.declared.Outcome.the-variants.{NoTransfer, Answered}
 use Rattle.answers.specs.declared.Commanded.{Commanded}
 use Rattle.effects.specs.Effects.{isNominal, switchedOf, groupOnOf, groupOffOf, groupStateOf, channelOnOf, channelOffOf, cancelledOf, switchedModeOf, faultsOf, housekeepingOf, parameterOf, rememberedOf, savedIn, restartedOf, runOf}
 use Rattle.commands.specs.Step.{isStartup, turnedDown, decodedOf, transferredOf, commandedOf}
-use Rattle.board.specs.Tick.{risenOf, changedOf, trippedOf, watchedAs, watchedIn, tickWith, allowedCount, tickOf}
+use Rattle.board.specs.Tick.{risenOf, changedOf, trippedOf, watchedAs, watchedIn, tickWith, allowedCount, tells, tickOf}
+use Rattle.board.specs.declared.Ticked.{Ticked}
+use Rattle.board.proofs.Laws.{number-9}
 
 -- ---- every transfer is answered. Where a reply is made it is the same whatever reply r waited before; the form of the text line stays, but for a reset by command
 record Answers (b : Board) (c other : Commanded) : Type 0 where
@@ -152,6 +156,20 @@ only-9 rail named words sent s b allowed = told (λ o. toldNumber o ≡ some 9 �
 
     answers : (answer : Answer) → toldNumber (Answered answer) ≡ some 9 → ⊥
     answers answer e = let n : numberOf answer ≡ 9 = cc in below answer n
+
+tells-other : (o : Option ℕ) → (o ≡ some 9 → ⊥) → tells 9 o ≡ false
+tells-other none n = refl
+tells-other (some m) n = ne-eqb 9 m (λ e. n (ap some (sym e)))
+
+module _ (rail : ℤ) (named : ℕ) (words : List ℕ) (sent : Bool) (s : List ℕ) (b : Board) where
+  pub tells-9 : tells 9 (toldNumber (tickOf rail named words sent s b .outcome)) ≡ not (allowedCount (length words))
+  tells-9 =
+      cases (allowedCount (length words))
+      (λ t. rw t (tells-other _ (only-9 rail named words sent s b t)))
+      (λ f. rw f (ap (tells 9) (number-9 rail named words sent s b f)))
+
+  pub with-number-9 : {r : Ticked} → r ≡ tickOf rail named words sent s b → (r ≡ tickOf rail named words sent s b) × (tells 9 (toldNumber (r .outcome)) ≡ not (allowedCount (length words)))
+  with-number-9 e = (e, ap (λ (t : Ticked). tells 9 (toldNumber (t .outcome))) e ∙ tells-9)
 
 -- ---- the reply and the form
 made-in : (r : Reply) (rail : ℤ) (limits : Limits) (s : List ℕ) (b : Board) (sent : Bool) → commandedOf rail limits sent s b .replied ≡ true

@@ -3,6 +3,7 @@
 use Prim.Native.Nat.{ℕ}
 use mathlib.Core.Bool.{Bool, true, false, cond, not, _||_}
 use mathlib.Core.List.{List}
+use mathlib.Core.Option.{Option, none, some}
 use lib.Dec.{eqb}
 use lib.IntN.{ℤ}
 use lib.ListN.{length}
@@ -70,6 +71,11 @@ allowedCount n = eqb n 0 || eqb n 122
 
 abbrev pub notHappened : Board → Ticked
 notHappened b = record { board = b; outcome = WrongWordCount; event = NoEvent; replied = false }
+
+-- a number is the one that is told
+abbrev pub tells : ℕ → Option ℕ → Bool
+tells n none = false
+tells n (some m) = eqb n m
 
 -- the limits are the board's own
 unfoldable pub tickOf : ℤ → ℕ → List ℕ → Bool → List ℕ → Board → Ticked

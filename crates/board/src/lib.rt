@@ -1,10 +1,13 @@
 // One tick of a board: five steps, one after another.
 ghost use mathlib.Core.List.{[]};
 ghost use mathlib.Core.Path.{_≡_};
+ghost use mathlib.Core.Bool.{not};
+ghost use lib.ListN.{length};
+ghost use Rattle.answers.specs.Answers.{toldNumber};
 ghost use Rattle.channels.specs.Operations.{overcurrentAt};
 ghost use Rattle.state.specs.Change.{enteringOf};
 ghost use Rattle.board.specs.Parts.{settledIn, measuredAs, isReset};
-ghost use Rattle.board.specs.Tick.{broughtBy, risenOf, changedOf, trippedOf, allowedCount, tickOf};
+ghost use Rattle.board.specs.Tick.{broughtBy, risenOf, changedOf, trippedOf, allowedCount, tells, tickOf};
 use answers::Outcome;
 use channels::Channels;
 use modes::Limits;
@@ -112,6 +115,7 @@ pub fn tick(
     transfer: &[u8],
 ) -> Ticked
     ensures { λ r. ⌜ r ≡ tickOf rail overcurrent (now (words .entry)) sent (now (transfer .entry)) b ⌝ }
+    ensures number { λ r. ⌜ tells 9 (toldNumber (r .outcome)) ≡ not (allowedCount (length (now (words .entry)))) ⌝ }
 {
     let mut outcome = Outcome::WrongWordCount;
     let mut event = Event::NoEvent;

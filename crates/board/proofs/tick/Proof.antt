@@ -13,6 +13,7 @@ use Rattle.commands.specs.Step.{commandedOf}
 use Rattle.board.specs.Parts.{settledIn, measuredAs}
 use Rattle.board.specs.Tick.{risenOf, changedOf, trippedOf, tickOf}
 use Rattle.board.proofs.InPlace.{found, found-apart, one-sent, none-sent, kept, lost}
+use Rattle.board.proofs.Happened.{with-number-9}
 use Rattle.board.proofs.tick.Statement.{statement}
 use Rattle.board.proofs.tick.Tie as tie
 use Rattle.board.proofs.tick.Reads as reads
@@ -91,27 +92,32 @@ obeyed c =
 returns : tie.Need-returns
 returns c =
     let a = c .before .before .before .before .before .before .before .before .before .before .before .before .before .before .before .before .before .before .before .before .before .args in
-    rw (c .watchdog-reset .ensures)
+    with-number-9 (a .rail) (a .overcurrent) (now (a .words)) (a .sent) (now (a .transfer)) (a .t1)
+    (rw (c .watchdog-reset .ensures)
     (lost (a .rail) (a .overcurrent) (now (a .words)) (a .sent) (now (a .transfer)) (a .t1)
     (sym (c .before .before .before .before .before .before .before .before .before .before .before .before .before .before .before .before .before .before .is-allowed .ensures) ∙ c .before .before .before .before .before .before .before .before .before .before .before .before .before .before .before .before .before .if1 .taken)
     (madeAt (c .before .before .before .before .before .before .before)) (obeyed (c .before .before .before .before .before .before .before))
     (c .before .before .before .watched .result)
     (c .before .before .before .watched .ensures ∙ rw (c .before .before .before .before .seconds-in-ticks .ensures, c .before .before .before .before .before .timeout .ensures))
-    (sym (c .before .before .is-reset .ensures) ∙ c .before .if3 .taken))
+    (sym (c .before .before .is-reset .ensures) ∙ c .before .if3 .taken)))
 
 returns-2 : tie.Need-returns-2
 returns-2 c =
     let a = c .before .before .before .before .before .before .before .before .before .before .before .before .before .before .before .before .before .before .before .before .args in
-    kept (a .rail) (a .overcurrent) (now (a .words)) (a .sent) (now (a .transfer)) (a .t1)
+    with-number-9 (a .rail) (a .overcurrent) (now (a .words)) (a .sent) (now (a .transfer)) (a .t1)
+    (kept (a .rail) (a .overcurrent) (now (a .words)) (a .sent) (now (a .transfer)) (a .t1)
     (sym (c .before .before .before .before .before .before .before .before .before .before .before .before .before .before .before .before .before .is-allowed .ensures) ∙ c .before .before .before .before .before .before .before .before .before .before .before .before .before .before .before .before .if1 .taken)
     (madeAt (c .before .before .before .before .before .before)) (obeyed (c .before .before .before .before .before .before))
     (c .before .before .watched .result)
     (c .before .before .watched .ensures ∙ rw (c .before .before .before .seconds-in-ticks .ensures, c .before .before .before .before .timeout .ensures))
-    (sym (c .before .is-reset .ensures) ∙ c .if3 .left)
+    (sym (c .before .is-reset .ensures) ∙ c .if3 .left))
 
 returns-3 : tie.Need-returns-3
 unfolding tickOf
-returns-3 c = rw (sym (c .before .is-allowed .ensures), c .if1 .left)
+returns-3 c =
+    let a = c .before .before .before .before .args in
+    with-number-9 (a .rail) (a .overcurrent) (now (a .words)) (a .sent) (now (a .transfer)) (a .t1)
+    (rw (sym (c .before .is-allowed .ensures), c .if1 .left))
 
 pub tick-spec : {M : Type 1} → statement M
 tick-spec =
