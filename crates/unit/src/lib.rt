@@ -1,10 +1,17 @@
 // What a bench calls, in one place. Every call takes a machine by value, and hands it back where it changes.
 ghost use mathlib.Core.Path.{_≡_};
+ghost use mathlib.Core.Bool.{cond, not};
 ghost use lib.ListN.{length};
 ghost use Rattle.wire.specs.Replies.{found};
 ghost use Rattle.hex.specs.Hex.{laid};
+ghost use Rattle.hex.specs.Answers.{shortNumber};
 ghost use Rattle.text.specs.Lines.{lineHeld, payloadIn};
 ghost use Rattle.text.specs.Framing.{framedOf};
+ghost use Rattle.text.specs.Frames.{frameOf};
+ghost use Rattle.text.specs.Answers.{lineNumber, lineTells, framedNumber, placeBehind, readingNumber};
+ghost use Rattle.state.specs.Start.{keepsTheRules, startNumber};
+ghost use Rattle.answers.specs.Answers.{toldNumber};
+ghost use Rattle.board.specs.Tick.{allowedCount, tells};
 ghost use Rattle.unit.specs.Machine.{noMachine, begunOf, dueBy, dueAfter, toldOf, afterLine, heardOf, dueOf};
 use answers::Outcome;
 use memory::Store;
@@ -56,6 +63,7 @@ pub fn unstarted() -> Machine
 // Starts a machine from a profile and what is stored; where the profile breaks a rule, the machine that was there stays.
 pub fn start(there: Machine, profile: Profile, store: Store) -> Begun
     ensures { λ r. ⌜ r ≡ begunOf there profile store ⌝ }
+    ensures number { λ r. ⌜ startNumber (r .answer) ≡ cond (keepsTheRules profile store) 0 8 ⌝ }
 {
     let s = state::start(there.board, profile, store);
     let answer = s.answer;
@@ -104,6 +112,7 @@ pub fn tick(
     transfer: &[u8],
 ) -> Told
     ensures { λ r. ⌜ r ≡ toldOf rail overcurrent (now (words .entry)) sent (now (transfer .entry)) m ⌝ }
+    ensures number { λ r. ⌜ tells 9 (toldNumber (r .outcome)) ≡ not (allowedCount (length (now (words .entry)))) ⌝ }
 {
     let t = board::tick(m.board, rail, overcurrent, words, sent, transfer);
     let board = t.board;
@@ -152,6 +161,8 @@ fn after_line(m: Machine, line: Line) -> Machine
 pub fn read_line(m: Machine, received: &[u8], scratch: &mut [u8]) -> Heard
     ensures answer { λ r. ⌜ r ≡ heardOf (now (received .entry)) (length (now (scratch .entry))) m ⌝ }
     ensures held { λ _. ⌜ now (scratch .exit) ≡ lineHeld (m .board .form) (now (received .entry)) (now (scratch .entry)) ⌝ }
+    ensures number { λ r. ⌜ lineNumber (r .line) ≡ readingNumber (m .board .form) (now (received .entry)) (length (now (scratch .entry))) ⌝ }
+    ensures place { λ r. ⌜ lineTells (r .line) ≡ placeBehind (frameOf (now (received .entry))) ⌝ }
 {
     let b = m.board;
     let form = b.form;
@@ -183,6 +194,7 @@ pub fn payload<'a>(
 pub fn frame(m: Machine, out: &mut [u8]) -> Framed
     ensures answer { λ r. ⌜ r ≡ framedOf (dueOf m) (length (now (out .entry))) ⌝ }
     ensures held { λ _. ⌜ now (out .exit) ≡ laid (dueOf m) (now (out .entry)) ⌝ }
+    ensures number { λ r. ⌜ framedNumber r ≡ shortNumber (length (dueOf m)) (length (now (out .entry))) ⌝ }
 {
     let due = m.due;
     let b = m.board;

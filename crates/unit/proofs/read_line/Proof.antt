@@ -1,5 +1,4 @@
 -- The read's answer, and the machine after it. Assumes nothing.
-use mathlib.Core.Path.{refl}
 use Rattle.unit.specs.Machine.{heardOf}
 use borrow.Author.Needs.{needs}
 use Rattle.unit.proofs.read_line.Statement.{statement}
@@ -16,7 +15,9 @@ same-length c = search needs
 
 returns : tie.Need-returns
 unfolding heardOf
-returns c = rw (c .after-line .ensures, c .before .before .before .read .ensures .0) (refl, c .before .before .before .read .ensures .1)
+returns c =
+    let read = c .before .before .before .read .ensures in
+    (rw (c .after-line .ensures, read .0), read .1)
 
 pub read-line-spec : {M : Type 1} → statement M
 read-line-spec = tie.close (tie.spec read-requires after-line-requires same-length returns)

@@ -15,11 +15,11 @@ enum-told-2 c = search needs
 
 returns : tie.Need-returns
 unfolding begunOf
-returns c = rw (← c .before .before .before .start .ensures, c .enum-told .given .1)
+returns c = (rw (← c .before .before .before .start .ensures .0, c .enum-told .given .1), rw (c .enum-told .given .1) at (c .before .before .before .start .ensures .1))
 
 returns-2 : tie.Need-returns-2
 unfolding begunOf
-returns-2 c = rw (← c .before .before .before .start .ensures, c .enum-told2 .given .1)
+returns-2 c = (rw (← c .before .before .before .start .ensures .0, c .enum-told2 .given .1), rw (c .enum-told2 .given .1) at (c .before .before .before .start .ensures .1))
 
 pub start-spec : {M : Type 1} → statement M
 start-spec = tie.close (tie.spec start-requires enum-told enum-told-2 returns returns-2)
