@@ -1,4 +1,4 @@
--- Which number is given when: what the answers' definitions come to, in document 01's conditions. Assumes nothing.
+-- Which number is given when: the answers' definitions in document 01's conditions. Assumes nothing.
 use Prim.Native.Nat.{ℕ, _≤_, _<_}
 use mathlib.Core.Path.{_≡_, refl, ap, _∙_}
 use mathlib.Core.Bool.{Bool, true, false, cond, not, _&&_}

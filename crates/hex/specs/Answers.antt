@@ -37,11 +37,12 @@ wordNumber NotEight = 14
 abbrev pub shortNumber : ℕ → ℕ → ℕ
 shortNumber needed room = cond (ltb room needed) 13 0
 
--- what is worth something is a hex digit, of either case, or a pair of them
+-- what is worth something
 abbrev pub isGood : Hex → Bool
 isGood (Value v) = true
 isGood Bad = false
 
+-- a hex digit, of either case
 abbrev pub isDigit : ℕ → Bool
 isDigit x = isGood (digitOf x)
 
@@ -52,7 +53,7 @@ isOfForm (a ∷ []) = false
 isOfForm (a ∷ b ∷ []) = isDigit a && isDigit b
 isOfForm (a ∷ b ∷ c ∷ text) = isDigit a && isDigit b && eqb c 32 && isOfForm text
 
--- how many bytes are read
+-- how many bytes are read of what a text spells
 abbrev pub bytesIn : Option (List ℕ) → ℕ
 bytesIn none = 0
 bytesIn (some bytes) = length bytes
@@ -63,10 +64,11 @@ payloadNumber text room =
     cond (not (isOfForm text)) 12
     (shortNumber (bytesIn (payloadOf text)) room)
 
+-- hex digits and nothing else
 unfoldable pub areDigits : List ℕ → Bool
 areDigits [] = true
 areDigits (x ∷ text) = isDigit x && areDigits text
 
--- eight hex digits and nothing else
+-- eight of them
 unfoldable pub isEightDigits : List ℕ → Bool
 isEightDigits text = eqb (length text) 8 && areDigits text

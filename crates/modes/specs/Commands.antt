@@ -39,10 +39,11 @@ abbrev pub answer : Commanded → ℕ
 answer (Accepted s) = 0
 answer Unavailable = 6
 
--- 6 is told by 0x32 in emergency, and by 0x30 in emergency and in safety unless the rail is at least safety low
+-- 6 is told by 0x32 in emergency
 abbrev pub safetyUnavailable : Mode → Bool
 safetyUnavailable m = same Startup m || same Emergency m
 
+-- and by 0x30 in emergency, and in safety unless the rail is at least safety low
 abbrev pub nominalUnavailable : Mode → ℤ → Limits → Bool
 nominalUnavailable m rail limits = same Startup m || same Emergency m || (same Safety m && not (rail at-least limits .«safety_low»))
 

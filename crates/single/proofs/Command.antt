@@ -12,4 +12,4 @@ pub single-base-codes : Single base-codes.Post (λ κ r s. r)
 single-base-codes κ a r r′ s s′ p q = p ∙ sym q
 
 pub single-decode : Single decode.Post (λ κ r s. r)
-single-decode κ a r r′ s s′ p q = p ∙ sym q
+single-decode κ a r r′ s s′ p q = p .0 ∙ sym (q .0)

@@ -19,16 +19,16 @@ pub single-read : Single read.Post (λ κ r s. r)
 single-read κ a r r′ s s′ p q = p .0 ∙ sym (q .0)
 
 pub held-read : Single read.Post (λ κ r s. now (s .1 .0))
-held-read κ a r r′ s s′ p q = p .1 ∙ sym (q .1)
+held-read κ a r r′ s s′ p q = p .1 .0 ∙ sym (q .1 .0)
 
 pub single-write : Single write.Post (λ κ r s. r)
 single-write κ a r r′ s s′ p q = p .0 ∙ sym (q .0)
 
 pub held-write : Single write.Post (λ κ r s. now (s .1 .0))
-held-write κ a r r′ s s′ p q = p .1 ∙ sym (q .1)
+held-write κ a r r′ s s′ p q = p .1 .0 ∙ sym (q .1 .0)
 
 pub single-read-word : Single read-word.Post (λ κ r s. r)
-single-read-word κ a r r′ s s′ p q = p ∙ sym q
+single-read-word κ a r r′ s s′ p q = p .0 ∙ sym (q .0)
 
 pub single-write-word : Single write-word.Post (λ κ r s. r)
 single-write-word κ a r r′ s s′ p q = p ∙ sym q

@@ -29,7 +29,7 @@ pub single-modeage-step : Single modeage-step.Post (λ κ r s. r)
 single-modeage-step κ a r r′ s s′ p q = p ∙ sym q
 
 pub single-modeage-to-safety : Single modeage-to-safety.Post (λ κ r s. r)
-single-modeage-to-safety κ a r r′ s s′ p q = p ∙ sym q
+single-modeage-to-safety κ a r r′ s s′ p q = p .0 ∙ sym (q .0)
 
 pub single-modeage-to-nominal : Single modeage-to-nominal.Post (λ κ r s. r)
-single-modeage-to-nominal κ a r r′ s s′ p q = p ∙ sym q
+single-modeage-to-nominal κ a r r′ s s′ p q = p .0 ∙ sym (q .0)

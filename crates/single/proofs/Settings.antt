@@ -9,13 +9,13 @@ use Rattle.settings.proofs.reset_one.Reads as reset-one
 use Rattle.settings.proofs.in_range.Reads as in-range
 
 pub single-parameter-of : Single parameter-of.Post (λ κ r s. r)
-single-parameter-of κ a r r′ s s′ p q = p ∙ sym q
+single-parameter-of κ a r r′ s s′ p q = p .0 ∙ sym (q .0)
 
 pub single-defaults : Single defaults.Post (λ κ r s. r)
 single-defaults κ a r r′ s s′ p q = p ∙ sym q
 
 pub single-get : Single get.Post (λ κ r s. r)
-single-get κ a r r′ s s′ p q = p ∙ sym q
+single-get κ a r r′ s s′ p q = p .0 ∙ sym (q .0)
 
 pub single-set : Single set.Post (λ κ r s. r)
 single-set κ a r r′ s s′ p q = p ∙ sym q

@@ -31,7 +31,7 @@ pub single-unstarted : Single unstarted.Post (λ κ r s. r)
 single-unstarted κ a r r′ s s′ p q = p ∙ sym q
 
 pub single-start : Single start.Post (λ κ r s. r)
-single-start κ a r r′ s s′ p q = p ∙ sym q
+single-start κ a r r′ s s′ p q = p .0 ∙ sym (q .0)
 
 pub single-watchdog-reset : Single watchdog-reset.Post (λ κ r s. r)
 single-watchdog-reset κ a r r′ s s′ p q = p ∙ sym q

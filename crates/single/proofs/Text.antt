@@ -10,13 +10,13 @@ pub single-frame : Single frame.Post (λ κ r s. r)
 single-frame κ a r r′ s s′ p q = p .0 ∙ sym (q .0)
 
 pub held-frame : Single frame.Post (λ κ r s. now (s .1 .1 .1 .0))
-held-frame κ a r r′ s s′ p q = p .1 ∙ sym (q .1)
+held-frame κ a r r′ s s′ p q = p .1 .0 ∙ sym (q .1 .0)
 
 pub single-read : Single read.Post (λ κ r s. r)
 single-read κ a r r′ s s′ p q = p .0 ∙ sym (q .0)
 
 pub held-read : Single read.Post (λ κ r s. now (s .1 .1 .0))
-held-read κ a r r′ s s′ p q = p .1 ∙ sym (q .1)
+held-read κ a r r′ s s′ p q = p .1 .0 ∙ sym (q .1 .0)
 
 pub single-payload : Single payload.Post (λ κ r s. now r)
 single-payload κ a r r′ s s′ p q = p ∙ sym q

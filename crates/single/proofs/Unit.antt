@@ -14,10 +14,10 @@ pub single-unstarted : Single unstarted.Post (λ κ r s. r)
 single-unstarted κ a r r′ s s′ p q = p ∙ sym q
 
 pub single-start : Single start.Post (λ κ r s. r)
-single-start κ a r r′ s s′ p q = p ∙ sym q
+single-start κ a r r′ s s′ p q = p .0 ∙ sym (q .0)
 
 pub single-tick : Single tick.Post (λ κ r s. r)
-single-tick κ a r r′ s s′ p q = p ∙ sym q
+single-tick κ a r r′ s s′ p q = p .0 ∙ sym (q .0)
 
 pub held-bus-read : Single bus-read.Post (λ κ r s. now (s .1 .0))
 held-bus-read κ a r r′ s s′ p q = p ∙ sym q
@@ -26,7 +26,7 @@ pub single-read-line : Single read-line.Post (λ κ r s. r)
 single-read-line κ a r r′ s s′ p q = p .0 ∙ sym (q .0)
 
 pub held-read-line : Single read-line.Post (λ κ r s. now (s .1 .1 .0))
-held-read-line κ a r r′ s s′ p q = p .1 ∙ sym (q .1)
+held-read-line κ a r r′ s s′ p q = p .1 .0 ∙ sym (q .1 .0)
 
 pub single-payload : Single payload.Post (λ κ r s. now r)
 single-payload κ a r r′ s s′ p q = p ∙ sym q
@@ -35,4 +35,4 @@ pub single-frame : Single frame.Post (λ κ r s. r)
 single-frame κ a r r′ s s′ p q = p .0 ∙ sym (q .0)
 
 pub held-frame : Single frame.Post (λ κ r s. now (s .1 .0))
-held-frame κ a r r′ s s′ p q = p .1 ∙ sym (q .1)
+held-frame κ a r r′ s s′ p q = p .1 .0 ∙ sym (q .1 .0)

@@ -16,4 +16,4 @@ pub single-bytes : Single bytes.Post (λ κ r s. r)
 single-bytes κ a r r′ s s′ p q = p ∙ sym q
 
 pub single-read : Single read.Post (λ κ r s. r)
-single-read κ a r r′ s s′ p q = p ∙ sym q
+single-read κ a r r′ s s′ p q = p .0 ∙ sym (q .0)

@@ -62,11 +62,12 @@ hasFrame (x ∷ s) = startsWith openingTag (x ∷ s) && holds closingTag (drop 5
 abbrev pub scanNumber : List ℕ → ℕ
 scanNumber s = cond (hasFrame s) 0 10
 
--- the payload of the frame, and the place behind its closing tag
+-- the payload: what stands between the tags of the frame
 abbrev pub framedPart : Frame → List ℕ → List ℕ
 framedPart NotThere s = []
 framedPart (Found start end behind) s = part start end s
 
+-- the place behind the closing tag of the frame; with no frame there is none
 abbrev pub placeBehind : Frame → Option ℕ
 placeBehind NotThere = none
 placeBehind (Found start end behind) = some behind
@@ -75,6 +76,7 @@ placeBehind (Found start end behind) = some behind
 abbrev pub isSwitch : List ℕ → Bool
 isSwitch payload = same payload (switchText Raw) || same payload (switchText Ascii)
 
+-- only ASCII form has a form to keep, and needs the scratch buffer
 abbrev pub inAscii : Form → Bool
 inAscii Raw = false
 inAscii Ascii = true

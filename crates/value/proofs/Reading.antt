@@ -14,7 +14,7 @@ use Rattle.wire.specs.Numbers.{number, bytesOf}
 use Rattle.wire.specs.declared.floats.Float32.{Float32}
 use Rattle.wire.specs.declared.floats.Float64.{Float64}
 use Rattle.value.specs.Types.{table, width, typeOf}
-use Rattle.value.specs.Answers.{readNumber, isNaN, spelledNumber, valueNumber}
+use Rattle.value.specs.Answers.{readNumber, isNaN, speltNumber, valueNumber}
 use Rattle.value.specs.Values.{spelt, wireBytes, valueBytes, valueOf, readOf}
 use Rattle.value.specs.declared.ParamValue.{ParamValue}
 use Rattle.value.specs.declared.Parsed.{Parsed}
@@ -102,29 +102,29 @@ refused : (b : Bool) (v : ParamValue) → readNumber (cond b NotANumber (Value v
 refused true v = refl
 refused false v = refl
 
-pub spelled-number : (t : ValueType) (x : ℕ) → readNumber (valueOf t x) ≡ spelledNumber t x
+pub spelt-number : (t : ValueType) (x : ℕ) → readNumber (valueOf t x) ≡ speltNumber t x
 unfolding valueOf isNaN
-spelled-number ValueType.Int8 x = refl
-spelled-number ValueType.Uint8 x = refl
-spelled-number ValueType.Int16 x = refl
-spelled-number ValueType.Uint16 x = refl
-spelled-number ValueType.Int32 x = refl
-spelled-number ValueType.Uint32 x = refl
-spelled-number ValueType.Float x = refused (nanPattern binary32 x) _
-spelled-number ValueType.Int64 x = refl
-spelled-number ValueType.Uint64 x = refl
-spelled-number ValueType.Double x = refused (nanPattern binary64 x) _
+spelt-number ValueType.Int8 x = refl
+spelt-number ValueType.Uint8 x = refl
+spelt-number ValueType.Int16 x = refl
+spelt-number ValueType.Uint16 x = refl
+spelt-number ValueType.Int32 x = refl
+spelt-number ValueType.Uint32 x = refl
+spelt-number ValueType.Float x = refused (nanPattern binary32 x) _
+spelt-number ValueType.Int64 x = refl
+spelt-number ValueType.Uint64 x = refl
+spelt-number ValueType.Double x = refused (nanPattern binary64 x) _
 
 pub value-number : (t : ValueType) (s : List ℕ) → readNumber (readOf t s) ≡ valueNumber t s
 unfolding readOf valueNumber
-value-number t s = go (ltb (length s) (width t)) (valueOf t (number (width t) s)) ∙ ap (cond (ltb (length s) (width t)) 5) (spelled-number t (number (width t) s))
+value-number t s = go (ltb (length s) (width t)) (valueOf t (number (width t) s)) ∙ ap (cond (ltb (length s) (width t)) 5) (spelt-number t (number (width t) s))
   where
     go : (b : Bool) (p : Parsed) → readNumber (cond b TooShort p) ≡ cond b 5 (readNumber p)
     go true p = refl
     go false p = refl
 
-pub with-spelled-number : {r : Parsed} (t : ValueType) (x : ℕ) → r ≡ valueOf t x → (r ≡ valueOf t x) × (readNumber r ≡ spelledNumber t x)
-with-spelled-number t x e = (e, ap readNumber e ∙ spelled-number t x)
+pub with-spelt-number : {r : Parsed} (t : ValueType) (x : ℕ) → r ≡ valueOf t x → (r ≡ valueOf t x) × (readNumber r ≡ speltNumber t x)
+with-spelt-number t x e = (e, ap readNumber e ∙ spelt-number t x)
 
 pub with-value-number : {r : Parsed} (t : ValueType) (s : List ℕ) → r ≡ readOf t s → (r ≡ readOf t s) × (readNumber r ≡ valueNumber t s)
 with-value-number t s e = (e, ap readNumber e ∙ value-number t s)

@@ -35,11 +35,11 @@ isNaN Uint64 x = false
 isNaN Double x = nanPattern binary64 x
 
 -- 7 where the bytes of a value spell a NaN
-abbrev pub spelledNumber : ValueType → ℕ → ℕ
-spelledNumber t x = cond (isNaN t x) 7 0
+abbrev pub speltNumber : ValueType → ℕ → ℕ
+speltNumber t x = cond (isNaN t x) 7 0
 
 -- 5 where there are fewer bytes than the type has, and then 7 where they spell a NaN
 unfoldable pub valueNumber : ValueType → List ℕ → ℕ
 valueNumber t s =
     cond (ltb (length s) (width t)) 5
-    (spelledNumber t (number (width t) s))
+    (speltNumber t (number (width t) s))

@@ -5,7 +5,7 @@ ghost use mathlib.Core.Path.{_≡_};
 ghost use Prim.Native.Nat.{_<_, _^_};
 ghost use Rattle.value.specs.Types.{width, typeOf};
 ghost use Rattle.value.specs.Values.{spelt, valueBytes, valueOf, readOf};
-ghost use Rattle.value.specs.Answers.{readNumber, spelledNumber, valueNumber};
+ghost use Rattle.value.specs.Answers.{readNumber, speltNumber, valueNumber};
 
 // A type of Table 3-24.
 pub enum ValueType {
@@ -115,7 +115,7 @@ pub fn bytes(v: ParamValue) -> ValueBytes
 // The single-precision value of a pattern.
 fn float(pattern: u32) -> Parsed
     ensures { λ r. ⌜ r ≡ valueOf ValueType.Float pattern ⌝ }
-    ensures number { λ r. ⌜ readNumber r ≡ spelledNumber ValueType.Float pattern ⌝ }
+    ensures number { λ r. ⌜ readNumber r ≡ speltNumber ValueType.Float pattern ⌝ }
 {
     match wire::float_of32(pattern) {
         Float32::Number(x) => Parsed::Value(ParamValue::Float(x)),
@@ -126,7 +126,7 @@ fn float(pattern: u32) -> Parsed
 // The double-precision value of a pattern.
 fn double(pattern: u64) -> Parsed
     ensures { λ r. ⌜ r ≡ valueOf ValueType.Double pattern ⌝ }
-    ensures number { λ r. ⌜ readNumber r ≡ spelledNumber ValueType.Double pattern ⌝ }
+    ensures number { λ r. ⌜ readNumber r ≡ speltNumber ValueType.Double pattern ⌝ }
 {
     match wire::float_of64(pattern) {
         Float64::Number(x) => Parsed::Value(ParamValue::Double(x)),

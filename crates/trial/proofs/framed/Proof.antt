@@ -44,7 +44,7 @@ returns : tie.Need-returns
 unfolding framingLine
 returns c = let l : length (c .before .before .before .before .before .before .before .frame .last .1 .0) ≡ length (take (c .before .before .before .before .before .before .before .before .before .within .result) (c .before .before .before .before .before .before .before .before .before .before .untouched .result)) = search needs in
     let u = untouched (c .before .before .before .before .before .before .before .before .before .within .result) (c .before .before .before .before .before .before .before .before .before .before .before .before .args .room) (c .before .before .before .before .before .before .before .before .before .before .untouched .result) (c .before .before .before .before .before .before .before .before .before .within .ensures) (c .before .before .before .before .before .before .before .before .before .before .untouched .ensures) in
-    let e = c .before .before .before .before .first .ensures ∙ front (c .before .before .before .before .before .before .before .before .before .within .result) (c .before .before .before .before .before .before .before .before .before .before .before .before .args .room) (c .before .before .before .before .before .before .before .before .before .before .untouched .result) (c .before .before .before .before .before .before .before .before .before .within .ensures) (c .before .before .before .before .before .before .before .before .before .before .untouched .ensures) (c .before .before .before .before .before .before .before .frame .last .1 .0) l ∙ c .before .before .before .before .before .before .before .frame .ensures .1 ∙ ap (laid (dueOf (c .before .before .before .before .before .before .before .before .before .before .before .before .args .m))) u in
+    let e = c .before .before .before .before .first .ensures ∙ front (c .before .before .before .before .before .before .before .before .before .within .result) (c .before .before .before .before .before .before .before .before .before .before .before .before .args .room) (c .before .before .before .before .before .before .before .before .before .before .untouched .result) (c .before .before .before .before .before .before .before .before .before .within .ensures) (c .before .before .before .before .before .before .before .before .before .before .untouched .ensures) (c .before .before .before .before .before .before .before .frame .last .1 .0) l ∙ c .before .before .before .before .before .before .before .frame .ensures .1 .0 ∙ ap (laid (dueOf (c .before .before .before .before .before .before .before .before .before .before .before .before .args .m))) u in
     let a = c .before .before .before .before .before .before .before .frame .ensures .0 ∙ ap (λ (s : List ℕ). framedOf (dueOf (c .before .before .before .before .before .before .before .before .before .before .before .before .args .m)) (length s)) u in
     rw (c .before .before .framed .ensures, e, a)
 

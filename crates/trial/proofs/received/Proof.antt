@@ -43,7 +43,7 @@ returns : tie.Need-returns
 unfolding receivedOf
 returns c = let l : length (c .before .before .before .before .before .before .before .before .read-line .last .1 .1 .0) ≡ length (take (c .before .before .before .before .before .before .before .before .before .before .within .result) (c .before .before .before .before .before .before .before .before .before .before .before .untouched .result)) = search needs in
     let u = untouched (c .before .before .before .before .before .before .before .before .before .before .within .result) (c .before .before .before .before .before .before .before .before .before .before .before .before .before .before .args .room) (c .before .before .before .before .before .before .before .before .before .before .before .untouched .result) (c .before .before .before .before .before .before .before .before .before .before .within .ensures) (c .before .before .before .before .before .before .before .before .before .before .before .untouched .ensures) in
-    let e = c .before .before .before .before .first .ensures ∙ front (c .before .before .before .before .before .before .before .before .before .before .within .result) (c .before .before .before .before .before .before .before .before .before .before .before .before .before .before .args .room) (c .before .before .before .before .before .before .before .before .before .before .before .untouched .result) (c .before .before .before .before .before .before .before .before .before .before .within .ensures) (c .before .before .before .before .before .before .before .before .before .before .before .untouched .ensures) (c .before .before .before .before .before .before .before .before .read-line .last .1 .1 .0) l ∙ c .before .before .before .before .before .before .before .before .read-line .ensures .1 ∙ ap (lineHeld (c .before .before .before .before .before .before .before .before .before .before .before .before .before .before .args .bench .machine .board .form) (c .before .before .before .before .before .before .before .before .before .before .before .before .before .before .args .bytes .now)) u in
+    let e = c .before .before .before .before .first .ensures ∙ front (c .before .before .before .before .before .before .before .before .before .before .within .result) (c .before .before .before .before .before .before .before .before .before .before .before .before .before .before .args .room) (c .before .before .before .before .before .before .before .before .before .before .before .untouched .result) (c .before .before .before .before .before .before .before .before .before .before .within .ensures) (c .before .before .before .before .before .before .before .before .before .before .before .untouched .ensures) (c .before .before .before .before .before .before .before .before .read-line .last .1 .1 .0) l ∙ c .before .before .before .before .before .before .before .before .read-line .ensures .1 .0 ∙ ap (lineHeld (c .before .before .before .before .before .before .before .before .before .before .before .before .before .before .args .bench .machine .board .form) (c .before .before .before .before .before .before .before .before .before .before .before .before .before .before .args .bytes .now)) u in
     let a = c .before .before .before .before .before .before .before .before .read-line .ensures .0 ∙ ap (λ (s : List ℕ). heardOf (c .before .before .before .before .before .before .before .before .before .before .before .before .before .before .args .bytes .now) (length s) (c .before .before .before .before .before .before .before .before .before .before .before .before .before .before .args .bench .machine)) u in
     rw (c .before .before .answer .ensures, e, ← a)
 

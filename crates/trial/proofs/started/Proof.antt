@@ -21,7 +21,7 @@ same-length c = search needs
 
 returns : tie.Need-returns
 unfolding startedOf
-returns c = rw (c .before .before .start-line .ensures, c .before .before .before .before .is-there .ensures, ← c .before .before .before .before .before .before .before .store-of .ensures, ← c .before .before .before .before .before .before .start .ensures)
+returns c = rw (c .before .before .start-line .ensures, c .before .before .before .before .is-there .ensures, ← c .before .before .before .before .before .before .before .store-of .ensures, ← c .before .before .before .before .before .before .start .ensures .0)
 
 pub started-spec : {M : Type 1} → statement M
 started-spec =

@@ -28,7 +28,7 @@ same-length c = search needs
 returns : tie.Need-returns
 unfolding tickedOf
 returns c = let f : SFits w16 (c .before .before .before .before .before .before .before .before .twos16 .result) = search needs in
-    let e = rw (toZ-ofZ w16 (c .before .before .before .before .before .before .before .before .twos16 .result) f, c .before .before .before .before .before .before .before .before .twos16 .ensures, c .before .before .before .before .before .before .lent-part .ensures) at (c .before .before .before .before .before .tick .ensures) in
+    let e = rw (toZ-ofZ w16 (c .before .before .before .before .before .before .before .before .twos16 .result) f, c .before .before .before .before .before .before .before .before .twos16 .ensures, c .before .before .before .before .before .before .lent-part .ensures) at (c .before .before .before .before .before .tick .ensures .0) in
     rw (c .before .before .ticked .ensures, ← e)
 
 pub ticked-spec : {M : Type 1} → statement M
