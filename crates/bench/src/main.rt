@@ -21,11 +21,14 @@ fn run_tick(session: Session, sheet: &[u8]) -> Session
     stepped.session
 }
 
-// Opens a sheet and runs its ticks.
+// Opens a sheet, prints its first line or why it is refused, and runs its ticks.
 fn run(sheet: &[u8]) {
     let mut out = io::buffer();
     let opened = session::open(sheet, &mut out);
     print(&out, opened.printed);
+    let answer = opened.answer;
+    let printed = session::refusal(answer, &mut out);
+    print(&out, printed);
     let mut now = opened.session;
     let mut left = now.left;
     while 0 < left {

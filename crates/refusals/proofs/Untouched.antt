@@ -65,10 +65,10 @@ sheets =
     record {
       given-14 = session.number-14;
       only-14 = session.only-14;
-      starts-nothing-14 = λ held s e. rw e;
+      leaves-14 = λ held s e. rw e;
       given-8 = session.number-8;
       only-8 = session.only-8;
-      starts-nothing-8 = λ held s sheet i read broken. rw (read, broken);
+      leaves-8 = λ held s sheet i read broken. rw (read, broken);
     }
 
 pub other-refusals : OtherRefusals

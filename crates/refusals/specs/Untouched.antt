@@ -1,6 +1,6 @@
 -- Demand 1, refusals 8 to 14: when each is given, and that the state and every lent buffer then hold what they held. The facts are those of the crates whose contracts they are about; here
 -- they stand together, for every machine and every input. Words, transfers, received bytes and sheets are lent read-only and cannot change; a scratch buffer and an output buffer can.
--- A session's output is the refusal's own text: docs/DECISIONS.md. Assumes nothing: these are definitions and the statement of the claim.
+-- What a refused sheet prints is laid into a buffer by a call of its own. Assumes nothing: these are definitions and the statement of the claim.
 use Prim.Native.Nat.{ℕ, _<_}
 use mathlib.Core.Path.{_≡_}
 use mathlib.Core.Bool.{true, false, cond}
@@ -22,8 +22,7 @@ use Rattle.unit.specs.Machine.{begunOf, heardOf, dueOf}
 use Rattle.unit.specs.declared.Machine.{Machine}
 use Rattle.grammar.specs.Grammar.{fails, reads}
 use Rattle.sheet.specs.Form.{Sheet, sheetIn}
-use Rattle.script.specs.Printing.{page, typed}
-use Rattle.session.specs.Transcript.{refused8, refused14}
+use Rattle.script.specs.Printing.{page}
 use Rattle.session.specs.Sessions.{profileIn, opens, noSession, answerFrom, answerNumber, openedOf}
 use Rattle.session.specs.declared.running.Answer.the-variants.{ProfileBreaksARule, NotOfForm}
 use Rattle.unit.specs.Runs.{Sample, told, happens}
@@ -53,15 +52,15 @@ pub record Frames : Type 0 where
   pub only : (m : Machine) (out : List ℕ) → framedNumber (framedOf (dueOf m) (length out)) ≡ 13 → length out < length (dueOf m)
   pub leaves : (m : Machine) (out : List ℕ) → length out < length (dueOf m) → laid (dueOf m) out ≡ out
 
--- 14 and 8, of a sheet: one that is not of its form or too long, and else a bad profile; no machine is started, and only the refusal is printed
+-- 14 and 8, of a sheet: one that is not of its form or too long, and else a bad profile; no machine is started, and the output buffer stays
 pub record Sheets : Type 0 where
   pub given-14 : (s : List ℕ) → sheetIn s ≡ fails → answerNumber (answerFrom (sheetIn s)) ≡ 14
   pub only-14 : (s : List ℕ) → answerNumber (answerFrom (sheetIn s)) ≡ 14 → sheetIn s ≡ fails
-  pub starts-nothing-14 : (held s : List ℕ) → sheetIn s ≡ fails → openedOf held s ≡ opens noSession NotOfForm (typed (page held 0) refused14)
+  pub leaves-14 : (held s : List ℕ) → sheetIn s ≡ fails → openedOf held s ≡ opens noSession NotOfForm (page held 0)
   pub given-8 : (s : List ℕ) (sheet : Sheet) (i : ℕ) → sheetIn s ≡ reads sheet i → keepsTheRules (profileIn (sheet .top)) emptyStore ≡ false → answerNumber (answerFrom (sheetIn s)) ≡ 8
   pub only-8 : (s : List ℕ) (sheet : Sheet) (i : ℕ) → sheetIn s ≡ reads sheet i → keepsTheRules (profileIn (sheet .top)) emptyStore ≡ true → answerNumber (answerFrom (sheetIn s)) ≡ 0
-  pub starts-nothing-8 : (held s : List ℕ) (sheet : Sheet) (i : ℕ) → sheetIn s ≡ reads sheet i → keepsTheRules (profileIn (sheet .top)) emptyStore ≡ false
-      → openedOf held s ≡ opens noSession ProfileBreaksARule (typed (page held 0) refused8)
+  pub leaves-8 : (held s : List ℕ) (sheet : Sheet) (i : ℕ) → sheetIn s ≡ reads sheet i → keepsTheRules (profileIn (sheet .top)) emptyStore ≡ false
+      → openedOf held s ≡ opens noSession ProfileBreaksARule (page held 0)
 
 pub record OtherRefusals : Type 0 where
   pub eight : Eight

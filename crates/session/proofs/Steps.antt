@@ -1,4 +1,4 @@
--- What opening a sheet prints, and then each of its ticks, is together the whole transcript. Where a buffer has the room, what was printed is all of the text (`Pages`). Assumes nothing.
+-- What opening a sheet prints, the line of its refusal, and then each of its ticks, is together the whole transcript. Where a buffer has the room, what was printed is all of the text (`Pages`). Assumes nothing.
 use Prim.Native.Nat.{ℕ, zero, suc, _+_, _-_, _≤_, _<_}
 use mathlib.Core.Path.{_≡_, refl, ap, sym, _∙_}
 use mathlib.Core.Bool.{Bool, true, false, cond}
@@ -18,12 +18,12 @@ use Rattle.sheet.proofs.Behind.{times-turn, times-none}
 use Rattle.sheet.proofs.Sheets.{Accepted, accepted}
 use Rattle.script.specs.Printing.{page, typed}
 use Rattle.session.specs.Transcript.{ticksText}
-use Rattle.session.specs.Sessions.{tickOn, lineOf, linesFrom, profileIn, beginning, begunText, sheetText, transcriptOf, opens, steps, noSession, startedBy, startedOf, openedBy, openedOf, after, numberOf, tickedOf, isOver, steppedBy, steppedOf, sessionBy, firstBy, answerBy, sessionFrom, firstFrom, answerFrom, nextBy, printedBy, stepsFrom, answerNumber}
+use Rattle.session.specs.Sessions.{tickOn, lineOf, linesFrom, profileIn, beginning, begunText, sheetText, transcriptOf, opens, steps, noSession, startedBy, startedOf, openedBy, openedOf, after, numberOf, tickedOf, isOver, steppedBy, steppedOf, sessionBy, firstBy, answerBy, sessionFrom, firstFrom, answerFrom, refusalText, nextBy, printedBy, stepsFrom, answerNumber}
 use Rattle.session.specs.declared.running.Session.{Session}
 
 -- ---- what a call leaves, as a session and a text
 pub open-is : (held s : List ℕ) → openedOf held s ≡ opens (sessionFrom (sheetIn s)) (answerFrom (sheetIn s)) (typed (page held 0) (firstFrom (sheetIn s)))
-unfolding openedOf startedOf
+unfolding openedOf startedOf typed
 open-is held s = go (sheetIn s)
   where
     begun : (a : start.StartAnswer) (m : Machine) (count first : ℕ) → startedBy a m count first held ≡ opens (sessionBy a m count first) (answerBy a) (typed (page held 0) (firstBy a count))
@@ -67,19 +67,19 @@ steps-lines (suc n) count at m s ticks j e h =
     (ap (λ (rest : List ℕ). lineOf (count - suc n + 1) (tickOn m (t .what)) ++ rest)
     (steps-lines n count (t .step .place) (tickOn m (t .what) .machine) s (t .rest) j others (omega arith) ∙ ap (λ (k : ℕ). linesFrom k (tickOn m (t .what) .machine) (t .rest)) next))
 
--- ---- from the start to the end
-pub transcript : (s : List ℕ) → firstFrom (sheetIn s) ++ stepsFrom (sessionFrom (sheetIn s) .left) s (sessionFrom (sheetIn s)) ≡ transcriptOf s
+-- ---- from the start to the end: what opening prints, the refusal's line, and the ticks
+pub transcript : (s : List ℕ) → firstFrom (sheetIn s) ++ (refusalText (answerFrom (sheetIn s)) ++ stepsFrom (sessionFrom (sheetIn s) .left) s (sessionFrom (sheetIn s))) ≡ transcriptOf s
 unfolding transcriptOf stepsFrom
 transcript s = go (sheetIn s) refl
   where
     begun : (a : start.StartAnswer) (m : Machine) (count first : ℕ) (ticks : List Tick) → times count (tickLine 256) s first ≡ reads ticks (length s)
-        → firstBy a count ++ stepsFrom (sessionBy a m count first .left) s (sessionBy a m count first) ≡ begunText a m count ticks
+        → firstBy a count ++ (refusalText (answerBy a) ++ stepsFrom (sessionBy a m count first .left) s (sessionBy a m count first)) ≡ begunText a m count ticks
     begun start.StartAnswer.Accepted m count first ticks e =
         let one : count - count + 1 ≡ 1 = omega arith in
         ap (λ (rest : List ℕ). ticksText count ++ rest) (steps-lines count count first m s ticks (length s) e (omega arith) ∙ ap (λ (k : ℕ). linesFrom k m ticks) one)
     begun start.StartAnswer.ProfileBreaksARule m count first ticks e = refl
 
-    go : (r : Read Sheet) → sheetIn s ≡ r → firstFrom r ++ stepsFrom (sessionFrom r .left) s (sessionFrom r) ≡ sheetText r
+    go : (r : Read Sheet) → sheetIn s ≡ r → firstFrom r ++ (refusalText (answerFrom r) ++ stepsFrom (sessionFrom r .left) s (sessionFrom r)) ≡ sheetText r
     go fails q = refl
     go (reads sheet i) q =
         let told : headBy (sheet .top) ≡ sheetHead (sheetIn s) = sym (ap sheetHead q) in

@@ -12,8 +12,8 @@ use Rattle.unit.specs.declared.Machine.{Machine}
 use Rattle.unit.specs.declared.Begun.{Begun}
 use Rattle.unit.specs.declared.Told.{Told}
 use Rattle.grammar.specs.Grammar.{Read, fails, reads}
-use Rattle.sheet.specs.Form.{Top, Tick, tickLine, Sheet, sheetIn}
-use Rattle.sheet.specs.Answers.{isSent, bytesOf}
+use Rattle.sheet.specs.Form.{Top, bytesOf, Tick, tickLine, Sheet, sheetIn}
+use Rattle.sheet.specs.Answers.{isSent}
 use Rattle.script.specs.Printing.{Page, page, typed}
 use Rattle.session.specs.Transcript.{tickText, ticksText, refused8, refused14}
 use Rattle.session.specs.declared.running.Session.{Session}
@@ -76,19 +76,19 @@ noSession = record { machine = noMachine; count = 0; left = 0; at = 0 }
 abbrev pub endedStep : Stepped
 endedStep = record { session = noSession; printed = 0 }
 
--- ---- opening
+-- ---- opening: a sheet that is refused leaves the buffer as it was
 abbrev pub sessionAt : Machine → ℕ → ℕ → Session
 sessionAt m count first = record { machine = m; count = count; left = count; at = first }
 
 abbrev pub startedBy : start.StartAnswer → Machine → ℕ → ℕ → List ℕ → Open
 startedBy start.StartAnswer.Accepted m count first held = opens (sessionAt m count first) Running (typed (page held 0) (ticksText count))
-startedBy start.StartAnswer.ProfileBreaksARule m count first held = opens noSession ProfileBreaksARule (typed (page held 0) refused8)
+startedBy start.StartAnswer.ProfileBreaksARule m count first held = opens noSession ProfileBreaksARule (page held 0)
 
 unfoldable pub startedOf : List ℕ → Profile → ℕ → ℕ → Open
 startedOf held profile count first = startedBy (beginning profile .answer) (beginning profile .machine) count first held
 
 abbrev pub openedBy : Read Sheet → List ℕ → Open
-openedBy fails held = opens noSession NotOfForm (typed (page held 0) refused14)
+openedBy fails held = opens noSession NotOfForm (page held 0)
 openedBy (reads sheet i) held = startedOf held (profileIn (sheet .top)) (sheet .top .count) (sheet .top .first)
 
 unfoldable pub openedOf : List ℕ → List ℕ → Open
@@ -122,14 +122,14 @@ steppedOf held s session = steppedBy (tickLine 256 s (session .at)) held session
 
 -- ---- the steps one after another: what each prints, and the session that it leaves
 
--- opening
+-- opening: a refused sheet prints nothing
 abbrev pub sessionBy : start.StartAnswer → Machine → ℕ → ℕ → Session
 sessionBy start.StartAnswer.Accepted m count first = sessionAt m count first
 sessionBy start.StartAnswer.ProfileBreaksARule m count first = noSession
 
 abbrev pub firstBy : start.StartAnswer → ℕ → List ℕ
 firstBy start.StartAnswer.Accepted count = ticksText count
-firstBy start.StartAnswer.ProfileBreaksARule count = refused8
+firstBy start.StartAnswer.ProfileBreaksARule count = []
 
 abbrev pub answerBy : start.StartAnswer → Answer
 answerBy start.StartAnswer.Accepted = Running
@@ -142,12 +142,18 @@ sessionFrom (reads sheet i) =
     sessionBy (begun .answer) (begun .machine) (sheet .top .count) (sheet .top .first)
 
 abbrev pub firstFrom : Read Sheet → List ℕ
-firstFrom fails = refused14
+firstFrom fails = []
 firstFrom (reads sheet i) = firstBy (beginning (profileIn (sheet .top)) .answer) (sheet .top .count)
 
 abbrev pub answerFrom : Read Sheet → Answer
 answerFrom fails = NotOfForm
 answerFrom (reads sheet i) = answerBy (beginning (profileIn (sheet .top)) .answer)
+
+-- the refusal's line; none for a session that runs
+abbrev pub refusalText : Answer → List ℕ
+refusalText Running = []
+refusalText ProfileBreaksARule = refused8
+refusalText NotOfForm = refused14
 
 -- a tick
 abbrev pub nextBy : Read Tick → Session → Session

@@ -7,4 +7,5 @@ pub use running::Opened;
 pub use running::Session;
 pub use running::Stepped;
 pub use running::open;
+pub use running::refusal;
 pub use running::step;

@@ -1,7 +1,8 @@
 // The steps of a session.
 ghost use mathlib.Core.Path.{_≡_};
 ghost use Prim.Native.Nat.{_<_, _≤_};
-ghost use Rattle.session.specs.Sessions.{noSession, endedStep, opened, stepped, startedOf, openedOf, steppedOf, tickedOf};
+ghost use Rattle.script.specs.Printing.{page, typed};
+ghost use Rattle.session.specs.Sessions.{noSession, endedStep, opened, stepped, startedOf, openedOf, refusalText, steppedOf, tickedOf};
 use crate::transcript::tick_line;
 use crate::transcript::ticks_line;
 use memory::Store;
@@ -52,7 +53,7 @@ fn none() -> Session
     }
 }
 
-// Starts the board of a sheet of the form.
+// Starts the board of a sheet of the form, and prints the count of its ticks; a refused start leaves the buffer.
 fn started(profile: Profile, ticks: u32, first: usize, out: &mut [u8]) -> Opened
     ensures { λ r. ⌜ opened r (now (out .exit)) ≡ startedOf (now (out .entry)) profile ticks first ⌝ }
 {
@@ -73,13 +74,13 @@ fn started(profile: Profile, ticks: u32, first: usize, out: &mut [u8]) -> Opened
         StartAnswer::ProfileBreaksARule => Opened {
             session: none(),
             answer: Answer::ProfileBreaksARule,
-            printed: text(out, 0, b"refused 8\n"),
+            printed: 0,
         },
     }
 }
 
-// Opens a sheet of any bytes: the form of the whole sheet is looked at before the profile in it. What is to be printed goes into the front of the lent buffer, a refusal too;
-// a buffer that is too short for it is filled with its front.
+// Opens a sheet of any bytes: the form of the whole sheet is looked at before the profile in it. The first line of the transcript goes into the front of the lent buffer, and a
+// buffer that is too short is filled with its front; where the sheet is refused, the buffer keeps what it held.
 pub fn open(s: &[u8], out: &mut [u8]) -> Opened
     ensures { λ r. ⌜ opened r (now (out .exit)) ≡ openedOf (now (out .entry)) (now (s .entry)) ⌝ }
 {
@@ -94,7 +95,7 @@ pub fn open(s: &[u8], out: &mut [u8]) -> Opened
         return Opened {
             session: none(),
             answer: Answer::NotOfForm,
-            printed: text(out, 0, b"refused 14\n"),
+            printed: 0,
         };
     };
     let profile = Profile {
@@ -103,6 +104,17 @@ pub fn open(s: &[u8], out: &mut [u8]) -> Opened
         bid,
     };
     started(profile, ticks, first, out)
+}
+
+// Prints the line of a refused sheet into the front of the lent buffer, and nothing for a session that runs. A buffer that is too short is filled with its front.
+pub fn refusal(answer: Answer, out: &mut [u8]) -> usize
+    ensures { λ r. ⌜ page (now (out .exit)) r ≡ typed (page (now (out .entry)) 0) (refusalText answer) ⌝ }
+{
+    match answer {
+        Answer::Running => 0,
+        Answer::ProfileBreaksARule => text(out, 0, b"refused 8\n"),
+        Answer::NotOfForm => text(out, 0, b"refused 14\n"),
+    }
 }
 
 // Runs one tick of a session, and prints its line.
@@ -141,32 +153,33 @@ pub fn step(session: Session, s: &[u8], out: &mut [u8]) -> Stepped
     ensures { λ r. ⌜ stepped r (now (out .exit)) ≡ steppedOf (now (out .entry)) (now (s .entry)) session ⌝ }
 {
     let mut transfer = [0u8; 256];
-    let line = sheet::read_tick(s, session.at, &mut transfer);
-    let TickLine::Is {
-        rail,
-        overcurrent,
-        sent,
-        count,
-        next,
-    } = line
-    else {
-        return ended();
-    };
-    if session.left == 0 {
-        return ended();
+    match sheet::read_tick(s, session.at, &mut transfer) {
+        TickLine::Is {
+            rail,
+            overcurrent,
+            sent,
+            count,
+            next,
+        } => {
+            if session.left == 0 {
+                return ended();
+            }
+            if session.count < session.left {
+                return ended();
+            }
+            ticked(
+                session,
+                rail,
+                overcurrent,
+                sent,
+                wire::first(&transfer, count),
+                next,
+                out,
+            )
+        }
+        TickLine::Not => ended(),
+        TickLine::TransferTooLong => ended(),
     }
-    if session.count < session.left {
-        return ended();
-    }
-    ticked(
-        session,
-        rail,
-        overcurrent,
-        sent,
-        wire::first(&transfer, count),
-        next,
-        out,
-    )
 }
 
 // A session that ended: nothing is printed.

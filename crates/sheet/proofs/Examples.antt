@@ -7,7 +7,7 @@ use Rattle.hex.specs.Hex.{between, pairOf, payloadOf}
 use Rattle.channels.specs.Sets.{has, setOf, withChannel}
 use Rattle.grammar.specs.Grammar.{fails, reads, peekAt, byte, end, times, text, firstFrom, upTo}
 use Rattle.grammar.specs.Numbers.{digits, spells, number, signed, hexDigit, word}
-use Rattle.sheet.specs.Form.{boardWord, fittedWord, forcedWord, ticksWord, count, gap, channelsFrom, channelList, channelSet, head, silence, bytes, command, tickLine, sheet, sheetIn}
+use Rattle.sheet.specs.Form.{boardWord, fittedWord, forcedWord, ticksWord, count, gap, channelsFrom, channelList, channelSet, head, silence, bytes, command, anyTickLine, tickLine, sheet, sheetIn}
 
 sample : List ℕ
 sample =
@@ -28,7 +28,7 @@ read-sample :
       top = record { bid = 1; fitted = 3; forced = 1; count = 2; first = 40 };
       ticks = record { rail = negsuc 19; overcurrent = 0; transfer = bytes (17 ∷ 7 ∷ 2 ∷ 1 ∷ []) } ∷ record { rail = negsuc 19; overcurrent = 0; transfer = silence } ∷ [];
     }) 80
-unfolding sample between pairOf payloadOf has setOf withChannel peekAt byte end times text firstFrom upTo digits spells number signed hexDigit word count gap channelsFrom channelList channelSet head command tickLine sheet sheetIn
+unfolding sample between pairOf payloadOf has setOf withChannel peekAt byte end times text firstFrom upTo digits spells number signed hexDigit word count gap channelsFrom channelList channelSet head command anyTickLine tickLine sheet sheetIn
 read-sample = refl
 
 -- ---- board 0 with no fitted channel and no ticks, by what stands behind `forced `
@@ -37,11 +37,11 @@ by-forced list = boardWord ++ (48 ∷ 10 ∷ []) ++ fittedWord ++ (48 ∷ 10 ∷
 
 -- the line of an empty list is there; channel 31 is the highest
 smallest : sheetIn (by-forced (48 ∷ 10 ∷ 10 ∷ [])) ≡ reads (record { top = record { bid = 0; fitted = 0; forced = 0; count = 0; first = 36 }; ticks = [] }) 36
-unfolding by-forced between pairOf payloadOf has setOf withChannel peekAt byte end times text firstFrom upTo digits spells number signed hexDigit word count gap channelsFrom channelList channelSet head command tickLine sheet sheetIn
+unfolding by-forced between pairOf payloadOf has setOf withChannel peekAt byte end times text firstFrom upTo digits spells number signed hexDigit word count gap channelsFrom channelList channelSet head command anyTickLine tickLine sheet sheetIn
 smallest = refl
 
 highest : sheetIn (by-forced (49 ∷ 10 ∷ 51 ∷ 49 ∷ 10 ∷ [])) ≡ reads (record { top = record { bid = 0; fitted = 0; forced = 2147483648; count = 0; first = 38 }; ticks = [] }) 38
-unfolding by-forced between pairOf payloadOf has setOf withChannel peekAt byte end times text firstFrom upTo digits spells number signed hexDigit word count gap channelsFrom channelList channelSet head command tickLine sheet sheetIn
+unfolding by-forced between pairOf payloadOf has setOf withChannel peekAt byte end times text firstFrom upTo digits spells number signed hexDigit word count gap channelsFrom channelList channelSet head command anyTickLine tickLine sheet sheetIn
 highest = refl
 
 -- no line for the list; 3 twice; two channels where the count is 1; one where it is 2; channel 32
@@ -51,7 +51,7 @@ wrong-lists :
     × (sheetIn (by-forced (49 ∷ 10 ∷ 51 ∷ 32 ∷ 52 ∷ 10 ∷ [])) ≡ fails)
     × (sheetIn (by-forced (50 ∷ 10 ∷ 51 ∷ 10 ∷ [])) ≡ fails)
     × (sheetIn (by-forced (49 ∷ 10 ∷ 51 ∷ 50 ∷ 10 ∷ [])) ≡ fails)
-unfolding by-forced between pairOf payloadOf has setOf withChannel peekAt byte end times text firstFrom upTo digits spells number signed hexDigit word count gap channelsFrom channelList channelSet head command tickLine sheet sheetIn
+unfolding by-forced between pairOf payloadOf has setOf withChannel peekAt byte end times text firstFrom upTo digits spells number signed hexDigit word count gap channelsFrom channelList channelSet head command anyTickLine tickLine sheet sheetIn
 wrong-lists = (refl, refl, refl, refl, refl)
 
 -- ---- one tick line, 0 00000000 and what stands behind the space
@@ -67,5 +67,5 @@ wrong-ends :
     × (sheetIn (by-command (45 ∷ 10 ∷ 10 ∷ [])) ≡ fails)
     × (sheetIn (by-command (10 ∷ [])) ≡ fails)
     × (sheetIn (by-command (49 ∷ 49 ∷ [])) ≡ fails)
-unfolding by-command between pairOf payloadOf has setOf withChannel peekAt byte end times text firstFrom upTo digits spells number signed hexDigit word count gap channelsFrom channelList channelSet head command tickLine sheet sheetIn
+unfolding by-command between pairOf payloadOf has setOf withChannel peekAt byte end times text firstFrom upTo digits spells number signed hexDigit word count gap channelsFrom channelList channelSet head command anyTickLine tickLine sheet sheetIn
 wrong-ends = (refl, refl, refl, refl, refl)

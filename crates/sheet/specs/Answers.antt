@@ -1,11 +1,12 @@
 -- What the readers of a sheet answer and what a lent buffer then holds, by the form. Assumes nothing: these are definitions.
 use Prim.Native.Nat.{ℕ}
-use mathlib.Core.Bool.{Bool, true, false}
+use mathlib.Core.Bool.{Bool, true, false, cond}
 use mathlib.Core.List.{List, []}
+use lib.Dec.{leb}
 use lib.ListN.{length}
 use Rattle.hex.specs.Hex.{laid}
 use Rattle.grammar.specs.Grammar.{Read, fails, reads, on, times, end}
-use Rattle.sheet.specs.Form.{Top, Transfer, silence, bytes, Tick, tickLine, Sheet}
+use Rattle.sheet.specs.Form.{Top, Transfer, silence, bytes, bytesOf, Tick, within, tickLine, Sheet}
 use Rattle.sheet.specs.declared.head.Head.{Head}
 use Rattle.sheet.specs.declared.ticks.TickLine.{TickLine}
 use Rattle.sheet.specs.declared.ticks.Command.{Command}
@@ -23,21 +24,19 @@ abbrev pub isSent : Transfer → Bool
 isSent silence = false
 isSent (bytes bs) = true
 
-abbrev pub bytesOf : Transfer → List ℕ
-bytesOf silence = []
-bytesOf (bytes bs) = bs
-
-abbrev pub commandOf : Read Transfer → Command
-commandOf fails = Command.Not
-commandOf (reads t i) = Command.Is (isSent t) (length (bytesOf t)) i
+abbrev pub commandOf : ℕ → Read Transfer → Command
+commandOf room fails = Command.Not
+commandOf room (reads t i) = cond (leb (length (bytesOf t)) room) (Command.Is (isSent t) (length (bytesOf t)) i) Command.TooLong
 
 abbrev pub commandHeld : Read Transfer → List ℕ → List ℕ
 commandHeld fails held = held
 commandHeld (reads t i) held = laid (bytesOf t) held
 
-abbrev pub tickOf : Read Tick → TickLine
-tickOf fails = TickLine.Not
-tickOf (reads tick i) = TickLine.Is (tick .rail) (tick .overcurrent) (isSent (tick .transfer)) (length (bytesOf (tick .transfer))) i
+-- what a line that is of the form for a transfer of any length answers where the buffer has that much room
+abbrev pub tickOf : ℕ → Read Tick → TickLine
+tickOf room fails = TickLine.Not
+tickOf room (reads tick i) =
+    cond (within room tick) (TickLine.Is (tick .rail) (tick .overcurrent) (isSent (tick .transfer)) (length (bytesOf (tick .transfer))) i) TickLine.TransferTooLong
 
 abbrev pub tickHeld : Read Tick → List ℕ → List ℕ
 tickHeld fails held = held
@@ -60,3 +59,9 @@ sheetHead (reads sheet i) = headBy (sheet .top)
 abbrev pub headNumber : Head → ℕ
 headNumber (Head.Is bid fitted forced ticks first) = 0
 headNumber Head.Not = 14
+
+-- 14 where a tick line is not of the form, and 13 where it is, but the buffer is too short for the bytes of its transfer
+abbrev pub tickNumber : TickLine → ℕ
+tickNumber (TickLine.Is rail overcurrent sent count next) = 0
+tickNumber TickLine.Not = 14
+tickNumber TickLine.TransferTooLong = 13

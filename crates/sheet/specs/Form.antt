@@ -90,33 +90,50 @@ pub data Transfer : Type 0 where
   silence : Transfer
   bytes : List ℕ → Transfer
 
--- the bytes that a command spells, of at most so many, where it ends before a place
-abbrev pub spells : ℕ → Option (List ℕ) → ℕ → Read Transfer
-spells most none i = fails
-spells most (some bs) i = cond (leb (length bs) most) (reads (bytes bs) i) fails
+-- its bytes, of which there are none without a transfer
+abbrev pub bytesOf : Transfer → List ℕ
+bytesOf silence = []
+bytesOf (bytes bs) = bs
+
+-- the bytes that a command spells, where it ends before a place
+abbrev pub spells : Option (List ℕ) → ℕ → Read Transfer
+spells none i = fails
+spells (some bs) i = reads (bytes bs) i
 
 -- `-`, or pairs of hex digits as on the text line; then the line's end
-unfoldable pub command : ℕ → Parser Transfer
-command most =
+unfoldable pub command : Parser Transfer
+command =
     (text (45 ∷ 10 ∷ []) >> pure silence)
     <|> (do
       t ← upTo 10
       byte 10
-      λ s. spells most (payloadOf t))
+      λ s. spells (payloadOf t))
 
 pub record Tick : Type 0 where
   pub rail : ℤ
   pub overcurrent : ℕ
   pub transfer : Transfer
 
-unfoldable pub tickLine : ℕ → Parser Tick
-tickLine most = do
+-- a tick line whose transfer may have any length
+unfoldable pub anyTickLine : Parser Tick
+anyTickLine = do
   rail ← signed
   byte 32
   overcurrent ← word 8 0
   byte 32
-  transfer ← command most
+  transfer ← command
   pure (record { rail = rail; overcurrent = overcurrent; transfer = transfer })
+
+-- a transfer has at most so many bytes
+abbrev pub within : ℕ → Tick → Bool
+within most tick = leb (length (bytesOf (tick .transfer))) most
+
+-- a tick line whose transfer has at most so many
+unfoldable pub tickLine : ℕ → Parser Tick
+tickLine most = do
+  tick ← anyTickLine
+  where-true (within most tick)
+  pure tick
 
 -- ---- the whole sheet: at most 65,536 bytes, and none behind the last tick line
 

@@ -2,7 +2,7 @@
 ghost use mathlib.Core.Path.{_≡_};
 ghost use lib.ListN.{length};
 ghost use Rattle.hex.specs.Hex.{payloadOf};
-ghost use Rattle.sheet.specs.Form.{spells, command, tickLine};
+ghost use Rattle.sheet.specs.Form.{spells, command, anyTickLine};
 ghost use Rattle.sheet.specs.Answers.{commandOf, commandHeld, tickOf, tickHeld};
 use grammar::Next;
 use grammar::Place;
@@ -24,6 +24,7 @@ pub enum TickLine {
         next: usize,
     },
     Not,
+    TransferTooLong,
 }
 
 // Whether there is a transfer, how many bytes it has, and the place behind the line.
@@ -34,12 +35,13 @@ enum Command {
         next: usize,
     },
     Not,
+    TooLong,
 }
 
 // The bytes of a transfer, from the text of a command, into the front of a buffer.
 fn spelt(text: &[u8], next: usize, transfer: &mut [u8]) -> Command
-    ensures answer { λ r. ⌜ r ≡ commandOf (spells (length (now (transfer .entry))) (payloadOf (now (text .entry))) next) ⌝ }
-    ensures held { λ _. ⌜ now (transfer .exit) ≡ commandHeld (spells (length (now (transfer .entry))) (payloadOf (now (text .entry))) next) (now (transfer .entry)) ⌝ }
+    ensures answer { λ r. ⌜ r ≡ commandOf (length (now (transfer .entry))) (spells (payloadOf (now (text .entry))) next) ⌝ }
+    ensures held { λ _. ⌜ now (transfer .exit) ≡ commandHeld (spells (payloadOf (now (text .entry))) next) (now (transfer .entry)) ⌝ }
 {
     match hex::read(text, transfer) {
         Payload::Bytes(count) => Command::Is {
@@ -48,14 +50,14 @@ fn spelt(text: &[u8], next: usize, transfer: &mut [u8]) -> Command
             next,
         },
         Payload::NotOfForm => Command::Not,
-        Payload::TooShort => Command::Not,
+        Payload::TooShort => Command::TooLong,
     }
 }
 
 // The command up to the line's end: `-` for no transfer, else its bytes in ASCII form.
 fn read_command(s: &[u8], at: usize, transfer: &mut [u8]) -> Command
-    ensures answer { λ r. ⌜ r ≡ commandOf (command (length (now (transfer .entry))) (now (s .entry)) at) ⌝ }
-    ensures held { λ _. ⌜ now (transfer .exit) ≡ commandHeld (command (length (now (transfer .entry))) (now (s .entry)) at) (now (transfer .entry)) ⌝ }
+    ensures answer { λ r. ⌜ r ≡ commandOf (length (now (transfer .entry))) (command (now (s .entry)) at) ⌝ }
+    ensures held { λ _. ⌜ now (transfer .exit) ≡ commandHeld (command (now (s .entry)) at) (now (transfer .entry)) ⌝ }
 {
     if let Next::To(next) = literal(s, at, b"-\n") {
         return Command::Is {
@@ -70,11 +72,11 @@ fn read_command(s: &[u8], at: usize, transfer: &mut [u8]) -> Command
     spelt(&s[at..end], end + 1, transfer)
 }
 
-// The tick line at a place. The buffer's length is the most bytes that its transfer may have: a sheet's are read with 256. Where the line is not of the form, or its transfer is
-// longer, the buffer keeps what it held.
+// The tick line at a place. The buffer's length is the most bytes that its transfer may have: a sheet's are read with 256. Where the line is not of the form, or its transfer
+// has more, the buffer keeps what it held, and the answer says which of the two it is.
 pub fn read_tick(s: &[u8], at: usize, transfer: &mut [u8]) -> TickLine
-    ensures answer { λ r. ⌜ r ≡ tickOf (tickLine (length (now (transfer .entry))) (now (s .entry)) at) ⌝ }
-    ensures held { λ _. ⌜ now (transfer .exit) ≡ tickHeld (tickLine (length (now (transfer .entry))) (now (s .entry)) at) (now (transfer .entry)) ⌝ }
+    ensures answer { λ r. ⌜ r ≡ tickOf (length (now (transfer .entry))) (anyTickLine (now (s .entry)) at) ⌝ }
+    ensures held { λ _. ⌜ now (transfer .exit) ≡ tickHeld (anyTickLine (now (s .entry)) at) (now (transfer .entry)) ⌝ }
 {
     let Signed::Is {
         value: rail,
@@ -96,14 +98,15 @@ pub fn read_tick(s: &[u8], at: usize, transfer: &mut [u8]) -> TickLine
     let Next::To(command_at) = literal(s, after_set, b" ") else {
         return TickLine::Not;
     };
-    let Command::Is { sent, count, next } = read_command(s, command_at, transfer) else {
-        return TickLine::Not;
-    };
-    TickLine::Is {
-        rail,
-        overcurrent,
-        sent,
-        count,
-        next,
+    match read_command(s, command_at, transfer) {
+        Command::Is { sent, count, next } => TickLine::Is {
+            rail,
+            overcurrent,
+            sent,
+            count,
+            next,
+        },
+        Command::Not => TickLine::Not,
+        Command::TooLong => TickLine::TransferTooLong,
     }
 }

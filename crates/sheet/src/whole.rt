@@ -18,18 +18,20 @@ fn are_ticks(s: &[u8], first: usize, count: u32) -> bool
     let mut at = first;
     let mut left = count;
     while 0 < left {
-        let TickLine::Is {
-            rail: _,
-            overcurrent: _,
-            sent: _,
-            count: _,
-            next,
-        } = read_tick(s, at, &mut transfer)
-        else {
-            return false;
-        };
-        at = next;
-        left -= 1;
+        match read_tick(s, at, &mut transfer) {
+            TickLine::Is {
+                rail: _,
+                overcurrent: _,
+                sent: _,
+                count: _,
+                next,
+            } => {
+                at = next;
+                left -= 1;
+            }
+            TickLine::Not => return false,
+            TickLine::TransferTooLong => return false,
+        }
     }
     at == s.len()
 }

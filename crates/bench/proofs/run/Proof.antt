@@ -4,10 +4,10 @@ use Rattle.bench.proofs.run.Statement.{statement}
 use Rattle.bench.proofs.run.Tie as tie
 
 abbrev Inv-loop : tie.InvT-loop
-Inv-loop sheet now₀ left₀ now left = Unit {0}
+Inv-loop sheet printed now₀ left₀ now left = Unit {0}
 
 abbrev μ-loop : tie.MeasureT-loop
-μ-loop sheet now₀ left₀ now left = left
+μ-loop sheet printed now₀ left₀ now left = left
 
 buffer-requires : tie.Need-buffer-requires Inv-loop μ-loop
 buffer-requires c κs = search needs
@@ -23,6 +23,18 @@ slice-aggregate-print c = search needs
 
 print-requires : tie.Need-print-requires Inv-loop μ-loop
 print-requires c κs = search needs
+
+slice-aggregate-refusal : tie.Need-slice-aggregate-refusal Inv-loop μ-loop
+slice-aggregate-refusal c = search needs
+
+refusal-requires : tie.Need-refusal-requires Inv-loop μ-loop
+refusal-requires c κs = search needs
+
+slice-aggregate-print-2 : tie.Need-slice-aggregate-print-2 Inv-loop μ-loop
+slice-aggregate-print-2 c = search needs
+
+print-requires-2 : tie.Need-print-requires-2 Inv-loop μ-loop
+print-requires-2 c κs = search needs
 
 loop-holds : tie.Need-loop-holds Inv-loop μ-loop
 loop-holds c = tt
@@ -53,6 +65,10 @@ run-spec =
     open-requires
     slice-aggregate-print
     print-requires
+    slice-aggregate-refusal
+    refusal-requires
+    slice-aggregate-print-2
+    print-requires-2
     loop-holds
     run-tick-requires
     sub-left

@@ -5,6 +5,11 @@ use Rattle.session.specs.Sessions.{openedOf}
 use borrow.Author.Needs.{needs}
 use Rattle.session.proofs.running.open.Statement.{statement}
 use Rattle.session.proofs.running.open.Tie as tie
+use Rattle.session.proofs.running.open.Reads as reads
+use Rattle.session.proofs.running.open.Lts as lts
+use Rattle.session.proofs.running.none.Reads as none-reads
+use Rattle.session.proofs.running.started.Reads as started-reads
+use Rattle.sheet.proofs.read.Reads as read-reads
 
 read-requires : tie.Need-read-requires
 read-requires c κs = search needs
@@ -18,26 +23,17 @@ enum-told c = search needs
 none-requires : tie.Need-none-requires
 none-requires c κs = search needs
 
-slice-aggregate-text : tie.Need-slice-aggregate-text
-slice-aggregate-text c = search needs
-
-text-requires : tie.Need-text-requires
-text-requires c κs = search needs
-
-same-length : tie.Need-same-length
-same-length c = search needs
-
 returns : tie.Need-returns
 unfolding openedOf
 returns c =
-    let not-read = refused (c .before .before .before .before .before .before .before .before .before .before .before .args .s .now) (sym (c .before .before .before .before .before .before .enum-told .given .1) ∙ c .before .before .before .before .before .before .before .before .read .ensures) in
-    rw (not-read, c .before .before .before .before .before .none .ensures, c .before .before .text .ensures)
+    let not-read = refused (c .before .before .before .before .before .before .args .s .now) (sym (c .before .enum-told .given .1) ∙ c .before .before .before .read .ensures) in
+    rw (not-read, c .none .ensures)
 
 started-requires : tie.Need-started-requires
 started-requires c κs = search needs
 
-same-length-2 : tie.Need-same-length-2
-same-length-2 c = search needs
+same-length : tie.Need-same-length
+same-length c = search needs
 
 returns-2 : tie.Need-returns-2
 unfolding openedOf
@@ -53,10 +49,7 @@ open-spec =
     enum-known-bid
     enum-told
     none-requires
-    slice-aggregate-text
-    text-requires
-    same-length
     returns
     started-requires
-    same-length-2
+    same-length
     returns-2)

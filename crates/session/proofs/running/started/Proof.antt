@@ -3,6 +3,13 @@ use Rattle.session.specs.Sessions.{startedOf}
 use borrow.Author.Needs.{needs}
 use Rattle.session.proofs.running.started.Statement.{statement}
 use Rattle.session.proofs.running.started.Tie as tie
+use Rattle.session.proofs.running.started.Reads as reads
+use Rattle.session.proofs.running.started.Lts as lts
+use Rattle.memory.proofs.Store.empty.Reads as empty-reads
+use Rattle.session.proofs.running.none.Reads as none-reads
+use Rattle.session.proofs.transcript.ticks_line.Reads as ticks-line-reads
+use Rattle.unit.proofs.start.Reads as start-reads
+use Rattle.unit.proofs.unstarted.Reads as unstarted-reads
 
 unstarted-requires : tie.Need-unstarted-requires
 unstarted-requires c κs = search needs
@@ -25,12 +32,6 @@ enum-told-2 c = search needs
 none-requires : tie.Need-none-requires
 none-requires c κs = search needs
 
-slice-aggregate-text : tie.Need-slice-aggregate-text
-slice-aggregate-text c = search needs
-
-text-requires : tie.Need-text-requires
-text-requires c κs = search needs
-
 same-length : tie.Need-same-length
 same-length c = search needs
 
@@ -40,14 +41,11 @@ returns c =
     let begun = rw (c .before .before .before .before .before .before .before .before .before .unstarted .ensures, c .before .before .before .before .before .before .before .before .empty .ensures) at (c .before .before .before .before .before .before .before .start .ensures) in
     rw (← begun, c .before .before .before .before .enum-told .given .1, c .before .before .ticks-line .ensures)
 
-same-length-2 : tie.Need-same-length-2
-same-length-2 c = search needs
-
 returns-2 : tie.Need-returns-2
 unfolding startedOf
 returns-2 c =
-    let begun = rw (c .before .before .before .before .before .before .before .before .before .before .before .unstarted .ensures, c .before .before .before .before .before .before .before .before .before .before .empty .ensures) at (c .before .before .before .before .before .before .before .before .before .start .ensures) in
-    rw (← begun, c .before .before .before .before .before .before .enum-told2 .given .1, c .before .before .before .before .before .none .ensures, c .before .before .text .ensures)
+    let begun = rw (c .before .before .before .before .before .before .unstarted .ensures, c .before .before .before .before .before .empty .ensures) at (c .before .before .before .before .start .ensures) in
+    rw (← begun, c .before .enum-told2 .given .1, c .none .ensures)
 
 pub started-spec : {M : Type 1} → statement M
 started-spec =
@@ -60,9 +58,6 @@ started-spec =
     ticks-line-requires
     enum-told-2
     none-requires
-    slice-aggregate-text
-    text-requires
     same-length
     returns
-    same-length-2
     returns-2)

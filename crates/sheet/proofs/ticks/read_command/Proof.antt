@@ -1,8 +1,9 @@
 -- `read_command` meets its contract. Assumes nothing.
 use native.Mathlib.Omega.{arith}
 use mathlib.Core.Path.{refl, sym, ap, _∙_}
+use lib.ListN.{length}
 use Rattle.grammar.specs.Views.{seenNext, seenLine}
-use Rattle.sheet.proofs.Lines.{laid-none, command-silent, command-endless, command-spelt}
+use Rattle.sheet.proofs.Lines.{laid-none, silence-fits, command-silent, command-endless, command-spelt}
 use borrow.Author.Needs.{needs}
 use Rattle.sheet.proofs.ticks.read_command.Statement.{statement}
 use Rattle.sheet.proofs.ticks.read_command.Tie as tie
@@ -22,7 +23,7 @@ enum-known-next : tie.Need-enum-known-next
 enum-known-next c = search needs
 
 returns : tie.Need-returns
-returns c = rw (command-silent _ (c .before .before .before .before .before .before .before .args .s .now) (c .before .before .before .before .before .before .before .args .at) _ _ (sym (c .before .before .before .literal .ensures) ∙ ap seenNext (c .before .next .given .1)) refl) (refl, laid-none (c .before .before .before .before .before .before .before .args .transfer .now))
+returns c = rw (command-silent (c .before .before .before .before .before .before .before .args .s .now) (c .before .before .before .before .before .before .before .args .at) _ _ (sym (c .before .before .before .literal .ensures) ∙ ap seenNext (c .before .next .given .1)) refl) (silence-fits (length (c .before .before .before .before .before .before .before .args .transfer .now)) _, laid-none (c .before .before .before .before .before .before .before .args .transfer .now))
 
 enum-told : tie.Need-enum-told
 enum-told c = search needs
@@ -39,7 +40,7 @@ enum-told-2 c = search needs
 returns-2 : tie.Need-returns-2
 returns-2 c =
     let a = c .before .before .before .before .before .before .before .before .before .args in
-    rw (command-endless _ (a .s .now) (a .at) _ (sym (c .before .before .before .before .before .literal .ensures) ∙ ap seenNext (c .before .before .before .enum-told .given .1)) refl (sym (c .before .before .find-byte .ensures .0) ∙ ap (seenLine (a .s .now) (a .at)) (c .enum-told2 .given .1))) (refl, refl)
+    rw (command-endless (a .s .now) (a .at) _ (sym (c .before .before .before .before .before .literal .ensures) ∙ ap seenNext (c .before .before .before .enum-told .given .1)) refl (sym (c .before .before .find-byte .ensures .0) ∙ ap (seenLine (a .s .now) (a .at)) (c .enum-told2 .given .1))) (refl, refl)
 
 sub-spelt : tie.Need-sub-spelt
 sub-spelt c = omega (arith, (rw (c .before .end .given .1) at (c .before .before .before .find-byte .ensures .1)) .0)
@@ -62,7 +63,7 @@ same-length c = search needs
 returns-3 : tie.Need-returns-3
 returns-3 c =
     let a = c .before .before .before .before .before .before .before .before .before .before .before .before .before .before .before .args in
-    rw (command-spelt _ (a .s .now) (a .at) _ _ _ (sym (c .before .before .before .before .before .before .before .before .before .before .before .literal .ensures) ∙ ap seenNext (c .before .before .before .before .before .before .before .before .before .enum-told .given .1)) refl (sym (c .before .before .before .before .before .before .before .before .find-byte .ensures .0) ∙ ap (seenLine (a .s .now) (a .at)) (c .before .before .before .before .before .before .end .given .1))) (c .before .before .spelt .ensures)
+    rw (command-spelt (a .s .now) (a .at) _ _ _ (sym (c .before .before .before .before .before .before .before .before .before .before .before .literal .ensures) ∙ ap seenNext (c .before .before .before .before .before .before .before .before .before .enum-told .given .1)) refl (sym (c .before .before .before .before .before .before .before .before .find-byte .ensures .0) ∙ ap (seenLine (a .s .now) (a .at)) (c .before .before .before .before .before .before .end .given .1))) (c .before .before .spelt .ensures)
 
 pub read-command-spec : {M : Type 1} → statement M
 read-command-spec =

@@ -4,7 +4,7 @@ use mathlib.Core.Path.{refl, sym, ap, _∙_}
 use lib.ListN.{length}
 use Rattle.grammar.specs.Views.{seenNext, seenSigned, seenWord}
 use Rattle.grammar.proofs.Signs.{kept}
-use Rattle.sheet.specs.Form.{command, tickLine}
+use Rattle.sheet.specs.Form.{command, anyTickLine}
 use Rattle.sheet.proofs.Parts.{text-one}
 use Rattle.sheet.proofs.Lines.{tickBy, tick-told, tick-held}
 use borrow.Author.Needs.{needs}
@@ -27,7 +27,7 @@ enum-told : tie.Need-enum-told
 enum-told c = search needs
 
 returns : tie.Need-returns
-unfolding tickLine
+unfolding anyTickLine
 returns c = rw (sym (c .before .before .read-signed .ensures) ∙ ap seenSigned (c .enum-told .given .1)) (refl, refl)
 
 slice-aggregate-literal : tie.Need-slice-aggregate-literal
@@ -43,7 +43,7 @@ enum-told-2 : tie.Need-enum-told-2
 enum-told-2 c = search needs
 
 returns-2 : tie.Need-returns-2
-unfolding tickLine
+unfolding anyTickLine
 returns-2 c =
     rw (
       sym (c .before .before .before .before .before .before .before .read-signed .ensures) ∙ ap seenSigned (c .before .before .before .before .before .rail .given .1),
@@ -60,7 +60,7 @@ enum-told-3 : tie.Need-enum-told-3
 enum-told-3 c = search needs
 
 returns-3 : tie.Need-returns-3
-unfolding tickLine
+unfolding anyTickLine
 returns-3 c =
     rw (
       sym (c .before .before .before .before .before .before .before .before .before .before .before .read-signed .ensures) ∙ ap seenSigned (c .before .before .before .before .before .before .before .before .before .rail .given .1),
@@ -81,7 +81,7 @@ enum-told-4 : tie.Need-enum-told-4
 enum-told-4 c = search needs
 
 returns-4 : tie.Need-returns-4
-unfolding tickLine
+unfolding anyTickLine
 returns-4 c =
     rw (
       sym (c .before .before .before .before .before .before .before .before .before .before .before .before .before .before .before .before .read-signed .ensures) ∙ ap seenSigned (c .before .before .before .before .before .before .before .before .before .before .before .before .before .before .rail .given .1),
@@ -99,37 +99,20 @@ enum-known-sent c = search needs
 enum-told-5 : tie.Need-enum-told-5
 enum-told-5 c = search needs
 
+enum-told-6 : tie.Need-enum-told-6
+enum-told-6 c = search needs
+
 same-length : tie.Need-same-length
 same-length c = search needs
 
 returns-5 : tie.Need-returns-5
-unfolding tickLine
+unfolding anyTickLine
 returns-5 c =
-    let a = c .before .before .before .before .before .before .before .before .before .before .before .before .before .before .before .before .before .before .before .before .before .before .before .before .before .before .args in
-    let rail = c .before .before .before .before .before .before .before .before .before .before .before .before .before .before .before .before .before .before .before .before .before .rail .given in
-    let set = c .before .before .before .before .before .before .before .before .before .before .before .before .overcurrent .given in
-    let order = command (length (a .transfer .now)) (a .s .now) (c .before .before .before .before .before .before .before .command-at .given .0 .0) in
-    rw (
-      sym (c .before .before .before .before .before .before .before .before .before .before .before .before .before .before .before .before .before .before .before .before .before .before .before .read-signed .ensures) ∙ ap seenSigned (rail .1),
-      sym (text-one 32 _ _) ∙ sym (c .before .before .before .before .before .before .before .before .before .before .before .before .before .before .before .before .before .before .literal .ensures) ∙ ap seenNext (c .before .before .before .before .before .before .before .before .before .before .before .before .before .before .before .before .set-at .given .1),
-      sym (c .before .before .before .before .before .before .before .before .before .before .before .before .before .before .read-word .ensures) ∙ ap seenWord (set .1),
-      sym (text-one 32 _ _) ∙ sym (c .before .before .before .before .before .before .before .before .before .literal2 .ensures) ∙ ap seenNext (c .before .before .before .before .before .before .before .command-at .given .1),
-    ) (
-      ap (tickBy (rail .0 .0) (set .0 .0)) (sym (c .enum-told5 .given .1) ∙ c .before .before .before .before .read-command .ensures .0) ∙ tick-told (rail .0 .0) (set .0 .0) order,
-      c .before .before .before .before .read-command .ensures .1 ∙ tick-held (rail .0 .0) (set .0 .0) order (a .transfer .now),
-    )
-
-same-length-2 : tie.Need-same-length-2
-same-length-2 c = search needs
-
-returns-6 : tie.Need-returns-6
-unfolding tickLine
-returns-6 c =
     let a = c .before .before .before .before .before .before .before .before .before .before .before .before .before .before .before .before .before .before .before .before .before .before .before .before .before .before .before .args in
     let rail = c .before .before .before .before .before .before .before .before .before .before .before .before .before .before .before .before .before .before .before .before .before .before .rail .given in
     let set = c .before .before .before .before .before .before .before .before .before .before .before .before .before .overcurrent .given in
     let told = c .before .sent .given in
-    let order = command (length (a .transfer .now)) (a .s .now) (c .before .before .before .before .before .before .before .before .command-at .given .0 .0) in
+    let order = command (a .s .now) (c .before .before .before .before .before .before .before .before .command-at .given .0 .0) in
     rw (
       sym (c .before .before .before .before .before .before .before .before .before .before .before .before .before .before .before .before .before .before .before .before .before .before .before .before .read-signed .ensures) ∙ ap seenSigned (rail .1),
       sym (text-one 32 _ _) ∙ sym (c .before .before .before .before .before .before .before .before .before .before .before .before .before .before .before .before .before .before .before .literal .ensures) ∙ ap seenNext (c .before .before .before .before .before .before .before .before .before .before .before .before .before .before .before .before .before .set-at .given .1),
@@ -137,8 +120,48 @@ returns-6 c =
       sym (text-one 32 _ _) ∙ sym (c .before .before .before .before .before .before .before .before .before .before .literal2 .ensures) ∙ ap seenNext (c .before .before .before .before .before .before .before .before .command-at .given .1),
       kept (rail .0 .0) (rail .0 .0) refl (omega (arith, c .before .before .before .before .before .before .before .before .before .before .before .before .before .before .before .before .before .before .before .before .before .known-told .given .0 .1)),
     ) (
-      ap (tickBy (rail .0 .0) (set .0 .0)) (sym (told .1) ∙ c .before .before .before .before .before .read-command .ensures .0) ∙ tick-told (rail .0 .0) (set .0 .0) order,
+      ap (tickBy (rail .0 .0) (set .0 .0)) (sym (told .1) ∙ c .before .before .before .before .before .read-command .ensures .0) ∙ tick-told (rail .0 .0) (set .0 .0) (length (a .transfer .now)) order,
       c .before .before .before .before .before .read-command .ensures .1 ∙ tick-held (rail .0 .0) (set .0 .0) order (a .transfer .now),
+    )
+
+same-length-2 : tie.Need-same-length-2
+same-length-2 c = search needs
+
+returns-6 : tie.Need-returns-6
+unfolding anyTickLine
+returns-6 c =
+    let a = c .before .before .before .before .before .before .before .before .before .before .before .before .before .before .before .before .before .before .before .before .before .before .before .before .before .before .args in
+    let rail = c .before .before .before .before .before .before .before .before .before .before .before .before .before .before .before .before .before .before .before .before .before .rail .given in
+    let set = c .before .before .before .before .before .before .before .before .before .before .before .before .overcurrent .given in
+    let order = command (a .s .now) (c .before .before .before .before .before .before .before .command-at .given .0 .0) in
+    rw (
+      sym (c .before .before .before .before .before .before .before .before .before .before .before .before .before .before .before .before .before .before .before .before .before .before .before .read-signed .ensures) ∙ ap seenSigned (rail .1),
+      sym (text-one 32 _ _) ∙ sym (c .before .before .before .before .before .before .before .before .before .before .before .before .before .before .before .before .before .before .literal .ensures) ∙ ap seenNext (c .before .before .before .before .before .before .before .before .before .before .before .before .before .before .before .before .set-at .given .1),
+      sym (c .before .before .before .before .before .before .before .before .before .before .before .before .before .before .read-word .ensures) ∙ ap seenWord (set .1),
+      sym (text-one 32 _ _) ∙ sym (c .before .before .before .before .before .before .before .before .before .literal2 .ensures) ∙ ap seenNext (c .before .before .before .before .before .before .before .command-at .given .1),
+    ) (
+      ap (tickBy (rail .0 .0) (set .0 .0)) (sym (c .enum-told5 .given .1) ∙ c .before .before .before .before .read-command .ensures .0) ∙ tick-told (rail .0 .0) (set .0 .0) (length (a .transfer .now)) order,
+      c .before .before .before .before .read-command .ensures .1 ∙ tick-held (rail .0 .0) (set .0 .0) order (a .transfer .now),
+    )
+
+same-length-3 : tie.Need-same-length-3
+same-length-3 c = search needs
+
+returns-7 : tie.Need-returns-7
+unfolding anyTickLine
+returns-7 c =
+    let a = c .before .before .before .before .before .before .before .before .before .before .before .before .before .before .before .before .before .before .before .before .before .before .before .before .before .before .args in
+    let rail = c .before .before .before .before .before .before .before .before .before .before .before .before .before .before .before .before .before .before .before .before .before .rail .given in
+    let set = c .before .before .before .before .before .before .before .before .before .before .before .before .overcurrent .given in
+    let order = command (a .s .now) (c .before .before .before .before .before .before .before .command-at .given .0 .0) in
+    rw (
+      sym (c .before .before .before .before .before .before .before .before .before .before .before .before .before .before .before .before .before .before .before .before .before .before .before .read-signed .ensures) ∙ ap seenSigned (rail .1),
+      sym (text-one 32 _ _) ∙ sym (c .before .before .before .before .before .before .before .before .before .before .before .before .before .before .before .before .before .before .literal .ensures) ∙ ap seenNext (c .before .before .before .before .before .before .before .before .before .before .before .before .before .before .before .before .set-at .given .1),
+      sym (c .before .before .before .before .before .before .before .before .before .before .before .before .before .before .read-word .ensures) ∙ ap seenWord (set .1),
+      sym (text-one 32 _ _) ∙ sym (c .before .before .before .before .before .before .before .before .before .literal2 .ensures) ∙ ap seenNext (c .before .before .before .before .before .before .before .command-at .given .1),
+    ) (
+      ap (tickBy (rail .0 .0) (set .0 .0)) (sym (c .enum-told6 .given .1) ∙ c .before .before .before .before .read-command .ensures .0) ∙ tick-told (rail .0 .0) (set .0 .0) (length (a .transfer .now)) order,
+      c .before .before .before .before .read-command .ensures .1 ∙ tick-held (rail .0 .0) (set .0 .0) order (a .transfer .now),
     )
 
 pub read-tick-spec : {M : Type 1} → statement M
@@ -166,7 +189,10 @@ read-tick-spec =
     read-command-requires
     enum-known-sent
     enum-told-5
+    enum-told-6
     same-length
     returns-5
     same-length-2
-    returns-6)
+    returns-6
+    same-length-3
+    returns-7)

@@ -35,15 +35,6 @@ read-tick-requires c κs = search needs
 enum-known-next : tie.Need-enum-known-next Inv-loop μ-loop
 enum-known-next c = search needs
 
-enum-told : tie.Need-enum-told Inv-loop μ-loop
-enum-told c = search needs
-
-returns : tie.Need-returns Inv-loop μ-loop
-returns c =
-    let a = c .before .before .before .before .before .before .before .before .args in
-    let l = c .before .before .before .before .before .before .loop in
-    ap (areTicksBehind (l .left - 1) (a .s .now)) (sym (c .enum-told .given .1) ∙ c .before .before .before .read-tick .ensures .0) ∙ ticks-turn (l .left) (a .s .now) (l .at) _ (omega arith) (omega (arith, l .inv .room)) ∙ l .inv .same
-
 sub-left : tie.Need-sub-left Inv-loop μ-loop
 sub-left c = search needs
 
@@ -59,8 +50,26 @@ loop-again c =
       same = ap (areTicksBehind (l .left - 1) (a .s .now)) (sym (c .before .next .given .1) ∙ c .before .before .before .before .read-tick .ensures .0) ∙ ticks-turn (l .left) (a .s .now) (l .at) _ (omega arith) (omega (arith, l .inv .room)) ∙ l .inv .same;
     }
 
+enum-told : tie.Need-enum-told Inv-loop μ-loop
+enum-told c = search needs
+
+returns : tie.Need-returns Inv-loop μ-loop
+returns c =
+    let a = c .before .before .before .before .before .before .before .before .args in
+    let l = c .before .before .before .before .before .before .loop in
+    ap (areTicksBehind (l .left - 1) (a .s .now)) (sym (c .enum-told .given .1) ∙ c .before .before .before .read-tick .ensures .0) ∙ ticks-turn (l .left) (a .s .now) (l .at) _ (omega arith) (omega (arith, l .inv .room)) ∙ l .inv .same
+
+enum-told-2 : tie.Need-enum-told-2 Inv-loop μ-loop
+enum-told-2 c = search needs
+
 returns-2 : tie.Need-returns-2 Inv-loop μ-loop
 returns-2 c =
+    let a = c .before .before .before .before .before .before .before .before .args in
+    let l = c .before .before .before .before .before .before .loop in
+    ap (areTicksBehind (l .left - 1) (a .s .now)) (sym (c .enum-told2 .given .1) ∙ c .before .before .before .read-tick .ensures .0) ∙ ticks-turn (l .left) (a .s .now) (l .at) _ (omega arith) (omega (arith, l .inv .room)) ∙ l .inv .same
+
+returns-3 : tie.Need-returns-3 Inv-loop μ-loop
+returns-3 c =
     let l = c .before .loop in
     ticks-end (l .left) (c .before .before .before .args .s .now) (l .at) (omega arith) ∙ l .inv .same
 
@@ -74,9 +83,11 @@ are-ticks-spec =
     slice-aggregate-read-tick
     read-tick-requires
     enum-known-next
-    enum-told
-    returns
     sub-left
     loop-less
     loop-again
-    returns-2)
+    enum-told
+    returns
+    enum-told-2
+    returns-2
+    returns-3)
