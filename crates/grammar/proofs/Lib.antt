@@ -4,3 +4,4 @@ pub mod Digits
 pub mod Signs
 pub mod Words
 pub mod Examples
+pub mod Refusals

@@ -41,6 +41,27 @@ abbrev pub Lies : Place → ℕ → ℕ → Type 0
 Lies (At place) i n = (i ≤ place) × (place < n)
 Lies Never i n = Unit {0}
 
+-- ---- document 01's number of each answer: 14 where nothing was read, and 0 stands for none
+abbrev pub nextRefusal : Next → ℕ
+nextRefusal (To j) = 0
+nextRefusal NotNext = 14
+
+abbrev pub numberRefusal : Number → ℕ
+numberRefusal (IsNumber v j) = 0
+numberRefusal NotNumber = 14
+
+abbrev pub signedRefusal : Signed → ℕ
+signedRefusal (IsSigned v j) = 0
+signedRefusal NotSigned = 14
+
+abbrev pub wordRefusal : Word → ℕ
+wordRefusal (IsWord v j) = 0
+wordRefusal NotWord = 14
+
+abbrev pub placeRefusal : Place → ℕ
+placeRefusal (At place) = 0
+placeRefusal Never = 14
+
 -- document 01's number where this part has to stand: without it a sheet is not of its form. Tried as one of two ways it is no refusal yet. 0 is none
 abbrev pub refusalOf : {A : Type 0} → Read A → ℕ
 refusalOf fails = 14

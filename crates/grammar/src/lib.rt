@@ -4,7 +4,7 @@ ghost use Prim.Native.Nat.{_<_, _≤_};
 ghost use lib.ListN.{length};
 ghost use Rattle.grammar.specs.Grammar.{peekAt, text, upTo};
 ghost use Rattle.grammar.specs.Numbers.{digitAt, number, signed, word};
-ghost use Rattle.grammar.specs.Views.{seenNext, seenNumber, seenSigned, seenWord, seenLine, Lies};
+ghost use Rattle.grammar.specs.Views.{seenNext, seenNumber, seenSigned, seenWord, seenLine, Lies, nextRefusal, numberRefusal, signedRefusal, wordRefusal, placeRefusal, refusalOf};
 
 // The byte at a place. Past the end it is 256, so that no reader asks for the end by itself.
 pub fn peek(s: &[u8], at: usize) -> u16
@@ -23,7 +23,8 @@ pub enum Next {
 
 // These bytes at a place, one after the other.
 pub fn literal(s: &[u8], at: usize, wanted: &[u8]) -> Next
-    ensures { λ r. ⌜ seenNext r ≡ text (now (wanted .entry)) (now (s .entry)) at ⌝ }
+    ensures is { λ r. ⌜ seenNext r ≡ text (now (wanted .entry)) (now (s .entry)) at ⌝ }
+    ensures number { λ r. ⌜ nextRefusal r ≡ refusalOf (text (now (wanted .entry)) (now (s .entry)) at) ⌝ }
 {
     let n = wanted.len();
     let mut i = at;
@@ -49,6 +50,7 @@ pub enum Place {
 pub fn find_byte(s: &[u8], at: usize, b: u8) -> Place
     ensures is { λ r. ⌜ seenLine (now (s .entry)) at r ≡ upTo b (now (s .entry)) at ⌝ }
     ensures lies { λ r. ⌜ Lies r at (length (now (s .entry))) ⌝ }
+    ensures number { λ r. ⌜ placeRefusal r ≡ refusalOf (upTo b (now (s .entry)) at) ⌝ }
 {
     let n = s.len();
     let mut i = at;
@@ -84,7 +86,8 @@ pub enum Number {
 
 // A decimal number of at most limit. Reading stops once the limit is passed, so that any count of digits may come and nothing overflows.
 pub fn read_number(s: &[u8], at: usize, limit: u32) -> Number
-    ensures { λ r. ⌜ seenNumber r ≡ number limit (now (s .entry)) at ⌝ }
+    ensures is { λ r. ⌜ seenNumber r ≡ number limit (now (s .entry)) at ⌝ }
+    ensures number { λ r. ⌜ numberRefusal r ≡ refusalOf (number limit (now (s .entry)) at) ⌝ }
 {
     let first = decimal(s, at);
     if 9 < first {
@@ -128,18 +131,19 @@ pub enum Signed {
 // A number from -32768 to 32767, with a - in front if it is below 0. Its value comes from its pattern, since a magnitude of 32768 has no
 // place in the type.
 pub fn read_signed(s: &[u8], at: usize) -> Signed
-    ensures { λ r. ⌜ seenSigned r ≡ signed (now (s .entry)) at ⌝ }
+    ensures is { λ r. ⌜ seenSigned r ≡ signed (now (s .entry)) at ⌝ }
+    ensures number { λ r. ⌜ signedRefusal r ≡ refusalOf (signed (now (s .entry)) at) ⌝ }
 {
     if peek(s, at) == 45 {
         let Number::Is { value, next } = read_number(s, at + 1, 32768) else {
             return Signed::Not;
         };
-        if value == 0 {
-            return Signed::Not;
-        }
-        Signed::Is {
-            value: wire::twos16((65536 - value) as u16),
-            next,
+        match value {
+            0 => Signed::Not,
+            _ => Signed::Is {
+                value: wire::twos16((65536 - value) as u16),
+                next,
+            },
         }
     } else {
         let Number::Is { value, next } = read_number(s, at, 32767) else {
@@ -160,7 +164,8 @@ pub enum Word {
 
 // Eight hex digits of either case, the uppermost first. Whether a ninth stands behind them is for the caller to ask.
 pub fn read_word(s: &[u8], at: usize) -> Word
-    ensures { λ r. ⌜ seenWord r ≡ word 8 0 (now (s .entry)) at ⌝ }
+    ensures is { λ r. ⌜ seenWord r ≡ word 8 0 (now (s .entry)) at ⌝ }
+    ensures number { λ r. ⌜ wordRefusal r ≡ refusalOf (word 8 0 (now (s .entry)) at) ⌝ }
 {
     let mut v: u64 = 0;
     let mut i = at;

@@ -2,24 +2,28 @@
 use Prim.Native.Nat.{ℕ, zero, suc, _+_, _-_, _≤_, _<_}
 use mathlib.Core.Path.{_≡_, refl, ap, sym, _∙_}
 use mathlib.Core.Bool.{Bool, true, false, cond}
+use mathlib.Core.Logic.{⊎-elim}
 use mathlib.Core.List.{List, [], _++_}
 use native.Mathlib.Omega.{arith}
 use lib.ListN.{length}
-use borrow.Author.Tests.{ne-eqb, le-ltb}
+use borrow.Author.Tests.{ne-eqb, lt-ltb, le-ltb, le-leb, lt-leb}
+use Rattle.laws.proofs.Lists.{lt-or-le}
 use Rattle.state.specs.declared.starting.StartAnswer as start
 use Rattle.state.specs.Start.{keepsTheRules, startOf}
 use Rattle.memory.specs.Memory.{emptyStore}
 use Rattle.unit.specs.Machine.{begunOf}
 use Rattle.unit.specs.declared.Machine.{Machine}
 use Rattle.grammar.specs.Grammar.{Read, fails, reads, times}
-use Rattle.sheet.specs.Form.{Tick, tickLine, Sheet, sheetIn}
+use Rattle.sheet.specs.Form.{Tick, tickLine, Sheet, sheet, sheetIn}
 use Rattle.sheet.specs.Answers.{headBy, sheetHead}
 use Rattle.sheet.proofs.Behind.{times-turn, times-none}
 use Rattle.sheet.proofs.Sheets.{Accepted, accepted}
 use Rattle.script.specs.Printing.{page, typed}
 use Rattle.session.specs.Transcript.{ticksText}
-use Rattle.session.specs.Sessions.{tickOn, lineOf, linesFrom, profileIn, beginning, begunText, sheetText, transcriptOf, opens, steps, noSession, startedBy, startedOf, openedBy, openedOf, after, numberOf, tickedOf, isOver, steppedBy, steppedOf, sessionBy, firstBy, answerBy, sessionFrom, firstFrom, answerFrom, refusalText, nextBy, printedBy, stepsFrom, answerNumber}
+use Rattle.session.specs.Sessions.{tickOn, lineOf, linesFrom, profileIn, beginning, begunText, sheetText, transcriptOf, Open, opens, opened, steps, noSession, startedBy, startedOf, openedBy, openedOf, after, numberOf, tickedOf, isOver, steppedBy, steppedOf, sessionBy, firstBy, answerBy, sessionFrom, firstFrom, answerFrom, refusalText, nextBy, printedBy, stepsFrom, answerNumber, formRefusal, sheetRefusal}
 use Rattle.session.specs.declared.running.Session.{Session}
+use Rattle.session.specs.declared.running.Answer.{Answer}
+use Rattle.session.specs.declared.running.Opened.{Opened}
 
 -- ---- what a call leaves, as a session and a text
 pub open-is : (held s : List ℕ) → openedOf held s ≡ opens (sessionFrom (sheetIn s)) (answerFrom (sheetIn s)) (typed (page held 0) (firstFrom (sheetIn s)))
@@ -116,3 +120,28 @@ module _ (s : List ℕ) (sheet : Sheet) (i : ℕ) (read : sheetIn s ≡ reads sh
   pub only-8 : keepsTheRules (profileIn (sheet .top)) emptyStore ≡ true → answerNumber (answerFrom (sheetIn s)) ≡ 0
   unfolding begunOf startOf
   only-8 kept = rw (read, kept)
+
+-- both at once, by the length of the sheet and the form
+by-form : (r : Read Sheet) → answerNumber (answerFrom r) ≡ formRefusal r
+unfolding begunOf startOf
+by-form fails = refl
+by-form (reads w i) = go (keepsTheRules (profileIn (w .top)) emptyStore) refl
+  where
+    go : (kept : Bool) → keepsTheRules (profileIn (w .top)) emptyStore ≡ kept → answerNumber (answerFrom (reads w i)) ≡ cond kept 0 8
+    go true e = rw e
+    go false e = rw e
+
+pub number-is : (s : List ℕ) → answerNumber (answerFrom (sheetIn s)) ≡ sheetRefusal s
+unfolding sheetRefusal sheetIn
+number-is s =
+    ⊎-elim
+    (λ (h : 65536 < length s). rw (lt-leb (length s) 65536 h, lt-ltb 65536 (length s) h))
+    (λ (h : length s ≤ 65536). rw (le-leb (length s) 65536 h, le-ltb 65536 (length s) h) (by-form (sheet s 0)))
+    (lt-or-le 65536 (length s))
+
+-- what opening leaves says the number
+abbrev answerIn : Open → Answer
+answerIn (opens session answer p) = answer
+
+pub with-number : (r : Opened) (held after s : List ℕ) → opened r after ≡ openedOf held s → (opened r after ≡ openedOf held s) × (answerNumber (r .answer) ≡ sheetRefusal s)
+with-number r held after s e = (e, ap (λ (o : Open). answerNumber (answerIn o)) (e ∙ open-is held s) ∙ number-is s)

@@ -4,7 +4,9 @@ use mathlib.Core.Bool.{Bool, cond, _||_}
 use mathlib.Core.List.{List, [], _∷_, _++_}
 use lib.Dec.{eqb, ltb}
 use lib.IntN.{ℤ}
+use lib.ListN.{length}
 use Rattle.memory.specs.Memory.{emptyStore}
+use Rattle.state.specs.Start.{keepsTheRules}
 use Rattle.state.specs.declared.parts.Profile.{Profile}
 use Rattle.state.specs.declared.starting.StartAnswer as start
 use Rattle.unit.specs.Machine.{noMachine, begunOf, toldOf}
@@ -12,7 +14,7 @@ use Rattle.unit.specs.declared.Machine.{Machine}
 use Rattle.unit.specs.declared.Begun.{Begun}
 use Rattle.unit.specs.declared.Told.{Told}
 use Rattle.grammar.specs.Grammar.{Read, fails, reads}
-use Rattle.sheet.specs.Form.{Top, bytesOf, Tick, tickLine, Sheet, sheetIn}
+use Rattle.sheet.specs.Form.{Top, bytesOf, Tick, tickLine, Sheet, sheet, sheetIn}
 use Rattle.sheet.specs.Answers.{isSent}
 use Rattle.script.specs.Printing.{Page, page, typed}
 use Rattle.session.specs.Transcript.{tickText, ticksText, refused8, refused14}
@@ -174,3 +176,11 @@ abbrev pub answerNumber : Answer → ℕ
 answerNumber Running = 0
 answerNumber ProfileBreaksARule = 8
 answerNumber NotOfForm = 14
+
+-- the number for a sheet: 14 where it has over 65,536 bytes or is not of the form, else 8 where its profile breaks a rule, else none
+abbrev pub formRefusal : Read Sheet → ℕ
+formRefusal fails = 14
+formRefusal (reads w i) = cond (keepsTheRules (profileIn (w .top)) emptyStore) 0 8
+
+unfoldable pub sheetRefusal : List ℕ → ℕ
+sheetRefusal s = cond (ltb 65536 (length s)) 14 (formRefusal (sheet s 0))

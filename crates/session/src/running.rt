@@ -2,7 +2,7 @@
 ghost use mathlib.Core.Path.{_≡_};
 ghost use Prim.Native.Nat.{_<_, _≤_};
 ghost use Rattle.script.specs.Printing.{page, typed};
-ghost use Rattle.session.specs.Sessions.{noSession, endedStep, opened, stepped, startedOf, openedOf, refusalText, steppedOf, tickedOf};
+ghost use Rattle.session.specs.Sessions.{noSession, endedStep, opened, stepped, startedOf, openedOf, refusalText, steppedOf, tickedOf, answerNumber, sheetRefusal};
 use crate::transcript::tick_line;
 use crate::transcript::ticks_line;
 use memory::Store;
@@ -82,7 +82,8 @@ fn started(profile: Profile, ticks: u32, first: usize, out: &mut [u8]) -> Opened
 // Opens a sheet of any bytes: the form of the whole sheet is looked at before the profile in it. The first line of the transcript goes into the front of the lent buffer, and a
 // buffer that is too short is filled with its front; where the sheet is refused, the buffer keeps what it held.
 pub fn open(s: &[u8], out: &mut [u8]) -> Opened
-    ensures { λ r. ⌜ opened r (now (out .exit)) ≡ openedOf (now (out .entry)) (now (s .entry)) ⌝ }
+    ensures leaves { λ r. ⌜ opened r (now (out .exit)) ≡ openedOf (now (out .entry)) (now (s .entry)) ⌝ }
+    ensures number { λ r. ⌜ answerNumber (r .answer) ≡ sheetRefusal (now (s .entry)) ⌝ }
 {
     let Head::Is {
         bid,

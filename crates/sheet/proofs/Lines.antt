@@ -1,6 +1,6 @@
 -- A tick line, one equation for each way that the code can go. Assumes nothing.
 use Prim.Native.Nat.{ℕ, _+_}
-use mathlib.Core.Path.{_≡_, refl}
+use mathlib.Core.Path.{_≡_, refl, ap, _∙_}
 use mathlib.Core.Bool.{Bool, true, false, cond}
 use mathlib.Core.Option.{Option, none, some}
 use mathlib.Core.List.{List, [], _∷_, _++_}
@@ -12,8 +12,8 @@ use Rattle.hex.specs.declared.Payload.{Payload}
 use Rattle.hex.specs.declared.Payload.the-variants.{Bytes, NotOfForm, TooShort}
 use Rattle.grammar.specs.Grammar.{Read, fails, reads, on, text, upTo}
 use Rattle.grammar.proofs.Bytes.{upTo-byte}
-use Rattle.sheet.specs.Form.{Transfer, silence, bytes, bytesOf, spells, command, Tick}
-use Rattle.sheet.specs.Answers.{isSent, commandOf, commandHeld, tickOf, tickHeld}
+use Rattle.sheet.specs.Form.{where-true, Transfer, silence, bytes, bytesOf, spells, command, Tick, anyTickLine, within, tickLine}
+use Rattle.sheet.specs.Answers.{isSent, commandOf, commandHeld, tickOf, tickHeld, isRead, tickNumber, tickRefusal}
 use Rattle.sheet.specs.declared.ticks.TickLine.{TickLine}
 use Rattle.sheet.specs.declared.ticks.Command.{Command}
 
@@ -80,3 +80,23 @@ module _ (rail : ℤ) (overcurrent : ℕ) where
   pub tick-held : (r : Read Transfer) (held : List ℕ) → commandHeld r held ≡ tickHeld (tickWith r) held
   tick-held fails held = refl
   tick-held (reads t j) held = refl
+
+-- ---- the number of the answer, by the form
+tick-number : (room : ℕ) (s : List ℕ) (i : ℕ) → tickNumber (tickOf room (anyTickLine s i)) ≡ tickRefusal room s i
+unfolding tickRefusal tickLine
+tick-number room s i = go (anyTickLine s i)
+  where
+    go : (r : Read Tick)
+        → tickNumber (tickOf room r) ≡ cond (isRead (on r (λ tick j. on (where-true (within room tick) s j) (λ u k. reads tick k)))) 0 (cond (isRead r) 13 14)
+    go fails = refl
+    go (reads t j) = fit (within room t)
+      where
+        fit : (b : Bool)
+            → tickNumber (cond b (TickLine.Is (t .rail) (t .overcurrent) (isSent (t .transfer)) (length (bytesOf (t .transfer))) j) TickLine.TransferTooLong)
+            ≡ cond (isRead (on (where-true b s j) (λ u k. reads t k))) 0 13
+        fit true = refl
+        fit false = refl
+
+pub with-number : {Held : Type 0} (r : TickLine) (room : ℕ) (s : List ℕ) (i : ℕ) → (r ≡ tickOf room (anyTickLine s i)) × Held
+    → (r ≡ tickOf room (anyTickLine s i)) × (Held × (tickNumber r ≡ tickRefusal room s i))
+with-number r room s i e = (e .0, (e .1, ap tickNumber (e .0) ∙ tick-number room s i))

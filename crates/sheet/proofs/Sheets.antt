@@ -10,6 +10,7 @@ use lib.ListN.{length}
 use borrow.Author.Tests.{le-leb, lt-leb, eqb-true}
 use Rattle.laws.proofs.Lists.{lt-or-le}
 use Rattle.grammar.specs.Grammar.{Read, fails, reads, on, times, end}
+use Rattle.grammar.specs.Views.{refusalOf}
 use Rattle.sheet.specs.Form.{boardWord, fittedWord, forcedWord, ticksWord, count, channelSet, Top, topAt, head, Tick, tickLine, Sheet, sheet, sheetIn}
 use Rattle.sheet.specs.Answers.{headBy, headOf, isRead, areTicks, sheetHead, headNumber}
 use Rattle.sheet.specs.declared.head.Head.{Head}
@@ -114,12 +115,12 @@ all-read s w i e =
     (lt-or-le 65536 (length s))
 
 -- ---- the answer is a head exactly where the sheet is of the form, and then it is that sheet's
-pub answered : (s : List ℕ) → headNumber (sheetHead (sheetIn s)) ≡ cond (isRead (sheetIn s)) 0 14
-answered s = go (sheetIn s)
-  where
-    go : (r : Read Sheet) → headNumber (sheetHead r) ≡ cond (isRead r) 0 14
-    go fails = refl
-    go (reads w i) = refl
+sheet-number : (r : Read Sheet) → headNumber (sheetHead r) ≡ refusalOf r
+sheet-number fails = refl
+sheet-number (reads w i) = refl
+
+pub with-sheet-number : (h : Head) (s : List ℕ) → h ≡ sheetHead (sheetIn s) → (h ≡ sheetHead (sheetIn s)) × (headNumber h ≡ refusalOf (sheetIn s))
+with-sheet-number h s e = (e, ap headNumber e ∙ sheet-number (sheetIn s))
 
 -- the sheet behind a head that was answered; its ticks are read one after another from the first on, up to the end
 pub record Accepted (s : List ℕ) (bid fitted forced ticks first : ℕ) : Type 0 where

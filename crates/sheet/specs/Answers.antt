@@ -6,7 +6,7 @@ use lib.Dec.{leb}
 use lib.ListN.{length}
 use Rattle.hex.specs.Hex.{laid}
 use Rattle.grammar.specs.Grammar.{Read, fails, reads, on, times, end}
-use Rattle.sheet.specs.Form.{Top, Transfer, silence, bytes, bytesOf, Tick, within, tickLine, Sheet}
+use Rattle.sheet.specs.Form.{Top, Transfer, silence, bytes, bytesOf, Tick, anyTickLine, within, tickLine, Sheet}
 use Rattle.sheet.specs.declared.head.Head.{Head}
 use Rattle.sheet.specs.declared.ticks.TickLine.{TickLine}
 use Rattle.sheet.specs.declared.ticks.Command.{Command}
@@ -65,3 +65,7 @@ abbrev pub tickNumber : TickLine → ℕ
 tickNumber (TickLine.Is rail overcurrent sent count next) = 0
 tickNumber TickLine.Not = 14
 tickNumber TickLine.TransferTooLong = 13
+
+-- the number by the form: 0 for a tick line whose transfer has at most so many bytes, 13 for one whose transfer has more, 14 for what is none
+unfoldable pub tickRefusal : ℕ → List ℕ → ℕ → ℕ
+tickRefusal most s i = cond (isRead (tickLine most s i)) 0 (cond (isRead (anyTickLine s i)) 13 14)

@@ -1,8 +1,8 @@
 // What stands before the ticks of a sheet.
 ghost use mathlib.Core.Path.{_≡_};
-ghost use Rattle.grammar.specs.Views.{seenNext, seenNumber, seenWord};
+ghost use Rattle.grammar.specs.Views.{seenNext, seenNumber, seenWord, refusalOf};
 ghost use Rattle.sheet.specs.Form.{count, gap, channelsFrom, channelList, channelSet, head};
-ghost use Rattle.sheet.specs.Answers.{headOf};
+ghost use Rattle.sheet.specs.Answers.{headOf, headNumber};
 use grammar::Next;
 use grammar::Number;
 use grammar::Word;
@@ -101,7 +101,8 @@ fn empty_list(s: &[u8], at: usize) -> Word
 
 // All that stands before the ticks.
 pub fn read_head(s: &[u8]) -> Head
-    ensures { λ r. ⌜ r ≡ headOf (head (now (s .entry)) 0) ⌝ }
+    ensures answer { λ r. ⌜ r ≡ headOf (head (now (s .entry)) 0) ⌝ }
+    ensures number { λ r. ⌜ headNumber r ≡ refusalOf (head (now (s .entry)) 0) ⌝ }
 {
     let Number::Is {
         value: bid,

@@ -3,7 +3,7 @@ ghost use mathlib.Core.Path.{_≡_};
 ghost use lib.ListN.{length};
 ghost use Rattle.hex.specs.Hex.{payloadOf};
 ghost use Rattle.sheet.specs.Form.{spells, command, anyTickLine};
-ghost use Rattle.sheet.specs.Answers.{commandOf, commandHeld, tickOf, tickHeld};
+ghost use Rattle.sheet.specs.Answers.{commandOf, commandHeld, tickOf, tickHeld, tickNumber, tickRefusal};
 use grammar::Next;
 use grammar::Place;
 use grammar::Signed;
@@ -77,6 +77,7 @@ fn read_command(s: &[u8], at: usize, transfer: &mut [u8]) -> Command
 pub fn read_tick(s: &[u8], at: usize, transfer: &mut [u8]) -> TickLine
     ensures answer { λ r. ⌜ r ≡ tickOf (length (now (transfer .entry))) (anyTickLine (now (s .entry)) at) ⌝ }
     ensures held { λ _. ⌜ now (transfer .exit) ≡ tickHeld (anyTickLine (now (s .entry)) at) (now (transfer .entry)) ⌝ }
+    ensures number { λ r. ⌜ tickNumber r ≡ tickRefusal (length (now (transfer .entry))) (now (s .entry)) at ⌝ }
 {
     let Signed::Is {
         value: rail,

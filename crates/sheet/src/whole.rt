@@ -1,7 +1,8 @@
 // A whole sheet.
 ghost use mathlib.Core.Path.{_≡_};
+ghost use Rattle.grammar.specs.Views.{refusalOf};
 ghost use Rattle.sheet.specs.Form.{sheetIn};
-ghost use Rattle.sheet.specs.Answers.{areTicks, sheetHead};
+ghost use Rattle.sheet.specs.Answers.{areTicks, sheetHead, headNumber};
 use crate::head::Head;
 use crate::head::read_head;
 use crate::ticks::TickLine;
@@ -38,7 +39,8 @@ fn are_ticks(s: &[u8], first: usize, count: u32) -> bool
 
 // The head of a sheet that is of the form as a whole.
 pub fn read(s: &[u8]) -> Head
-    ensures { λ r. ⌜ r ≡ sheetHead (sheetIn (now (s .entry))) ⌝ }
+    ensures answer { λ r. ⌜ r ≡ sheetHead (sheetIn (now (s .entry))) ⌝ }
+    ensures number { λ r. ⌜ headNumber r ≡ refusalOf (sheetIn (now (s .entry))) ⌝ }
 {
     if LONGEST < s.len() {
         return Head::Not;

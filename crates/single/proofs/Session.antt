@@ -9,10 +9,10 @@ use Rattle.session.proofs.refusal.Reads as refusal
 use Rattle.session.proofs.step.Reads as step
 
 pub single-open-sheet : Single open-sheet.Post (λ κ r s. r)
-single-open-sheet κ a r r′ s s′ p q = opened-same r r′ (p ∙ sym q)
+single-open-sheet κ a r r′ s s′ p q = opened-same r r′ (p .0 ∙ sym (q .0))
 
 pub held-open-sheet : Single open-sheet.Post (λ κ r s. now (s .1 .0))
-held-open-sheet κ a r r′ s s′ p q = opened-held r r′ (p ∙ sym q)
+held-open-sheet κ a r r′ s s′ p q = opened-held r r′ (p .0 ∙ sym (q .0))
 
 pub single-step : Single step.Post (λ κ r s. r)
 single-step κ a r r′ s s′ p q = stepped-same r r′ (p ∙ sym q)

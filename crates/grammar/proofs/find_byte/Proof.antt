@@ -2,10 +2,11 @@
 use borrow.Author.Needs.{needs}
 use native.Mathlib.Omega.{arith}
 use Prim.Native.Nat.{ℕ, _≤_, _-_}
-use mathlib.Core.Path.{_≡_, sym, _∙_}
+use mathlib.Core.Path.{_≡_, sym, ap, _∙_}
 use mathlib.Core.List.{List}
 use lib.ListN.{length, drop}
 use Rattle.grammar.specs.Grammar.{firstFrom}
+use Rattle.grammar.specs.Views.{refusalOf}
 use Rattle.grammar.proofs.Bytes.{first-none, first-here, first-next, upTo-place, upTo-never}
 use Rattle.grammar.proofs.find_byte.Statement.{statement}
 use Rattle.grammar.proofs.find_byte.Tie as tie
@@ -32,7 +33,8 @@ returns : tie.Need-returns Inv-loop μ-loop
 returns c =
     let a = c .before .before .before .before .args in
     let l = c .before .before .before .loop in
-    (upTo-place _ (a .s .now) (a .at) (l .i) (sym (l .inv .same) ∙ first-here _ (a .s .now) (l .i) (omega arith) (c .if1 .taken)), omega arith)
+    let found = upTo-place _ (a .s .now) (a .at) (l .i) (sym (l .inv .same) ∙ first-here _ (a .s .now) (l .i) (omega arith) (c .if1 .taken)) in
+    (found, (omega arith, ap refusalOf found))
 
 add-i : tie.Need-add-i Inv-loop μ-loop
 add-i c = search needs
@@ -50,7 +52,8 @@ returns-2 : tie.Need-returns-2 Inv-loop μ-loop
 returns-2 c =
     let a = c .before .before .args in
     let l = c .before .loop in
-    (upTo-never _ (a .s .now) (a .at) (sym (l .inv .same) ∙ first-none _ (a .s .now) (l .i) (omega arith)), tt)
+    let never = upTo-never _ (a .s .now) (a .at) (sym (l .inv .same) ∙ first-none _ (a .s .now) (l .i) (omega arith)) in
+    (never, (tt, ap refusalOf never))
 
 pub find-byte-spec : {M : Type 1} → statement M
 find-byte-spec =

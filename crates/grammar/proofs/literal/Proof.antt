@@ -6,6 +6,7 @@ use mathlib.Core.Path.{_≡_, sym, _∙_}
 use mathlib.Core.List.{List}
 use lib.ListN.{length, drop}
 use Rattle.grammar.specs.Grammar.{text}
+use Rattle.grammar.proofs.Refusals.{with-number}
 use Rattle.grammar.proofs.Bytes.{text-end, text-same, text-other}
 use Rattle.grammar.proofs.literal.Statement.{statement}
 use Rattle.grammar.proofs.literal.Tie as tie
@@ -39,7 +40,7 @@ returns : tie.Need-returns Inv-loop μ-loop
 returns c =
     let l = c .before .before .before .before .loop in
     let a = c .before .before .before .before .before .before .before .args in
-    sym (text-other (a .wanted .now) (a .s .now) (l .k) (l .i) (omega arith) (λ q. c .if1 .taken (c .before .peek .ensures .0 ∙ q))) ∙ l .inv .same
+    with-number (sym (text-other (a .wanted .now) (a .s .now) (l .k) (l .i) (omega arith) (λ q. c .if1 .taken (c .before .peek .ensures .0 ∙ q))) ∙ l .inv .same)
 
 add-i : tie.Need-add-i Inv-loop μ-loop
 add-i c = omega (arith, c .before .peek .ensures .1 .1 (omega (arith, c .before .before .shared-slice-known3 .given (c .before .before .before .before .loop .k))))
@@ -63,7 +64,7 @@ returns-2 : tie.Need-returns-2 Inv-loop μ-loop
 returns-2 c =
     let l = c .before .loop in
     let a = c .before .before .before .before .args in
-    sym (text-end (a .wanted .now) (a .s .now) (l .k) (l .i) (omega arith)) ∙ l .inv .same
+    with-number (sym (text-end (a .wanted .now) (a .s .now) (l .k) (l .i) (omega arith)) ∙ l .inv .same)
 
 pub literal-spec : {M : Type 1} → statement M
 literal-spec =

@@ -7,6 +7,7 @@ use mathlib.Core.Path.{_≡_, sym, ap, _∙_}
 use mathlib.Core.List.{List, []}
 use lib.ListN.{length, drop}
 use Rattle.grammar.specs.Numbers.{digits, spells, digitAt}
+use Rattle.grammar.proofs.Refusals.{with-number}
 use Rattle.grammar.proofs.Digits.{stop, more, spells-grows, spells-end, spells-turn, number-none, number-zero, number-led, number-over, number-is}
 use Rattle.grammar.proofs.read_number.Statement.{statement}
 use Rattle.grammar.proofs.read_number.Tie as tie
@@ -29,7 +30,7 @@ decimal-requires : tie.Need-decimal-requires Inv-loop μ-loop
 decimal-requires c κs = search needs
 
 returns : tie.Need-returns Inv-loop μ-loop
-returns c = let a = c .before .before .before .args in number-none (a .limit) (a .s .now) (a .at) (omega arith)
+returns c = let a = c .before .before .before .args in with-number (number-none (a .limit) (a .s .now) (a .at) (omega arith))
 
 add-decimal : tie.Need-add-decimal Inv-loop μ-loop
 add-decimal c = omega (arith, c .before .before .decimal .ensures .1 (omega arith))
@@ -38,13 +39,13 @@ decimal-requires-2 : tie.Need-decimal-requires-2 Inv-loop μ-loop
 decimal-requires-2 c κs = search needs
 
 returns-2 : tie.Need-returns-2 Inv-loop μ-loop
-returns-2 c = let a = c .before .before .before .before .before .before .args in number-led (a .limit) (a .s .now) (a .at) (omega arith) (omega arith)
+returns-2 c = let a = c .before .before .before .before .before .before .args in with-number (number-led (a .limit) (a .s .now) (a .at) (omega arith) (omega arith))
 
 add-t11 : tie.Need-add-t11 Inv-loop μ-loop
 add-t11 c = omega (arith, c .before .before .before .before .decimal .ensures .1 (omega arith))
 
 returns-3 : tie.Need-returns-3 Inv-loop μ-loop
-returns-3 c = let a = c .before .before .before .before .before .before .args in number-zero (a .limit) (a .s .now) (a .at) (omega arith) (omega arith)
+returns-3 c = let a = c .before .before .before .before .before .before .args in with-number (number-zero (a .limit) (a .s .now) (a .at) (omega arith) (omega arith))
 
 loop-holds : tie.Need-loop-holds Inv-loop μ-loop
 loop-holds c = search needs
@@ -63,8 +64,8 @@ returns-4 c =
     let a = c .before .before .before .before .before .before .before .before .args in
     let s = a .s .now in
     let l = c .before .before .before .loop in
-    number-over (a .limit) s (a .at)
-    (omega (arith, l .inv .same, spells-turn s (l .i) (l .v) (omega arith), spells-grows (l .v * 10 + digitAt s (l .i)) (digits (drop (l .i + 1) s))))
+    with-number (number-over (a .limit) s (a .at)
+    (omega (arith, l .inv .same, spells-turn s (l .i) (l .v) (omega arith), spells-grows (l .v * 10 + digitAt s (l .i)) (digits (drop (l .i + 1) s)))))
 
 add-i : tie.Need-add-i Inv-loop μ-loop
 add-i c = omega (arith, c .before .before .decimal3 .ensures .1 (omega arith))
@@ -91,8 +92,8 @@ returns-5 c =
     let s = a .s .now in
     let l = c .before .before .loop in
     let e : digits (drop (l .i) s) ≡ [] = stop s (l .i) (omega arith) in
-    number-is (a .limit) s (a .at) (l .v) (l .i) (omega arith) (omega arith)
-    (sym (spells-end (l .v) (digits (drop (l .i) s)) e) ∙ l .inv .same) (omega arith) (omega (arith, l .inv .ends, ap length e))
+    with-number (number-is (a .limit) s (a .at) (l .v) (l .i) (omega arith) (omega arith)
+    (sym (spells-end (l .v) (digits (drop (l .i) s)) e) ∙ l .inv .same) (omega arith) (omega (arith, l .inv .ends, ap length e)))
 
 pub read-number-spec : {M : Type 1} → statement M
 read-number-spec =

@@ -7,6 +7,7 @@ use Rattle.grammar.specs.Grammar.{Read, reads}
 use Rattle.grammar.specs.Views.{seenNumber}
 use Rattle.grammar.proofs.Digits.{number-most}
 use Rattle.grammar.proofs.Signs.{pattern-above, pattern-below, kept, minus-fails, minus-zero, minus-is, plus-fails, plus-is}
+use Rattle.grammar.proofs.Refusals.{with-number}
 use borrow.Author.Needs.{needs}
 use Rattle.grammar.proofs.read_signed.Statement.{statement}
 use Rattle.grammar.proofs.read_signed.Tie as tie
@@ -34,20 +35,15 @@ enum-told c = search needs
 returns : tie.Need-returns
 returns c =
     let a = c .before .before .before .before .before .before .args in
-    minus-fails (a .s .now) (a .at) (omega arith) (sym (c .before .before .read-number .ensures) ∙ ap seenNumber (c .enum-told .given .1))
-
-returns-2 : tie.Need-returns-2
-returns-2 c =
-    let a = c .before .before .before .before .before .before .before .before .args in
-    minus-zero (a .s .now) (a .at) (omega arith) _ _ (sym (c .before .before .before .before .read-number .ensures) ∙ ap seenNumber (c .before .before .value .given .1)) (omega arith)
+    with-number (minus-fails (a .s .now) (a .at) (omega arith) (sym (c .before .before .read-number .ensures .0) ∙ ap seenNumber (c .enum-told .given .1)))
 
 sub-twos16 : tie.Need-sub-twos16
 sub-twos16 c =
     let a = c .before .before .before .before .before .before .before .before .args in
-    omega (arith, number-most 32768 (a .s .now) (a .at + 1) _ _ (sym (c .before .before .before .before .read-number .ensures) ∙ ap seenNumber (c .before .before .value .given .1)))
+    omega (arith, number-most 32768 (a .s .now) (a .at + 1) _ _ (sym (c .before .before .before .before .read-number .ensures .0) ∙ ap seenNumber (c .before .before .value .given .1)))
 
 cast-twos16 : tie.Need-cast-twos16
-cast-twos16 c = omega arith
+cast-twos16 c = search needs
 
 twos16-requires : tie.Need-twos16-requires
 twos16-requires c κs = search needs
@@ -61,38 +57,45 @@ enum-known-value-2 c = search needs
 enum-told-2 : tie.Need-enum-told-2
 enum-told-2 c = search needs
 
-returns-3 : tie.Need-returns-3
-returns-3 c =
+returns-2 : tie.Need-returns-2
+returns-2 c =
     let a = c .before .before .before .before .before .before .args in
-    plus-fails (a .s .now) (a .at) (omega arith) (sym (c .before .before .read-number2 .ensures) ∙ ap seenNumber (c .enum-told2 .given .1))
+    with-number (plus-fails (a .s .now) (a .at) (omega arith) (sym (c .before .before .read-number2 .ensures .0) ∙ ap seenNumber (c .enum-told2 .given .1)))
 
 cast-twos16-2 : tie.Need-cast-twos16-2
 cast-twos16-2 c =
     let a = c .before .before .before .before .before .before .before .args in
-    omega (arith, number-most 32767 (a .s .now) (a .at) _ _ (sym (c .before .before .before .read-number2 .ensures) ∙ ap seenNumber (c .before .value2 .given .1)))
+    omega (arith, number-most 32767 (a .s .now) (a .at) _ _ (sym (c .before .before .before .read-number2 .ensures .0) ∙ ap seenNumber (c .before .value2 .given .1)))
 
 twos16-requires-2 : tie.Need-twos16-requires-2
 twos16-requires-2 c κs = search needs
+
+returns-3 : tie.Need-returns-3
+returns-3 c =
+    let a = c .before .before .before .before .before .before .before .before .args in
+    with-number (minus-zero (a .s .now) (a .at) (omega arith) _ _ (sym (c .before .before .before .before .read-number .ensures .0) ∙ ap seenNumber (c .before .before .value .given .1)) (omega arith))
 
 returns-4 : tie.Need-returns-4
 returns-4 c =
     let a = c .before .before .before .before .before .before .before .before .before .args in
     let v = c .before .before .before .value .given in
-    let e = sym (c .before .before .before .before .before .read-number .ensures) ∙ ap seenNumber (v .1) in
+    let e = sym (c .before .before .before .before .before .read-number .ensures .0) ∙ ap seenNumber (v .1) in
     let m = number-most 32768 (a .s .now) (a .at + 1) _ _ e in
-    ap {B = Read ℤ} (λ (z : ℤ). reads z (v .0 .1 .0))
+    with-number
+    (ap {B = Read ℤ} (λ (z : ℤ). reads z (v .0 .1 .0))
     (kept (c .twos16 .result) (negsuc (v .0 .0 - 1)) (c .twos16 .ensures ∙ pattern-below (v .0 .0) (omega arith) m) (omega arith))
-    ∙ minus-is (a .s .now) (a .at) (omega arith) _ _ e (omega arith)
+    ∙ minus-is (a .s .now) (a .at) (omega arith) _ _ e (omega arith))
 
 returns-5 : tie.Need-returns-5
 returns-5 c =
     let a = c .before .before .before .before .before .before .before .before .args in
     let v = c .before .before .value2 .given in
-    let e = sym (c .before .before .before .before .read-number2 .ensures) ∙ ap seenNumber (v .1) in
+    let e = sym (c .before .before .before .before .read-number2 .ensures .0) ∙ ap seenNumber (v .1) in
     let m = number-most 32767 (a .s .now) (a .at) _ _ e in
-    ap {B = Read ℤ} (λ (z : ℤ). reads z (v .0 .1 .0))
+    with-number
+    (ap {B = Read ℤ} (λ (z : ℤ). reads z (v .0 .1 .0))
     (kept (c .twos162 .result) (pos (v .0 .0)) (c .twos162 .ensures ∙ pattern-above (v .0 .0) (omega arith)) (omega arith))
-    ∙ plus-is (a .s .now) (a .at) (omega arith) _ _ e
+    ∙ plus-is (a .s .now) (a .at) (omega arith) _ _ e)
 
 pub read-signed-spec : {M : Type 1} → statement M
 read-signed-spec =
@@ -104,15 +107,15 @@ read-signed-spec =
     enum-known-value
     enum-told
     returns
-    returns-2
     sub-twos16
     cast-twos16
     twos16-requires
     read-number-requires-2
     enum-known-value-2
     enum-told-2
-    returns-3
+    returns-2
     cast-twos16-2
     twos16-requires-2
+    returns-3
     returns-4
     returns-5)

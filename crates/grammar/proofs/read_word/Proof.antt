@@ -7,6 +7,7 @@ use mathlib.Core.List.{List}
 use Rattle.hex.specs.Hex.{digitOf}
 use Rattle.hex.specs.Passes.{worth}
 use Rattle.grammar.specs.Numbers.{word}
+use Rattle.grammar.proofs.Refusals.{with-number}
 use Rattle.grammar.proofs.Words.{past-bad, word-end, word-bad, word-more, grows, small}
 use Rattle.grammar.proofs.read_word.Statement.{statement}
 use Rattle.grammar.proofs.read_word.Tie as tie
@@ -36,7 +37,7 @@ returns : tie.Need-returns Inv-loop μ-loop
 returns c =
     let l = c .before .before .before .loop in
     let s = c .before .before .before .before .before .args .s .now in
-    sym (word-bad (l .left) (l .v) s (l .i) (omega arith) (past-bad _ (omega arith))) ∙ l .inv .same
+    with-number (sym (word-bad (l .left) (l .v) s (l .i) (omega arith) (past-bad _ (omega arith))) ∙ l .inv .same)
 
 cast-digit : tie.Need-cast-digit Inv-loop μ-loop
 cast-digit c = search needs
@@ -54,7 +55,7 @@ returns-2 : tie.Need-returns-2 Inv-loop μ-loop
 returns-2 c =
     let l = c .before .before .before .before .before .before .loop in
     let s = c .before .before .before .before .before .before .before .before .args .s .now in
-    sym (word-bad (l .left) (l .v) s (l .i) (omega arith) (sym (ap digitOf (c .before .before .before .before .peek .ensures .0)) ∙ sym (c .before .before .digit .ensures .0) ∙ c .enum-told .given .1)) ∙ l .inv .same
+    with-number (sym (word-bad (l .left) (l .v) s (l .i) (omega arith) (sym (ap digitOf (c .before .before .before .before .peek .ensures .0)) ∙ sym (c .before .before .digit .ensures .0) ∙ c .enum-told .given .1)) ∙ l .inv .same)
 
 mul-v : tie.Need-mul-v Inv-loop μ-loop
 mul-v c = omega (arith, small (c .before .before .before .before .before .before .before .loop .left))
@@ -92,7 +93,7 @@ cast-t13 c = omega (arith, small (c .before .loop .left))
 returns-3 : tie.Need-returns-3 Inv-loop μ-loop
 returns-3 c =
     let l = c .before .loop in
-    sym (word-end (l .left) (l .v) (c .before .before .before .args .s .now) (l .i) (omega arith)) ∙ l .inv .same
+    with-number (sym (word-end (l .left) (l .v) (c .before .before .before .args .s .now) (l .i) (omega arith)) ∙ l .inv .same)
 
 pub read-word-spec : {M : Type 1} → statement M
 read-word-spec =

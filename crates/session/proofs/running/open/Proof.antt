@@ -2,6 +2,7 @@
 use mathlib.Core.Path.{sym, _∙_}
 use Rattle.sheet.proofs.Sheets.{accepted, refused}
 use Rattle.session.specs.Sessions.{openedOf}
+use Rattle.session.proofs.Steps.{with-number}
 use borrow.Author.Needs.{needs}
 use Rattle.session.proofs.running.open.Statement.{statement}
 use Rattle.session.proofs.running.open.Tie as tie
@@ -26,8 +27,8 @@ none-requires c κs = search needs
 returns : tie.Need-returns
 unfolding openedOf
 returns c =
-    let not-read = refused (c .before .before .before .before .before .before .args .s .now) (sym (c .before .enum-told .given .1) ∙ c .before .before .before .read .ensures) in
-    rw (not-read, c .none .ensures)
+    let not-read = refused (c .before .before .before .before .before .before .args .s .now) (sym (c .before .enum-told .given .1) ∙ c .before .before .before .read .ensures .0) in
+    with-number _ _ _ _ (rw (not-read, c .none .ensures))
 
 started-requires : tie.Need-started-requires
 started-requires c κs = search needs
@@ -38,8 +39,8 @@ same-length c = search needs
 returns-2 : tie.Need-returns-2
 unfolding openedOf
 returns-2 c =
-    let a = accepted (c .before .before .before .before .before .before .before .before .before .before .args .s .now) _ _ _ _ _ (sym (c .before .before .before .before .before .bid .given .1) ∙ c .before .before .before .before .before .before .before .read .ensures) in
-    rw (a .read, a .its-bid, a .its-fitted, a .its-forced, a .its-count, a .its-first) (c .before .before .started .ensures)
+    let a = accepted (c .before .before .before .before .before .before .before .before .before .before .args .s .now) _ _ _ _ _ (sym (c .before .before .before .before .before .bid .given .1) ∙ c .before .before .before .before .before .before .before .read .ensures .0) in
+    with-number _ _ _ _ (rw (a .read, a .its-bid, a .its-fitted, a .its-forced, a .its-count, a .its-first) (c .before .before .started .ensures))
 
 pub open-spec : {M : Type 1} → statement M
 open-spec =

@@ -77,7 +77,7 @@ returns-3 c =
     let held = transfer-held (a .s .now) (a .session .at) (replicate 256 0) (t .tick) _ _ (t .is-any) (t .short) (t .its-count) in
     let rail = c .before .before .before .before .before .before .before .before .before .before .before .rail .given .0 .0 in
     let ran = rw (kept rail rail refl (omega (arith, c .before .before .before .before .before .before .before .before .before .before .known-told .given .0 .1))) at (c .before .before .ticked .ensures) in
-    let transfer = rw (c .before .before .before .before .before .before .before .before .before .before .before .before .before .before .read-tick .ensures .1, held) at (c .before .before .before .before .first .ensures) in
+    let transfer = rw (c .before .before .before .before .before .before .before .before .before .before .before .before .before .before .read-tick .ensures .1 .0, held) at (c .before .before .before .before .first .ensures) in
     rw (
       t .is,
       ne-eqb (a .session .left) 0 (λ e. absurd (omega arith)),

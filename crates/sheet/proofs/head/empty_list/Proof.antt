@@ -24,11 +24,11 @@ enum-told c = search needs
 
 returns : tie.Need-returns
 unfolding channelList
-returns c = rw (sym (text-one 10 _ _) ∙ sym (c .before .before .literal .ensures) ∙ ap seenNext (c .enum-told .given .1))
+returns c = rw (sym (text-one 10 _ _) ∙ sym (c .before .before .literal .ensures .0) ∙ ap seenNext (c .enum-told .given .1))
 
 returns-2 : tie.Need-returns-2
 unfolding channelList
-returns-2 c = rw (sym (text-one 10 _ _) ∙ sym (c .before .before .before .literal .ensures) ∙ ap seenNext (c .before .next .given .1))
+returns-2 c = rw (sym (text-one 10 _ _) ∙ sym (c .before .before .before .literal .ensures .0) ∙ ap seenNext (c .before .next .given .1))
 
 pub empty-list-spec : {M : Type 1} → statement M
 empty-list-spec =

@@ -41,13 +41,13 @@ returns : tie.Need-returns Inv-loop μ-loop
 returns c =
     let a = c .before .before .before .before .before .before .args in
     let l = c .before .before .before .before .loop in
-    sym (channels-none (l .set) (a .s .now) (l .left) (l .least) (l .i) _ (omega arith) (sym (c .before .before .read-number .ensures) ∙ ap seenNumber (c .enum-told .given .1)) (omega arith)) ∙ l .inv .same
+    sym (channels-none (l .set) (a .s .now) (l .left) (l .least) (l .i) _ (omega arith) (sym (c .before .before .read-number .ensures .0) ∙ ap seenNumber (c .enum-told .given .1)) (omega arith)) ∙ l .inv .same
 
 returns-2 : tie.Need-returns-2 Inv-loop μ-loop
 returns-2 c =
     let a = c .before .before .before .before .before .before .before .before .args in
     let l = c .before .before .before .before .before .before .loop in
-    sym (channels-low (l .set) (a .s .now) _ _ (l .left) (l .least) (l .i) _ (omega arith) (sym (c .before .before .before .before .read-number .ensures) ∙ ap seenNumber (c .before .before .c .given .1)) (omega arith) (omega arith)) ∙ l .inv .same
+    sym (channels-low (l .set) (a .s .now) _ _ (l .left) (l .least) (l .i) _ (omega arith) (sym (c .before .before .before .before .read-number .ensures .0) ∙ ap seenNumber (c .before .before .c .given .1)) (omega arith) (omega arith)) ∙ l .inv .same
 
 sub-left : tie.Need-sub-left Inv-loop μ-loop
 sub-left c = search needs
@@ -65,12 +65,12 @@ returns-3 : tie.Need-returns-3 Inv-loop μ-loop
 returns-3 c =
     let a = c .before .before .before .before .before .before .before .before .before .before .before .args in
     let l = c .before .before .before .before .before .before .before .before .before .loop in
-    sym (channels-apart (l .set) (a .s .now) _ _ (l .left) (l .least) (l .i) _ (omega arith) (sym (c .before .before .before .before .before .before .before .read-number .ensures) ∙ ap seenNumber (c .before .before .before .before .before .c .given .1)) (omega arith) (omega arith) (sym (c .before .before .read-gap .ensures) ∙ ap seenNext (c .enum-told2 .given .1))) ∙ l .inv .same
+    sym (channels-apart (l .set) (a .s .now) _ _ (l .left) (l .least) (l .i) _ (omega arith) (sym (c .before .before .before .before .before .before .before .read-number .ensures .0) ∙ ap seenNumber (c .before .before .before .before .before .c .given .1)) (omega arith) (omega arith) (sym (c .before .before .read-gap .ensures) ∙ ap seenNext (c .enum-told2 .given .1))) ∙ l .inv .same
 
 cast-with-channel : tie.Need-cast-with-channel Inv-loop μ-loop
 cast-with-channel c =
     let a = c .before .before .before .before .before .before .before .before .before .before .before .before .args in
-    omega (arith, number-most _ (a .s .now) _ _ _ (sym (c .before .before .before .before .before .before .before .before .read-number .ensures) ∙ ap seenNumber (c .before .before .before .before .before .before .c .given .1)))
+    omega (arith, number-most _ (a .s .now) _ _ _ (sym (c .before .before .before .before .before .before .before .before .read-number .ensures .0) ∙ ap seenNumber (c .before .before .before .before .before .before .c .given .1)))
 
 with-channel-requires : tie.Need-with-channel-requires Inv-loop μ-loop
 with-channel-requires c κs = search needs
@@ -78,7 +78,7 @@ with-channel-requires c κs = search needs
 add-least : tie.Need-add-least Inv-loop μ-loop
 add-least c =
     let a = c .before .before .before .before .before .before .before .before .before .before .before .before .before .args in
-    omega (arith, number-most _ (a .s .now) _ _ _ (sym (c .before .before .before .before .before .before .before .before .before .read-number .ensures) ∙ ap seenNumber (c .before .before .before .before .before .before .before .c .given .1)))
+    omega (arith, number-most _ (a .s .now) _ _ _ (sym (c .before .before .before .before .before .before .before .before .before .read-number .ensures .0) ∙ ap seenNumber (c .before .before .before .before .before .before .before .c .given .1)))
 
 loop-less : tie.Need-loop-less Inv-loop μ-loop
 loop-less c = search needs
@@ -88,7 +88,7 @@ loop-again c =
     let a = c .before .before .before .before .before .before .before .before .before .before .before .before .before .args in
     let l = c .before .before .before .before .before .before .before .before .before .before .before .loop in
     let g = c .before .before .before .before .before .before .before .c .given in
-    let channel = sym (c .before .before .before .before .before .before .before .before .before .read-number .ensures) ∙ ap seenNumber (g .1) in
+    let channel = sym (c .before .before .before .before .before .before .before .before .before .read-number .ensures .0) ∙ ap seenNumber (g .1) in
     let apart = sym (c .before .before .before .before .read-gap .ensures) ∙ ap seenNext (c .before .before .behind .given .1) in
     record {
       same = rw (c .with-channel .ensures) (sym (channels-more (l .set) (a .s .now) (g .0 .0) (g .0 .1 .0) (l .left) (l .least) (l .i) _ _ (omega arith) channel (omega arith) (omega arith) apart _ (omega arith)) ∙ l .inv .same);

@@ -22,7 +22,7 @@ enum-told c = search needs
 
 returns : tie.Need-returns
 unfolding count
-returns c = rw (sym (c .before .before .literal .ensures) ∙ ap seenNext (c .enum-told .given .1))
+returns c = rw (sym (c .before .before .literal .ensures .0) ∙ ap seenNext (c .enum-told .given .1))
 
 read-number-requires : tie.Need-read-number-requires
 read-number-requires c κs = search needs
@@ -35,7 +35,7 @@ enum-told-2 c = search needs
 
 returns-2 : tie.Need-returns-2
 unfolding count
-returns-2 c = rw (sym (c .before .before .before .before .before .before .literal .ensures) ∙ ap seenNext (c .before .before .before .before .behind .given .1), sym (c .before .before .read-number .ensures) ∙ ap seenNumber (c .enum-told2 .given .1))
+returns-2 c = rw (sym (c .before .before .before .before .before .before .literal .ensures .0) ∙ ap seenNext (c .before .before .before .before .behind .given .1), sym (c .before .before .read-number .ensures .0) ∙ ap seenNumber (c .enum-told2 .given .1))
 
 slice-aggregate-literal : tie.Need-slice-aggregate-literal
 slice-aggregate-literal c = search needs
@@ -51,11 +51,11 @@ enum-told-3 c = search needs
 
 returns-3 : tie.Need-returns-3
 unfolding count
-returns-3 c = rw (sym (c .before .before .before .before .before .before .before .before .before .before .before .literal .ensures) ∙ ap seenNext (c .before .before .before .before .before .before .before .before .before .behind .given .1), sym (c .before .before .before .before .before .before .before .read-number .ensures) ∙ ap seenNumber (c .before .before .before .before .before .value .given .1), sym (text-one 10 _ _) ∙ sym (c .before .before .literal2 .ensures) ∙ ap seenNext (c .enum-told3 .given .1))
+returns-3 c = rw (sym (c .before .before .before .before .before .before .before .before .before .before .before .literal .ensures .0) ∙ ap seenNext (c .before .before .before .before .before .before .before .before .before .behind .given .1), sym (c .before .before .before .before .before .before .before .read-number .ensures .0) ∙ ap seenNumber (c .before .before .before .before .before .value .given .1), sym (text-one 10 _ _) ∙ sym (c .before .before .literal2 .ensures .0) ∙ ap seenNext (c .enum-told3 .given .1))
 
 returns-4 : tie.Need-returns-4
 unfolding count
-returns-4 c = rw (sym (c .before .before .before .before .before .before .before .before .before .before .before .before .literal .ensures) ∙ ap seenNext (c .before .before .before .before .before .before .before .before .before .before .behind .given .1), sym (c .before .before .before .before .before .before .before .before .read-number .ensures) ∙ ap seenNumber (c .before .before .before .before .before .before .value .given .1), sym (text-one 10 _ _) ∙ sym (c .before .before .before .literal2 .ensures) ∙ ap seenNext (c .before .end .given .1))
+returns-4 c = rw (sym (c .before .before .before .before .before .before .before .before .before .before .before .before .literal .ensures .0) ∙ ap seenNext (c .before .before .before .before .before .before .before .before .before .before .behind .given .1), sym (c .before .before .before .before .before .before .before .before .read-number .ensures .0) ∙ ap seenNumber (c .before .before .before .before .before .before .value .given .1), sym (text-one 10 _ _) ∙ sym (c .before .before .before .literal2 .ensures .0) ∙ ap seenNext (c .before .end .given .1))
 
 pub read-count-spec : {M : Type 1} → statement M
 read-count-spec =

@@ -16,7 +16,7 @@ literal-requires : tie.Need-literal-requires
 literal-requires c κs = search needs
 
 returns : tie.Need-returns
-returns c = c .literal .ensures ∙ gap-last _ (c .before .before .before .before .args .s .now) (c .before .before .before .before .args .at) (omega arith)
+returns c = c .literal .ensures .0 ∙ gap-last _ (c .before .before .before .before .args .s .now) (c .before .before .before .before .args .at) (omega arith)
 
 slice-aggregate-literal-2 : tie.Need-slice-aggregate-literal-2
 slice-aggregate-literal-2 c = search needs
@@ -25,7 +25,7 @@ literal-requires-2 : tie.Need-literal-requires-2
 literal-requires-2 c κs = search needs
 
 returns-2 : tie.Need-returns-2
-returns-2 c = c .literal2 .ensures ∙ gap-more _ (c .before .before .before .before .args .s .now) (c .before .before .before .before .args .at) (omega arith)
+returns-2 c = c .literal2 .ensures .0 ∙ gap-more _ (c .before .before .before .before .args .s .now) (c .before .before .before .before .args .at) (omega arith)
 
 pub read-gap-spec : {M : Type 1} → statement M
 read-gap-spec =

@@ -1,7 +1,7 @@
 -- `read_head` meets its contract: each answer on the way rewrites the form. Assumes nothing.
 use native.Mathlib.Omega.{arith}
 use Prim.Native.Nat.{_%_}
-use mathlib.Core.Path.{_≡_, sym, ap, _∙_}
+use mathlib.Core.Path.{refl, _≡_, sym, ap, _∙_}
 use Rattle.grammar.specs.Views.{seenNumber, seenWord}
 use Rattle.sheet.specs.Form.{boardWord, ticksWord, head}
 use Rattle.sheet.proofs.Parts.{count-most, count-by}
@@ -27,7 +27,7 @@ enum-told c = search needs
 
 returns : tie.Need-returns
 unfolding head
-returns c = rw (sym (c .before .before .read-count .ensures) ∙ ap seenNumber (c .enum-told .given .1))
+returns c = rw (sym (c .before .before .read-count .ensures) ∙ ap seenNumber (c .enum-told .given .1)) (refl, refl)
 
 slice-aggregate-read-set : tie.Need-slice-aggregate-read-set
 slice-aggregate-read-set c = search needs
@@ -47,7 +47,7 @@ returns-2 c =
     rw (
       sym (c .before .before .before .before .before .before .before .read-count .ensures) ∙ ap seenNumber (c .before .before .before .before .before .bid .given .1),
       sym (c .before .before .read-set .ensures) ∙ ap seenWord (c .enum-told2 .given .1),
-    )
+    ) (refl, refl)
 
 slice-aggregate-read-set-2 : tie.Need-slice-aggregate-read-set-2
 slice-aggregate-read-set-2 c = search needs
@@ -68,7 +68,7 @@ returns-3 c =
       sym (c .before .before .before .before .before .before .before .before .before .before .before .before .read-count .ensures) ∙ ap seenNumber (c .before .before .before .before .before .before .before .before .before .before .bid .given .1),
       sym (c .before .before .before .before .before .before .before .read-set .ensures) ∙ ap seenWord (c .before .before .before .before .before .fitted .given .1),
       sym (c .before .before .read-set2 .ensures) ∙ ap seenWord (c .enum-told3 .given .1),
-    )
+    ) (refl, refl)
 
 slice-aggregate-read-count-2 : tie.Need-slice-aggregate-read-count-2
 slice-aggregate-read-count-2 c = search needs
@@ -90,7 +90,7 @@ returns-4 c =
       sym (c .before .before .before .before .before .before .before .before .before .before .before .before .read-set .ensures) ∙ ap seenWord (c .before .before .before .before .before .before .before .before .before .before .fitted .given .1),
       sym (c .before .before .before .before .before .before .before .read-set2 .ensures) ∙ ap seenWord (c .before .before .before .before .before .forced .given .1),
       count-by ticksWord _ 4096 (c .before .before .before .before .before .before .before .before .before .before .before .before .before .before .before .before .before .before .before .before .args .s .now) _ _ (sym (c .before .before .read-count2 .ensures) ∙ ap seenNumber (c .enum-told4 .given .1)) (omega arith),
-    )
+    ) (refl, refl)
 
 cast-t27 : tie.Need-cast-t27
 cast-t27 c = search needs
@@ -107,7 +107,7 @@ returns-5 c =
       sym (c .before .before .before .before .before .before .before .before .read-set2 .ensures) ∙ ap seenWord (c .before .before .before .before .before .before .forced .given .1),
       count-by ticksWord _ 4096 (c .before .before .before .before .before .before .before .before .before .before .before .before .before .before .before .before .before .before .before .before .before .args .s .now) _ _ (sym (c .before .before .before .read-count2 .ensures) ∙ ap seenNumber (c .before .ticks .given .1)) (omega arith),
       small,
-    )
+    ) (refl, refl)
 
 pub read-head-spec : {M : Type 1} → statement M
 read-head-spec =

@@ -6,7 +6,7 @@ use Rattle.grammar.specs.Views.{seenNext, seenSigned, seenWord}
 use Rattle.grammar.proofs.Signs.{kept}
 use Rattle.sheet.specs.Form.{command, anyTickLine}
 use Rattle.sheet.proofs.Parts.{text-one}
-use Rattle.sheet.proofs.Lines.{tickBy, tick-told, tick-held}
+use Rattle.sheet.proofs.Lines.{tickBy, tick-told, tick-held, with-number}
 use borrow.Author.Needs.{needs}
 use Rattle.sheet.proofs.ticks.read_tick.Statement.{statement}
 use Rattle.sheet.proofs.ticks.read_tick.Tie as tie
@@ -28,7 +28,7 @@ enum-told c = search needs
 
 returns : tie.Need-returns
 unfolding anyTickLine
-returns c = rw (sym (c .before .before .read-signed .ensures) ∙ ap seenSigned (c .enum-told .given .1)) (refl, refl)
+returns c = with-number _ _ _ _ (rw (sym (c .before .before .read-signed .ensures .0) ∙ ap seenSigned (c .enum-told .given .1)) (refl, refl))
 
 slice-aggregate-literal : tie.Need-slice-aggregate-literal
 slice-aggregate-literal c = search needs
@@ -45,10 +45,10 @@ enum-told-2 c = search needs
 returns-2 : tie.Need-returns-2
 unfolding anyTickLine
 returns-2 c =
-    rw (
-      sym (c .before .before .before .before .before .before .before .read-signed .ensures) ∙ ap seenSigned (c .before .before .before .before .before .rail .given .1),
-      sym (text-one 32 _ _) ∙ sym (c .before .before .literal .ensures) ∙ ap seenNext (c .enum-told2 .given .1),
-    ) (refl, refl)
+    with-number _ _ _ _ (rw (
+      sym (c .before .before .before .before .before .before .before .read-signed .ensures .0) ∙ ap seenSigned (c .before .before .before .before .before .rail .given .1),
+      sym (text-one 32 _ _) ∙ sym (c .before .before .literal .ensures .0) ∙ ap seenNext (c .enum-told2 .given .1),
+    ) (refl, refl))
 
 read-word-requires : tie.Need-read-word-requires
 read-word-requires c κs = search needs
@@ -62,11 +62,11 @@ enum-told-3 c = search needs
 returns-3 : tie.Need-returns-3
 unfolding anyTickLine
 returns-3 c =
-    rw (
-      sym (c .before .before .before .before .before .before .before .before .before .before .before .read-signed .ensures) ∙ ap seenSigned (c .before .before .before .before .before .before .before .before .before .rail .given .1),
-      sym (text-one 32 _ _) ∙ sym (c .before .before .before .before .before .before .literal .ensures) ∙ ap seenNext (c .before .before .before .before .set-at .given .1),
-      sym (c .before .before .read-word .ensures) ∙ ap seenWord (c .enum-told3 .given .1),
-    ) (refl, refl)
+    with-number _ _ _ _ (rw (
+      sym (c .before .before .before .before .before .before .before .before .before .before .before .read-signed .ensures .0) ∙ ap seenSigned (c .before .before .before .before .before .before .before .before .before .rail .given .1),
+      sym (text-one 32 _ _) ∙ sym (c .before .before .before .before .before .before .literal .ensures .0) ∙ ap seenNext (c .before .before .before .before .set-at .given .1),
+      sym (c .before .before .read-word .ensures .0) ∙ ap seenWord (c .enum-told3 .given .1),
+    ) (refl, refl))
 
 slice-aggregate-literal-2 : tie.Need-slice-aggregate-literal-2
 slice-aggregate-literal-2 c = search needs
@@ -83,12 +83,12 @@ enum-told-4 c = search needs
 returns-4 : tie.Need-returns-4
 unfolding anyTickLine
 returns-4 c =
-    rw (
-      sym (c .before .before .before .before .before .before .before .before .before .before .before .before .before .before .before .before .read-signed .ensures) ∙ ap seenSigned (c .before .before .before .before .before .before .before .before .before .before .before .before .before .before .rail .given .1),
-      sym (text-one 32 _ _) ∙ sym (c .before .before .before .before .before .before .before .before .before .before .before .literal .ensures) ∙ ap seenNext (c .before .before .before .before .before .before .before .before .before .set-at .given .1),
-      sym (c .before .before .before .before .before .before .before .read-word .ensures) ∙ ap seenWord (c .before .before .before .before .before .overcurrent .given .1),
-      sym (text-one 32 _ _) ∙ sym (c .before .before .literal2 .ensures) ∙ ap seenNext (c .enum-told4 .given .1),
-    ) (refl, refl)
+    with-number _ _ _ _ (rw (
+      sym (c .before .before .before .before .before .before .before .before .before .before .before .before .before .before .before .before .read-signed .ensures .0) ∙ ap seenSigned (c .before .before .before .before .before .before .before .before .before .before .before .before .before .before .rail .given .1),
+      sym (text-one 32 _ _) ∙ sym (c .before .before .before .before .before .before .before .before .before .before .before .literal .ensures .0) ∙ ap seenNext (c .before .before .before .before .before .before .before .before .before .set-at .given .1),
+      sym (c .before .before .before .before .before .before .before .read-word .ensures .0) ∙ ap seenWord (c .before .before .before .before .before .overcurrent .given .1),
+      sym (text-one 32 _ _) ∙ sym (c .before .before .literal2 .ensures .0) ∙ ap seenNext (c .enum-told4 .given .1),
+    ) (refl, refl))
 
 read-command-requires : tie.Need-read-command-requires
 read-command-requires c κs = search needs
@@ -113,16 +113,16 @@ returns-5 c =
     let set = c .before .before .before .before .before .before .before .before .before .before .before .before .before .overcurrent .given in
     let told = c .before .sent .given in
     let order = command (a .s .now) (c .before .before .before .before .before .before .before .before .command-at .given .0 .0) in
-    rw (
-      sym (c .before .before .before .before .before .before .before .before .before .before .before .before .before .before .before .before .before .before .before .before .before .before .before .before .read-signed .ensures) ∙ ap seenSigned (rail .1),
-      sym (text-one 32 _ _) ∙ sym (c .before .before .before .before .before .before .before .before .before .before .before .before .before .before .before .before .before .before .before .literal .ensures) ∙ ap seenNext (c .before .before .before .before .before .before .before .before .before .before .before .before .before .before .before .before .before .set-at .given .1),
-      sym (c .before .before .before .before .before .before .before .before .before .before .before .before .before .before .before .read-word .ensures) ∙ ap seenWord (set .1),
-      sym (text-one 32 _ _) ∙ sym (c .before .before .before .before .before .before .before .before .before .before .literal2 .ensures) ∙ ap seenNext (c .before .before .before .before .before .before .before .before .command-at .given .1),
+    with-number _ _ _ _ (rw (
+      sym (c .before .before .before .before .before .before .before .before .before .before .before .before .before .before .before .before .before .before .before .before .before .before .before .before .read-signed .ensures .0) ∙ ap seenSigned (rail .1),
+      sym (text-one 32 _ _) ∙ sym (c .before .before .before .before .before .before .before .before .before .before .before .before .before .before .before .before .before .before .before .literal .ensures .0) ∙ ap seenNext (c .before .before .before .before .before .before .before .before .before .before .before .before .before .before .before .before .before .set-at .given .1),
+      sym (c .before .before .before .before .before .before .before .before .before .before .before .before .before .before .before .read-word .ensures .0) ∙ ap seenWord (set .1),
+      sym (text-one 32 _ _) ∙ sym (c .before .before .before .before .before .before .before .before .before .before .literal2 .ensures .0) ∙ ap seenNext (c .before .before .before .before .before .before .before .before .command-at .given .1),
       kept (rail .0 .0) (rail .0 .0) refl (omega (arith, c .before .before .before .before .before .before .before .before .before .before .before .before .before .before .before .before .before .before .before .before .before .known-told .given .0 .1)),
     ) (
       ap (tickBy (rail .0 .0) (set .0 .0)) (sym (told .1) ∙ c .before .before .before .before .before .read-command .ensures .0) ∙ tick-told (rail .0 .0) (set .0 .0) (length (a .transfer .now)) order,
       c .before .before .before .before .before .read-command .ensures .1 ∙ tick-held (rail .0 .0) (set .0 .0) order (a .transfer .now),
-    )
+    ))
 
 same-length-2 : tie.Need-same-length-2
 same-length-2 c = search needs
@@ -134,15 +134,15 @@ returns-6 c =
     let rail = c .before .before .before .before .before .before .before .before .before .before .before .before .before .before .before .before .before .before .before .before .before .rail .given in
     let set = c .before .before .before .before .before .before .before .before .before .before .before .before .overcurrent .given in
     let order = command (a .s .now) (c .before .before .before .before .before .before .before .command-at .given .0 .0) in
-    rw (
-      sym (c .before .before .before .before .before .before .before .before .before .before .before .before .before .before .before .before .before .before .before .before .before .before .before .read-signed .ensures) ∙ ap seenSigned (rail .1),
-      sym (text-one 32 _ _) ∙ sym (c .before .before .before .before .before .before .before .before .before .before .before .before .before .before .before .before .before .before .literal .ensures) ∙ ap seenNext (c .before .before .before .before .before .before .before .before .before .before .before .before .before .before .before .before .set-at .given .1),
-      sym (c .before .before .before .before .before .before .before .before .before .before .before .before .before .before .read-word .ensures) ∙ ap seenWord (set .1),
-      sym (text-one 32 _ _) ∙ sym (c .before .before .before .before .before .before .before .before .before .literal2 .ensures) ∙ ap seenNext (c .before .before .before .before .before .before .before .command-at .given .1),
+    with-number _ _ _ _ (rw (
+      sym (c .before .before .before .before .before .before .before .before .before .before .before .before .before .before .before .before .before .before .before .before .before .before .before .read-signed .ensures .0) ∙ ap seenSigned (rail .1),
+      sym (text-one 32 _ _) ∙ sym (c .before .before .before .before .before .before .before .before .before .before .before .before .before .before .before .before .before .before .literal .ensures .0) ∙ ap seenNext (c .before .before .before .before .before .before .before .before .before .before .before .before .before .before .before .before .set-at .given .1),
+      sym (c .before .before .before .before .before .before .before .before .before .before .before .before .before .before .read-word .ensures .0) ∙ ap seenWord (set .1),
+      sym (text-one 32 _ _) ∙ sym (c .before .before .before .before .before .before .before .before .before .literal2 .ensures .0) ∙ ap seenNext (c .before .before .before .before .before .before .before .command-at .given .1),
     ) (
       ap (tickBy (rail .0 .0) (set .0 .0)) (sym (c .enum-told5 .given .1) ∙ c .before .before .before .before .read-command .ensures .0) ∙ tick-told (rail .0 .0) (set .0 .0) (length (a .transfer .now)) order,
       c .before .before .before .before .read-command .ensures .1 ∙ tick-held (rail .0 .0) (set .0 .0) order (a .transfer .now),
-    )
+    ))
 
 same-length-3 : tie.Need-same-length-3
 same-length-3 c = search needs
@@ -154,15 +154,15 @@ returns-7 c =
     let rail = c .before .before .before .before .before .before .before .before .before .before .before .before .before .before .before .before .before .before .before .before .before .rail .given in
     let set = c .before .before .before .before .before .before .before .before .before .before .before .before .overcurrent .given in
     let order = command (a .s .now) (c .before .before .before .before .before .before .before .command-at .given .0 .0) in
-    rw (
-      sym (c .before .before .before .before .before .before .before .before .before .before .before .before .before .before .before .before .before .before .before .before .before .before .before .read-signed .ensures) ∙ ap seenSigned (rail .1),
-      sym (text-one 32 _ _) ∙ sym (c .before .before .before .before .before .before .before .before .before .before .before .before .before .before .before .before .before .before .literal .ensures) ∙ ap seenNext (c .before .before .before .before .before .before .before .before .before .before .before .before .before .before .before .before .set-at .given .1),
-      sym (c .before .before .before .before .before .before .before .before .before .before .before .before .before .before .read-word .ensures) ∙ ap seenWord (set .1),
-      sym (text-one 32 _ _) ∙ sym (c .before .before .before .before .before .before .before .before .before .literal2 .ensures) ∙ ap seenNext (c .before .before .before .before .before .before .before .command-at .given .1),
+    with-number _ _ _ _ (rw (
+      sym (c .before .before .before .before .before .before .before .before .before .before .before .before .before .before .before .before .before .before .before .before .before .before .before .read-signed .ensures .0) ∙ ap seenSigned (rail .1),
+      sym (text-one 32 _ _) ∙ sym (c .before .before .before .before .before .before .before .before .before .before .before .before .before .before .before .before .before .before .literal .ensures .0) ∙ ap seenNext (c .before .before .before .before .before .before .before .before .before .before .before .before .before .before .before .before .set-at .given .1),
+      sym (c .before .before .before .before .before .before .before .before .before .before .before .before .before .before .read-word .ensures .0) ∙ ap seenWord (set .1),
+      sym (text-one 32 _ _) ∙ sym (c .before .before .before .before .before .before .before .before .before .literal2 .ensures .0) ∙ ap seenNext (c .before .before .before .before .before .before .before .command-at .given .1),
     ) (
       ap (tickBy (rail .0 .0) (set .0 .0)) (sym (c .enum-told6 .given .1) ∙ c .before .before .before .before .read-command .ensures .0) ∙ tick-told (rail .0 .0) (set .0 .0) (length (a .transfer .now)) order,
       c .before .before .before .before .read-command .ensures .1 ∙ tick-held (rail .0 .0) (set .0 .0) order (a .transfer .now),
-    )
+    ))
 
 pub read-tick-spec : {M : Type 1} → statement M
 read-tick-spec =
