@@ -1,12 +1,23 @@
 -- Refusals 8 to 14, from the laws of the crates that give them. Assumes nothing.
-use mathlib.Core.Path.{_≡_, refl, sym}
+use Prim.Native.Nat.{ℕ}
+use mathlib.Core.Path.{_≡_, refl, sym, ap, _∙_}
+use mathlib.Core.Bool.{true, false, cond}
+use mathlib.Core.Logic.{_⊎_, inl, inr}
+use mathlib.Core.List.{List}
+use mathlib.Core.Option.{some}
+use native.Mathlib.Omega.{arith}
 use lib.ListN.{length}
-use Rattle.state.specs.Start.{startOf}
+use borrow.Author.Tests.{eq-eqb, ne-eqb}
+use Rattle.laws.proofs.Cases.{cases}
+use Rattle.memory.specs.Memory.{emptyStore}
+use Rattle.memory.specs.declared.Store.{Store}
+use Rattle.state.specs.Start.{keepsTheRules, startOf}
+use Rattle.state.specs.declared.parts.Profile.{Profile}
 use Rattle.state.specs.declared.starting.StartAnswer.{StartAnswer}
-use Rattle.state.specs.declared.starting.StartAnswer.the-variants.{Accepted, ProfileBreaksARule}
+use Rattle.state.specs.declared.starting.StartAnswer.the-variants.{Accepted, ProfileBreaksARule as BreaksARule}
 use Rattle.state.specs.declared.starting.Started.{Started}
 use Rattle.state.proofs.Laws as state
-use Rattle.board.specs.Tick.{tickOf}
+use Rattle.board.specs.Tick.{allowedCount, tickOf}
 use Rattle.board.proofs.Laws as board
 use Rattle.board.proofs.Happened as happened
 use Rattle.text.proofs.Enclosing.{laid-short}
@@ -15,31 +26,70 @@ use Rattle.text.proofs.Given as text
 use Rattle.text.proofs.Leaves.{refused-leaves}
 use Rattle.unit.specs.Machine.{begunBy, begunOf, toldOf, heardOf, dueOf}
 use Rattle.unit.specs.declared.Machine.{Machine}
+use Rattle.unit.specs.Runs.{Sample, happens}
 use Rattle.unit.proofs.Laws as unit
-use Rattle.session.specs.Sessions.{openedOf, startedOf}
+use Rattle.grammar.specs.Grammar.{Read, fails, reads}
+use Rattle.sheet.specs.Form.{Sheet, sheetIn}
+use Rattle.script.specs.Printing.{page}
+use Rattle.session.specs.Sessions.{profileIn, opens, noSession, openedOf, startedOf, answerFrom, answerNumber}
+use Rattle.session.specs.declared.running.Answer.{Answer}
+use Rattle.session.specs.declared.running.Answer.the-variants.{Running, ProfileBreaksARule, NotOfForm}
 use Rattle.session.proofs.Steps as session
-use Rattle.refusals.specs.Untouched.{Eight, Nine, Reads, Frames, Sheets, OtherRefusals}
+use Rattle.refusals.specs.Conditions.{tickAnswer}
+use Rattle.refusals.specs.Rules.{OfTheForm}
+use Rattle.refusals.specs.Untouched.{startTold, Eight, NeitherNoneNor122, Nine, Reads, Frames, numberIn, sheetTold, Sheets, OtherRefusals}
+use Rattle.refusals.proofs.Rules.{rules-kept, kept-rules, form-read, read-form}
 
 begun-answer : (a : StartAnswer) (s : Started) (there : Machine) → begunBy a s there .answer ≡ a
 begun-answer Accepted s there = refl
-begun-answer ProfileBreaksARule s there = refl
+begun-answer BreaksARule s there = refl
+
+-- the number of a start, by the rules
+start-number : (there : Machine) (p : Profile) (store : Store) → startTold there p store ≡ cond (keepsTheRules p store) 0 8
+unfolding begunOf
+start-number there p store = rw (begun-answer (startOf (there .board) p store .answer) (startOf (there .board) p store) there) (state.number-8 (there .board) p store)
 
 eight : Eight
-unfolding begunOf
 eight =
     record {
-      exactly = λ there p store. rw (begun-answer (startOf (there .board) p store .answer) (startOf (there .board) p store) there) (state.number-8 (there .board) p store);
-      leaves = unit.refused-start-leaves;
+      none-or-8 = λ there p store. cases (keepsTheRules p store) (λ e. inl (start-number there p store ∙ rw e)) (λ e. inr (start-number there p store ∙ rw e));
+      kept = λ there p store k. start-number there p store ∙ rw (rules-kept p store k);
+      only-kept = λ there p store e. kept-rules p store (held p store (sym (start-number there p store) ∙ e));
+      leaves = λ there p store e. unit.refused-start-leaves there p store (broken p store (sym (start-number there p store) ∙ e));
     }
+  where
+    held : (p : Profile) (store : Store) → cond {A = ℕ} (keepsTheRules p store) 0 8 ≡ 0 → keepsTheRules p store ≡ true
+    held p store e = cases (keepsTheRules p store) (λ h. h) (λ h. let q = rw h at e in absurd (omega arith))
+
+    broken : (p : Profile) (store : Store) → cond {A = ℕ} (keepsTheRules p store) 0 8 ≡ 8 → keepsTheRules p store ≡ false
+    broken p store e = cases (keepsTheRules p store) (λ h. let q = rw h at e in absurd (omega arith)) (λ h. h)
+
+-- the words lent
+lent : (i : Sample) → NeitherNoneNor122 i → happens i ≡ false
+unfolding allowedCount
+lent i n = rw (ne-eqb (length (i .words)) 0 (n .0), ne-eqb (length (i .words)) 122 (n .1))
+
+lent-none : (i : Sample) → length (i .words) ≡ 0 → happens i ≡ true
+unfolding allowedCount
+lent-none i e = rw (eq-eqb (length (i .words)) 0 e)
+
+lent-all : (i : Sample) → length (i .words) ≡ 122 → happens i ≡ true
+unfolding allowedCount
+lent-all i e = rw e
 
 nine : Nine
 unfolding toldOf tickOf
 nine =
     record {
-      given = λ m i wrong. board.number-9 (i .rail) (i .named) (i .words) (i .sent) (i .transfer) (m .board) wrong;
-      only = λ m i allowed. happened.only-9 (i .rail) (i .named) (i .words) (i .sent) (i .transfer) (m .board) allowed;
-      leaves = λ m i wrong. (unit.refused-tick-leaves (i .rail) (i .named) (i .words) (i .sent) (i .transfer) m wrong, rw wrong);
+      given = λ m i n. board.number-9 (i .rail) (i .named) (i .words) (i .sent) (i .transfer) (m .board) (lent i n);
+      only = λ m i e. neither m i e;
+      leaves = λ m i e. let wrong = lent i (neither m i e) in (unit.refused-tick-leaves (i .rail) (i .named) (i .words) (i .sent) (i .transfer) m wrong, rw wrong);
     }
+  where
+    neither : (m : Machine) (i : Sample) → tickAnswer m i ≡ some 9 → NeitherNoneNor122 i
+    neither m i e =
+        let only : happens i ≡ true → ⊥ = λ h. happened.only-9 (i .rail) (i .named) (i .words) (i .sent) (i .transfer) (m .board) h e in
+        (λ z. only (lent-none i z), λ z. only (lent-all i z))
 
 reading : Reads
 unfolding heardOf
@@ -59,17 +109,45 @@ framing =
       leaves = λ m out l. laid-short (dueOf m) out l;
     }
 
+-- the number of a sheet, by what was read
+sheet-number : (held s : List ℕ) → sheetTold held s ≡ answerNumber (answerFrom (sheetIn s))
+sheet-number held s = ap numberIn (session.open-is held s)
+
+not-read : (held s : List ℕ) → sheetTold held s ≡ 14 → sheetIn s ≡ fails
+not-read held s e = session.only-14 s (sym (sheet-number held s) ∙ e)
+
 sheets : Sheets
 unfolding openedOf startedOf begunOf startOf
 sheets =
     record {
-      given-14 = session.number-14;
-      only-14 = session.only-14;
-      leaves-14 = λ held s e. rw e;
-      given-8 = session.number-8;
-      only-8 = session.only-8;
-      leaves-8 = λ held s sheet i read broken. rw (read, broken);
+      given-14 = λ held s none. sheet-number held s ∙ session.number-14 s (no-form s none);
+      only-14 = λ held s e f. let q = not-read held s e in let r = form-read s f in let z : _≡_ {A = ℕ} 0 1 = cc in absurd (omega arith);
+      leaves-14 = λ held s e. rw (not-read held s e);
+      given-8 = λ held s f bad. sheet-number held s ∙ session.number-8 s _ _ (form-read s f) (cases (keepsTheRules (profileIn (f .top)) emptyStore) (λ k. absurd (bad (kept-rules _ _ k))) (λ k. k));
+      only-8 = λ held s f e k. let q = sym (sheet-number held s ∙ session.only-8 s _ _ (form-read s f) (rules-kept _ _ k)) ∙ e in absurd (omega arith);
+      leaves-8 = λ held s e. go held s (sheetIn s) refl (sym (sheet-number held s) ∙ e);
+      given-none = λ held s f k. sheet-number held s ∙ session.only-8 s _ _ (form-read s f) (rules-kept _ _ k);
+      no-other = λ held s. any held s (answerFrom (sheetIn s)) (sheet-number held s);
     }
+  where
+    no-form : (s : List ℕ) → (OfTheForm s → ⊥) → sheetIn s ≡ fails
+    no-form s none = by (sheetIn s) refl
+      where
+        by : (r : Read Sheet) → sheetIn s ≡ r → r ≡ fails
+        by fails q = refl
+        by (reads w i) q = absurd (none (read-form s w i q))
+
+    go : (held s : List ℕ) (r : Read Sheet) → sheetIn s ≡ r → answerNumber (answerFrom (sheetIn s)) ≡ 8 → openedOf held s ≡ opens noSession ProfileBreaksARule (page held 0)
+    go held s fails q e = let z = sym (session.number-14 s q) ∙ e in absurd (omega arith)
+    go held s (reads w i) q e =
+        cases (keepsTheRules (profileIn (w .top)) emptyStore)
+        (λ k. let z = sym (session.only-8 s w i q k) ∙ e in absurd (omega arith))
+        (λ k. rw (q, k))
+
+    any : (held s : List ℕ) (a : Answer) → sheetTold held s ≡ answerNumber a → (sheetTold held s ≡ 0) ⊎ (sheetTold held s ≡ 8) ⊎ (sheetTold held s ≡ 14)
+    any held s Running e = inl e
+    any held s ProfileBreaksARule e = inr (inl e)
+    any held s NotOfForm e = inr (inr e)
 
 pub other-refusals : OtherRefusals
 other-refusals = record { eight = eight; nine = nine; reading = reading; framing = framing; sheets = sheets }

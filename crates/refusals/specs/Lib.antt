@@ -1,4 +1,5 @@
 pub mod Conditions
 pub mod Refused
 pub mod RefusedTicks
+pub mod Rules
 pub mod Untouched

@@ -3,7 +3,7 @@
 -- What a refused sheet prints is laid into a buffer by a call of its own. Assumes nothing: these are definitions and the statement of the claim.
 use Prim.Native.Nat.{ℕ, _<_}
 use mathlib.Core.Path.{_≡_}
-use mathlib.Core.Bool.{true, false, cond}
+use mathlib.Core.Logic.{_⊎_}
 use mathlib.Core.List.{List}
 use mathlib.Core.Option.{some}
 use lib.ListN.{length}
@@ -11,7 +11,7 @@ use Rattle.hex.specs.Hex.{laid}
 use Rattle.watchdog.specs.declared.Event.the-variants.{NoEvent}
 use Rattle.memory.specs.Memory.{emptyStore}
 use Rattle.memory.specs.declared.Store.{Store}
-use Rattle.state.specs.Start.{keepsTheRules, startNumber}
+use Rattle.state.specs.Start.{startNumber}
 use Rattle.state.specs.declared.parts.Profile.{Profile}
 use Rattle.text.specs.Answers.{lineNumber, framedNumber}
 use Rattle.text.specs.Framing.{framedOf}
@@ -20,24 +20,31 @@ use Rattle.text.specs.Lines.{lineHeld}
 use Rattle.text.specs.declared.reading.Line.{Line}
 use Rattle.unit.specs.Machine.{begunOf, heardOf, dueOf}
 use Rattle.unit.specs.declared.Machine.{Machine}
-use Rattle.grammar.specs.Grammar.{fails, reads}
-use Rattle.sheet.specs.Form.{Sheet, sheetIn}
 use Rattle.script.specs.Printing.{page}
-use Rattle.session.specs.Sessions.{profileIn, opens, noSession, answerFrom, answerNumber, openedOf}
+use Rattle.session.specs.Sessions.{profileIn, Open, opens, noSession, answerNumber, openedOf}
 use Rattle.session.specs.declared.running.Answer.the-variants.{ProfileBreaksARule, NotOfForm}
-use Rattle.unit.specs.Runs.{Sample, told, happens}
+use Rattle.unit.specs.Runs.{Sample, told}
 use Rattle.refusals.specs.Conditions.{tickAnswer}
+use Rattle.refusals.specs.Rules.{KeepsAllRules, OfTheForm}
 
 -- 8, of a start: a profile that breaks a rule; the machine that was there stays
-pub record Eight : Type 0 where
-  pub exactly : (there : Machine) (profile : Profile) (store : Store) → startNumber (begunOf there profile store .answer) ≡ cond (keepsTheRules profile store) 0 8
-  pub leaves : (there : Machine) (profile : Profile) (store : Store) → keepsTheRules profile store ≡ false → begunOf there profile store .machine ≡ there
+abbrev pub startTold : Machine → Profile → Store → ℕ
+startTold there profile store = startNumber (begunOf there profile store .answer)
 
--- 9, of a tick: some words were lent, but not 122; nothing of the tick takes place
+pub record Eight : Type 0 where
+  pub none-or-8 : (there : Machine) (profile : Profile) (store : Store) → (startTold there profile store ≡ 0) ⊎ (startTold there profile store ≡ 8)
+  pub kept : (there : Machine) (profile : Profile) (store : Store) → KeepsAllRules profile store → startTold there profile store ≡ 0
+  pub only-kept : (there : Machine) (profile : Profile) (store : Store) → startTold there profile store ≡ 0 → KeepsAllRules profile store
+  pub leaves : (there : Machine) (profile : Profile) (store : Store) → startTold there profile store ≡ 8 → begunOf there profile store .machine ≡ there
+
+-- 9, of a tick: the words lent are neither 0 nor 122; nothing of the tick takes place
+abbrev pub NeitherNoneNor122 : Sample → Type 0
+NeitherNoneNor122 i = (length (i .words) ≡ 0 → ⊥) × (length (i .words) ≡ 122 → ⊥)
+
 pub record Nine : Type 0 where
-  pub given : (m : Machine) (i : Sample) → happens i ≡ false → tickAnswer m i ≡ some 9
-  pub only : (m : Machine) (i : Sample) → happens i ≡ true → tickAnswer m i ≡ some 9 → ⊥
-  pub leaves : (m : Machine) (i : Sample) → happens i ≡ false → (told m i .machine ≡ m) × (told m i .event ≡ NoEvent)
+  pub given : (m : Machine) (i : Sample) → NeitherNoneNor122 i → tickAnswer m i ≡ some 9
+  pub only : (m : Machine) (i : Sample) → tickAnswer m i ≡ some 9 → NeitherNoneNor122 i
+  pub leaves : (m : Machine) (i : Sample) → tickAnswer m i ≡ some 9 → (told m i .machine ≡ m) × (told m i .event ≡ NoEvent)
 
 -- 10 to 13, of a read of the text line: each answer is given where `GivenWhen` says, and a refused read leaves the machine and the scratch buffer
 pub record Reads : Type 0 where
@@ -52,15 +59,23 @@ pub record Frames : Type 0 where
   pub only : (m : Machine) (out : List ℕ) → framedNumber (framedOf (dueOf m) (length out)) ≡ 13 → length out < length (dueOf m)
   pub leaves : (m : Machine) (out : List ℕ) → length out < length (dueOf m) → laid (dueOf m) out ≡ out
 
--- 14 and 8, of a sheet: one that is not of its form or too long, and else a bad profile; no machine is started, and the output buffer stays
+-- 14 and 8, of a sheet: one that is over 65,536 bytes or not of its form, and else a bad profile, with which nothing is stored; no machine is started, and the output buffer stays
+abbrev pub numberIn : Open → ℕ
+numberIn (opens session answer printed) = answerNumber answer
+
+abbrev pub sheetTold : List ℕ → List ℕ → ℕ
+sheetTold held s = numberIn (openedOf held s)
+
 pub record Sheets : Type 0 where
-  pub given-14 : (s : List ℕ) → sheetIn s ≡ fails → answerNumber (answerFrom (sheetIn s)) ≡ 14
-  pub only-14 : (s : List ℕ) → answerNumber (answerFrom (sheetIn s)) ≡ 14 → sheetIn s ≡ fails
-  pub leaves-14 : (held s : List ℕ) → sheetIn s ≡ fails → openedOf held s ≡ opens noSession NotOfForm (page held 0)
-  pub given-8 : (s : List ℕ) (sheet : Sheet) (i : ℕ) → sheetIn s ≡ reads sheet i → keepsTheRules (profileIn (sheet .top)) emptyStore ≡ false → answerNumber (answerFrom (sheetIn s)) ≡ 8
-  pub only-8 : (s : List ℕ) (sheet : Sheet) (i : ℕ) → sheetIn s ≡ reads sheet i → keepsTheRules (profileIn (sheet .top)) emptyStore ≡ true → answerNumber (answerFrom (sheetIn s)) ≡ 0
-  pub leaves-8 : (held s : List ℕ) (sheet : Sheet) (i : ℕ) → sheetIn s ≡ reads sheet i → keepsTheRules (profileIn (sheet .top)) emptyStore ≡ false
-      → openedOf held s ≡ opens noSession ProfileBreaksARule (page held 0)
+  pub given-14 : (held s : List ℕ) → (OfTheForm s → ⊥) → sheetTold held s ≡ 14
+  pub only-14 : (held s : List ℕ) → sheetTold held s ≡ 14 → OfTheForm s → ⊥
+  pub leaves-14 : (held s : List ℕ) → sheetTold held s ≡ 14 → openedOf held s ≡ opens noSession NotOfForm (page held 0)
+  pub given-8 : (held s : List ℕ) (f : OfTheForm s) → (KeepsAllRules (profileIn (f .top)) emptyStore → ⊥) → sheetTold held s ≡ 8
+  pub only-8 : (held s : List ℕ) (f : OfTheForm s) → sheetTold held s ≡ 8 → KeepsAllRules (profileIn (f .top)) emptyStore → ⊥
+  pub leaves-8 : (held s : List ℕ) → sheetTold held s ≡ 8 → openedOf held s ≡ opens noSession ProfileBreaksARule (page held 0)
+  -- else none, and no other number is told
+  pub given-none : (held s : List ℕ) (f : OfTheForm s) → KeepsAllRules (profileIn (f .top)) emptyStore → sheetTold held s ≡ 0
+  pub no-other : (held s : List ℕ) → (sheetTold held s ≡ 0) ⊎ (sheetTold held s ≡ 8) ⊎ (sheetTold held s ≡ 14)
 
 pub record OtherRefusals : Type 0 where
   pub eight : Eight
