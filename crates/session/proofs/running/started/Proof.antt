@@ -38,13 +38,13 @@ same-length c = search needs
 returns : tie.Need-returns
 unfolding startedOf
 returns c =
-    let begun = rw (c .before .before .before .before .before .before .before .before .before .unstarted .ensures, c .before .before .before .before .before .before .before .before .empty .ensures) at (c .before .before .before .before .before .before .before .start .ensures) in
+    let begun = rw (c .before .before .before .before .before .before .before .before .before .unstarted .ensures, c .before .before .before .before .before .before .before .before .empty .ensures) at (c .before .before .before .before .before .before .before .start .ensures .0) in
     rw (← begun, c .before .before .before .before .enum-told .given .1, c .before .before .ticks-line .ensures)
 
 returns-2 : tie.Need-returns-2
 unfolding startedOf
 returns-2 c =
-    let begun = rw (c .before .before .before .before .before .before .unstarted .ensures, c .before .before .before .before .before .empty .ensures) at (c .before .before .before .before .start .ensures) in
+    let begun = rw (c .before .before .before .before .before .before .unstarted .ensures, c .before .before .before .before .before .empty .ensures) at (c .before .before .before .before .start .ensures .0) in
     rw (← begun, c .before .enum-told2 .given .1, c .none .ensures)
 
 pub started-spec : {M : Type 1} → statement M

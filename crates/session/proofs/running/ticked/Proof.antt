@@ -27,7 +27,7 @@ same-length c = search needs
 returns : tie.Need-returns
 unfolding tickedOf
 returns c =
-    let told = rw (toZ-ofZ w16 (c .before .before .before .before .before .before .before .before .before .before .before .args .rail) (c .before .before .before .before .before .before .before .before .before .before .before .fits .rail)) at (c .before .before .before .before .before .before .before .tick .ensures) in
+    let told = rw (toZ-ofZ w16 (c .before .before .before .before .before .before .before .before .before .before .before .args .rail) (c .before .before .before .before .before .before .before .before .before .before .before .fits .rail)) at (c .before .before .before .before .before .before .before .tick .ensures .0) in
     rw (c .before .before .tick-line .ensures, told)
 
 pub ticked-spec : {M : Type 1} → statement M

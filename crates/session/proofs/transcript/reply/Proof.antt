@@ -46,7 +46,7 @@ returns c =
     let whole : length (a .r .bytes) ≡ 274 = search needs in
     let written = rw (c .before .before .before .before .before .before .before .before .before .before .before .before .first .ensures) at (c .before .before .before .before .before .before .before .before .before .before .write .ensures) in
     let shown-bytes = digits-written (take (a .r .len) (a .r .bytes)) (replicate 1024 0) (shown-short (a .r .len) (a .r .bytes) whole) (length-replicate {A = ℕ} 1024 0) _ (sym (written .0) ∙ c .before .before .before .before .before .before .before .n .given .1) in
-    rw (c .before .before .text .ensures, c .before .before .before .first2 .ensures, written .1) (ap (typed (page (a .out .now) (a .at))) shown-bytes)
+    rw (c .before .before .text .ensures, c .before .before .before .first2 .ensures, written .1 .0) (ap (typed (page (a .out .now) (a .at))) shown-bytes)
 
 returns-2 : tie.Need-returns-2
 unfolding shown

@@ -29,7 +29,7 @@ returns : tie.Need-returns
 returns c =
     let a = c .before .before .before .before .before .before .before .before .before .args in
     let o = payloadOf (a .text .now) in
-    (ap (commandBy (a .next)) (sym (c .before .count .given .1) ∙ c .before .before .before .before .before .read .ensures .0) ∙ spells-told o (length (a .transfer .now)) (a .next), c .before .before .before .before .before .read .ensures .1 ∙ spells-held o (a .next) (a .transfer .now))
+    (ap (commandBy (a .next)) (sym (c .before .count .given .1) ∙ c .before .before .before .before .before .read .ensures .0) ∙ spells-told o (length (a .transfer .now)) (a .next), c .before .before .before .before .before .read .ensures .1 .0 ∙ spells-held o (a .next) (a .transfer .now))
 
 same-length-2 : tie.Need-same-length-2
 same-length-2 c = search needs
@@ -38,7 +38,7 @@ returns-2 : tie.Need-returns-2
 returns-2 c =
     let a = c .before .before .before .before .before .before .before .before .args in
     let o = payloadOf (a .text .now) in
-    (ap (commandBy (a .next)) (sym (c .enum-told .given .1) ∙ c .before .before .before .before .read .ensures .0) ∙ spells-told o (length (a .transfer .now)) (a .next), c .before .before .before .before .read .ensures .1 ∙ spells-held o (a .next) (a .transfer .now))
+    (ap (commandBy (a .next)) (sym (c .enum-told .given .1) ∙ c .before .before .before .before .read .ensures .0) ∙ spells-told o (length (a .transfer .now)) (a .next), c .before .before .before .before .read .ensures .1 .0 ∙ spells-held o (a .next) (a .transfer .now))
 
 same-length-3 : tie.Need-same-length-3
 same-length-3 c = search needs
@@ -47,7 +47,7 @@ returns-3 : tie.Need-returns-3
 returns-3 c =
     let a = c .before .before .before .before .before .before .before .before .args in
     let o = payloadOf (a .text .now) in
-    (ap (commandBy (a .next)) (sym (c .enum-told2 .given .1) ∙ c .before .before .before .before .read .ensures .0) ∙ spells-told o (length (a .transfer .now)) (a .next), c .before .before .before .before .read .ensures .1 ∙ spells-held o (a .next) (a .transfer .now))
+    (ap (commandBy (a .next)) (sym (c .enum-told2 .given .1) ∙ c .before .before .before .before .read .ensures .0) ∙ spells-told o (length (a .transfer .now)) (a .next), c .before .before .before .before .read .ensures .1 .0 ∙ spells-held o (a .next) (a .transfer .now))
 
 pub spelt-spec : {M : Type 1} → statement M
 spelt-spec =
