@@ -9,6 +9,7 @@ pub mod Power
 pub mod PowerReal
 pub mod PowerNeeded
 pub mod Dark
+pub mod Kept
 pub mod Wrong
 pub mod CountRuns
 pub mod RefusalExamples

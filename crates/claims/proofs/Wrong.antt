@@ -1,9 +1,11 @@
--- Why each wrong program is caught: its run and the machine's are worked out, from a board that has just come into nominal. Assumes nothing.
+-- Why each wrong program is caught: its run and the machine's are worked out, from a board that has just come into nominal.
+-- And why each breaks its claim: on that run it does not keep it. Assumes nothing.
 use Prim.Native.Nat.{ℕ}
 use mathlib.Core.Path.{_≡_, refl, sym, ap, _∙_}
-use mathlib.Core.List.{List, []}
+use mathlib.Core.Bool.{true, false≢true}
+use mathlib.Core.List.{List, [], _∷_}
 use mathlib.Core.Option.{some}
-use lib.ListN.{replicate}
+use lib.ListN.{getD, replicate}
 use native.Mathlib.Omega.{arith}
 use Rattle.wire.specs.Numbers.{bytesOf, number}
 use Rattle.wire.specs.Replies.{shown, written, replyOf, room, laidOut, replyCode}
@@ -13,7 +15,7 @@ use Rattle.modes.specs.Table.{entered, stepOf, olderOf}
 use Rattle.modes.specs.Commands.{toNominal}
 use Rattle.modes.specs.declared.Mode.the-variants.{Nominal}
 use Rattle.channels.specs.Sets.{has, setOf, listOf, isWithin, allBelow}
-use Rattle.channels.specs.Chan.{whole}
+use Rattle.channels.specs.Chan.{Chan, whole}
 use Rattle.channels.specs.Operations.{cleared, forcedOn, allOff, overcurrentAt, commandEnabledOff, groupOn}
 use Rattle.channels.specs.Counting.{countAll}
 use Rattle.command.specs.Table as commands
@@ -37,7 +39,11 @@ use Rattle.unit.specs.Machine.{noMachine, begunOf, toldOf}
 use Rattle.unit.specs.declared.Machine.{Machine}
 use Rattle.unit.specs.declared.Told.{Told}
 use Rattle.unit.specs.Runs.{Sample, told, tick, after, Reached}
-use Rattle.claims.specs.Wrong.{awake, Program, document01, stateAfter, lastTold, Caught, tickedWith, toldWith, refusing, refusesAll, replyingNoop, stayingInSafety, unchanged, countingAllNamed, profile, quiet, sending, noop, answer, AllCaught}
+use Rattle.refusals.proofs.Conditions.{same-number}
+use Rattle.refusals.proofs.Answered.{exactly-when}
+use Rattle.claims.specs.Wrong as wrong
+use Rattle.claims.specs.Wrong.{awake, Program, document01, stateAfter, lastTold, Caught, tickedWith, toldWith, refusing, refusesAll, replyingNoop, stayingInSafety, unchanged, countingAllNamed, profile, quiet, sending, noop, answer, AllCaught, shownAfter, AllBreak}
+use Rattle.claims.proofs.Kept.{tells-given, own-code, replies-with-its-code, comes-into-nominal, switches-the-named, counts-step-3}
 
 -- the tick with document 01's own steps 3 and 4 in it is document 01's
 pub same-tick : (m : Machine) (i : Sample) → toldWith trippedOf commandedOf m i ≡ told m i
@@ -90,3 +96,85 @@ all-caught =
     refused TooShort refusal = refl
     refused NotAvailable refusal = refl
     refused Wrong refusal = refl
+
+-- what the programs tell on those runs besides
+awake-too : {A : Type 0} (sees : Machine → A) (value : A) → sees woken ≡ value → sees awake ≡ value
+awake-too sees value e = ap sees awake-is ∙ e
+
+record Told-besides : Type 0 where
+  noop-replied : lastTold wrong.answersNoop awake [] (sending 15000 wrong.groupOn) .replied ≡ true
+  nominal-accepted : answer (lastTold wrong.staysInSafety awake (quiet 0 ∷ []) (sending 15000 wrong.toNominal)) ≡ some 0
+  group-accepted : answer (lastTold wrong.changesNothing awake [] (sending 15000 wrong.groupOn)) ≡ some 0
+  second-replied : lastTold wrong.repeatsTheFirst awake (sending 15000 noop ∷ []) (sending 15000 wrong.groupOn) .replied ≡ true
+  right-count : getD (lastTold document01 awake [] (wrong.reporting 0b0010 wrong.faults) .machine .board .channels .counts) 1 0 ≡ 0
+  made-up-count : getD (lastTold wrong.makesUpCounts awake [] (wrong.reporting 0b0010 wrong.faults) .machine .board .channels .counts) 1 0 ≡ 1
+
+told-besides : Told-besides
+unfolding stateAfter tickedWith refusing replyingNoop stayingInSafety unchanged countingAllNamed countAll groupOn groupIn number bytesOf shown written replyOf room laidOut replyCode shortReply faultsReply channelWords commands.table commands.find isIn baseCodes fewerThanFour headerIs carried listed decodeBy decodeOf acceptedWith acceptedOf refusedOf notThisBoardOf isNominal switchedOf groupOnOf switchedModeOf faultsOf runOf isStartup decodedOf transferredOf toNominal has setOf listOf whole cleared forcedOn allOff overcurrentAt commandEnabledOff freshOf loadedFrom emptyStore toldOf tickOf tickWith allowedCount broughtBy risenOf changedOf trippedOf watchedIn commandedOf olderOf stepOf dog.risenOf dog.watchedOf isDark fromNominalToSafety enteringOf timerAfter resetsAfter leavesEmergency limitsOf safetyLow safetyHigh timeoutOf settingOf parameterOf rowOf find readWriteRows readOnlyRows lies defaultsOf defaultN column defaultOf clampOf atLeast atMost lowOf highOf
+told-besides =
+    record {
+      noop-replied = awake-too (λ m. lastTold wrong.answersNoop m [] (sending 15000 wrong.groupOn) .replied) true refl;
+      nominal-accepted = awake-too (λ m. answer (lastTold wrong.staysInSafety m (quiet 0 ∷ []) (sending 15000 wrong.toNominal))) (some 0) refl;
+      group-accepted = awake-too (λ m. answer (lastTold wrong.changesNothing m [] (sending 15000 wrong.groupOn))) (some 0) refl;
+      second-replied = awake-too (λ m. lastTold wrong.repeatsTheFirst m (sending 15000 noop ∷ []) (sending 15000 wrong.groupOn) .replied) true refl;
+      right-count = awake-too (λ m. getD (lastTold document01 m [] (wrong.reporting 0b0010 wrong.faults) .machine .board .channels .counts) 1 0) 0 refl;
+      made-up-count = awake-too (λ m. getD (lastTold wrong.makesUpCounts m [] (wrong.reporting 0b0010 wrong.faults) .machine .board .channels .counts) 1 0) 1 refl;
+    }
+
+-- each program breaks its claim where it was caught
+byte-2 : List ℕ → ℕ
+byte-2 bytes = getD bytes 2 0
+
+pub all-break : AllBreak
+unfolding awake-reached emptyStore byte-2 shownAfter stateAfter replyCode has unchanged
+all-break =
+    record {
+      refuses-all = λ a refusal. record {
+        machine-keeps = tells-given;
+        program-does-not = λ keeps.
+            let seen = all-caught .refuses-all a refusal in
+            let given = exactly-when .only-told awake (sending 15000 noop) 0 (omega arith) (seen .machine-shows) in
+            let told-0 = keeps awake [] (sending 15000 noop) 0 (given .0) (given .1) (given .2) in
+            refusal (same-number (numberOf a) 0 (sym (seen .program-shows) ∙ told-0));
+      };
+      answers-noop = record {
+        machine-keeps = replies-with-its-code;
+        program-does-not = λ keeps.
+            let code = keeps awake [] (sending 15000 wrong.groupOn) (omega arith) (told-besides .noop-replied) in
+            let z : _≡_ {A = ℕ} 0x03 0x11 = sym (ap byte-2 (all-caught .answers-noop .program-shows)) ∙ code in
+            omega arith;
+      };
+      stays-in-safety = record {
+        machine-keeps = comes-into-nominal;
+        program-does-not = λ keeps.
+            let left = keeps awake (quiet 0 ∷ []) (sending 15000 wrong.toNominal) refl (told-besides .nominal-accepted) in
+            all-caught .stays-in-safety .differ (sym left ∙ all-caught .stays-in-safety .program-shows);
+      };
+      changes-nothing = record {
+        machine-keeps = switches-the-named;
+        program-does-not = λ keeps.
+            let wrongly = keeps awake [] (sending 15000 wrong.groupOn) (told-besides .group-accepted) 1 (omega arith) in
+            let rightly = switches-the-named awake [] (sending 15000 wrong.groupOn) (told-besides .group-accepted) 1 (omega arith) in
+            let same : has (wrong.on (lastTold wrong.changesNothing awake [] (sending 15000 wrong.groupOn))) 1 ≡ has (wrong.on (lastTold document01 awake [] (sending 15000 wrong.groupOn))) 1 =
+            ap (λ (ch : Chan). ch .on) (wrongly ∙ sym rightly) in
+            false≢true
+            (sym (ap (λ (set : ℕ). has set 1) (all-caught .changes-nothing .program-shows)) ∙ same ∙ ap (λ (set : ℕ). has set 1) (all-caught .changes-nothing .machine-shows));
+      };
+      obeys-the-first = own-code;
+      repeats-the-first = record {
+        machine-keeps = replies-with-its-code;
+        program-does-not = λ keeps.
+            let code = keeps awake (sending 15000 noop ∷ []) (sending 15000 wrong.groupOn) (omega arith) (told-besides .second-replied) in
+            let z : _≡_ {A = ℕ} 0x03 0x11 = sym (ap byte-2 (all-caught .repeats-the-first .program-shows)) ∙ code in
+            omega arith;
+      };
+      makes-up-counts = record {
+        machine-keeps = counts-step-3;
+        program-does-not = λ keeps.
+            let past = replicate 50 (tick (quiet 15000)) in
+            let wrongly = keeps noMachine profile emptyStore (awake-reached .accepted) past [] (wrong.reporting 0b0010 wrong.faults) 1 (omega arith) in
+            let rightly = counts-step-3 noMachine profile emptyStore (awake-reached .accepted) past [] (wrong.reporting 0b0010 wrong.faults) 1 (omega arith) in
+            let z : _≡_ {A = ℕ} 1 0 = sym (told-besides .made-up-count) ∙ wrongly ∙ sym rightly ∙ told-besides .right-count in
+            omega arith;
+      };
+    }

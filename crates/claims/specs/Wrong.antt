@@ -1,25 +1,29 @@
--- The six programs that document 01 wants caught, where it says how tight the contracts are. Each differs from the machine no more than what is said of it asks, and is caught on
--- a run of a tick or two on a board that was started and came into nominal: document 01's machine then shows one thing and the program another. Assumes nothing: these are
--- definitions.
-use Prim.Native.Nat.{ℕ}
+-- The six programs that document 01 wants caught, where it says how tight the contracts are. Each differs from the
+-- machine no more than what is said of it asks. Each is caught on a run of a tick or two on a board that was started and
+-- came into nominal: document 01's machine then shows one thing and the program another. And each breaks the claim that
+-- document 01 names for it, which document 01's machine keeps. Assumes nothing: these are definitions.
+use Prim.Native.Nat.{ℕ, _<_, min}
 use mathlib.Core.Path.{_≡_}
 use mathlib.Core.Bool.{Bool, true, false, cond, not}
-use mathlib.Core.List.{List, [], _∷_}
+use mathlib.Core.List.{List, [], _∷_, _++_, map}
 use mathlib.Core.Option.{Option, some}
 use lib.IntN.{ℤ, pos}
 use lib.ListN.{length, getD, replicate}
-use Rattle.wire.specs.Replies.{shown}
+use Rattle.wire.specs.Replies.{shown, replyCode}
 use Rattle.modes.specs.Table.{same, olderOf}
 use Rattle.modes.specs.declared.Mode.{Mode}
 use Rattle.modes.specs.declared.Mode.the-variants.{Nominal, Safety}
 use Rattle.modes.specs.declared.Limits.{Limits}
+use Rattle.channels.specs.Chan.{chan}
 use Rattle.channels.specs.Operations.{overcurrentAt}
 use Rattle.channels.specs.Counting.{countAll}
 use Rattle.channels.specs.declared.Channels.{Channels}
 use Rattle.command.specs.Decode.{codeOf}
 use Rattle.memory.specs.Limits.{limitsOf}
 use Rattle.memory.specs.Memory.{emptyStore}
+use Rattle.memory.specs.declared.Store.{Store}
 use Rattle.state.specs.Parts.{modeOf, withPhase, withChannels, withReply}
+use Rattle.state.specs.Start.{keepsTheRules}
 use Rattle.state.specs.declared.parts.Board.{Board}
 use Rattle.state.specs.declared.parts.Profile.{Profile}
 use Rattle.answers.specs.Answers.{numberOf, toldNumber, shortTo, silentOf, notThisBoardOf, refusedOf}
@@ -33,8 +37,11 @@ use Rattle.board.specs.declared.Ticked.{Ticked}
 use Rattle.unit.specs.Machine.{noMachine, begunOf, toldBy}
 use Rattle.unit.specs.declared.Machine.{Machine}
 use Rattle.unit.specs.declared.Told.{Told}
-use Rattle.unit.specs.Runs.{Sample, told, tick, after}
+use Rattle.unit.specs.Runs.{Sample, told, happens, afterStep3, Call, tick, after}
+use Rattle.refusals.specs.Conditions.{Given, metIn}
+use Rattle.groups.specs.Groups.{sentences, madeBy}
 use Rattle.groups.specs.Resets.{isAccepted}
+use Rattle.groups.specs.Counts.{timesTakenOff}
 
 -- ---- programs
 -- a program has a state of its own, which it makes of the machine in whose place it is put; by each tick it tells something, the machine that it shows included
@@ -217,3 +224,61 @@ pub record AllCaught : Type 0 where
   pub repeats-the-first : Caught repeatsTheFirst reply (sending 15000 noop ∷ []) (sending 15000 groupOn) (0x11 ∷ 0x07 ∷ 0x11 ∷ 0x01 ∷ 0x80 ∷ []) (0x11 ∷ 0x07 ∷ 0x03 ∷ 0x01 ∷ 0x80 ∷ [])
   -- overcurrent is reported of channel 1, which is off, and 0x42 asks for the counts: that of channel 1 stands at byte 14 + 2
   pub makes-up-counts : Caught makesUpCounts (replyByte 16) [] (reporting 0b0010 faults) 0 1
+
+-- ---- what each of them breaks
+-- a sentence on one tick: of the machine before it, of what the tick brings, and of what is told
+abbrev pub OfATick : Type 1
+OfATick = Machine → Sample → Told → Type 0
+
+-- the machine that a program shows once it was put in the place of a machine and ran
+unfoldable pub shownAfter : (p : Program) → p .State → Machine → List Sample → Machine
+shownAfter p s m [] = m
+shownAfter p s m (i ∷ is) = shownAfter p (p .next s i) (p .tells s i .machine) is
+
+-- a program keeps a sentence: at every tick of every run; at the first tick alone
+abbrev pub AtEachTick : OfATick → Program → Type 0
+AtEachTick sentence p = (m : Machine) (before : List Sample) (last : Sample) → sentence (shownAfter p (p .start m) m before) last (lastTold p m before last)
+
+abbrev pub AtTheFirstTick : OfATick → Program → Type 0
+AtTheFirstTick sentence p = (m : Machine) (first : Sample) → sentence m first (p .tells (p .start m) first)
+
+-- demand 1, the table's "exactly when": the number that is given to the transfer is told
+abbrev pub TellsWhatIsGiven : OfATick
+TellsWhatIsGiven m i t = (n : ℕ) → happens i ≡ true → i .sent ≡ true → Given (metIn m i) n → answer t ≡ some n
+
+-- demand 2: a reply's code, at byte 2, is the command's with the lowest bit set; a code is a byte by its type
+abbrev pub RepliesWithItsCode : OfATick
+RepliesWithItsCode m i t = codeOf (i .transfer) < 256 → t .replied ≡ true → replyByte 2 t ≡ replyCode (codeOf (i .transfer))
+
+-- demand 2: after an accepted 0x30 the mode is nominal
+abbrev pub ComesIntoNominal : OfATick
+ComesIntoNominal m i t = codeOf (i .transfer) ≡ 0x30 → answer t ≡ some 0 → mode t ≡ Nominal
+
+-- demand 2, groups: after an accepted command each channel is what document 01's sentences make of it
+abbrev pub SwitchesTheNamed : OfATick
+SwitchesTheNamed m i t =
+    answer t ≡ some 0 → (c : ℕ) → c < 32
+    → chan (t .machine .board .channels) c ≡ madeBy (sentences (afterStep3 m i) (i .transfer) c) (codeOf (i .transfer)) (chan (afterStep3 m i .channels) c)
+
+-- demand 2, counts: put in the place of a machine that was started and used, a program shows the count of each channel
+-- as often as step 3 took it off since the last reset, as far as 65,535 reaches
+abbrev pub CountsStep3 : Program → Type 0
+CountsStep3 p =
+    (there : Machine) (profile : Profile) (store : Store) → keepsTheRules profile store ≡ true → (past : List Call) (before : List Sample) (last : Sample) (c : ℕ) → c < 32
+    → getD (lastTold p (after (begunOf there profile store .machine) past) before last .machine .board .channels .counts) c 0
+    ≡ min (timesTakenOff c (begunOf there profile store .machine) (past ++ (map tick before ++ (tick last ∷ [])))) 65535
+
+-- a claim on programs that document 01's machine meets and a program does not
+pub record Breaks (Claim : Program → Type 0) (p : Program) : Type 0 where
+  pub machine-keeps : Claim document01
+  pub program-does-not : Claim p → ⊥
+
+pub record AllBreak : Type 0 where
+  pub refuses-all : (a : Answer) → (numberOf a ≡ 0 → ⊥) → Breaks (AtEachTick TellsWhatIsGiven) (refusesAll a)
+  pub answers-noop : Breaks (AtEachTick RepliesWithItsCode) answersNoop
+  pub stays-in-safety : Breaks (AtEachTick ComesIntoNominal) staysInSafety
+  pub changes-nothing : Breaks (AtEachTick SwitchesTheNamed) changesNothing
+  -- the fifth keeps the sentence at its first tick, and not at each
+  pub obeys-the-first : AtTheFirstTick RepliesWithItsCode repeatsTheFirst
+  pub repeats-the-first : Breaks (AtEachTick RepliesWithItsCode) repeatsTheFirst
+  pub makes-up-counts : Breaks CountsStep3 makesUpCounts
