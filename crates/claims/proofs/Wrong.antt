@@ -1,5 +1,5 @@
--- Why each wrong program is caught: its run and the machine's are worked out, from a board that has just come into nominal.
--- And why each breaks its claim: on that run it does not keep it. Assumes nothing.
+-- Why each wrong program is caught: its run and the machine's are worked out, from a board that has just come into
+-- nominal. And why each breaks its claim: on that run it does not keep it. Assumes nothing.
 use Prim.Native.Nat.{ℕ}
 use mathlib.Core.Path.{_≡_, refl, sym, ap, _∙_}
 use mathlib.Core.Bool.{true, false≢true}

@@ -1,7 +1,7 @@
 -- The six programs that document 01 wants caught, where it says how tight the contracts are. Each differs from the
--- machine no more than what is said of it asks. Each is caught on a run of a tick or two on a board that was started and
--- came into nominal: document 01's machine then shows one thing and the program another. And each breaks the claim that
--- document 01 names for it, which document 01's machine keeps. Assumes nothing: these are definitions.
+-- machine no more than what is said of it asks. Each is caught on a run of a tick or two on a board that was started
+-- and came into nominal: document 01's machine then shows one thing and the program another. And each breaks the claim
+-- that document 01 names for it, which document 01's machine keeps. Assumes nothing: these are definitions.
 use Prim.Native.Nat.{ℕ, _<_, min}
 use mathlib.Core.Path.{_≡_}
 use mathlib.Core.Bool.{Bool, true, false, cond, not}

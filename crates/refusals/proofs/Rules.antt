@@ -1,4 +1,5 @@
--- The rules of a profile and the form of a sheet, as they are written out, are those that the machine goes by. Assumes nothing.
+-- The rules of a profile and the form of a sheet, as they are written out, are those that the machine goes by. Assumes
+-- nothing.
 use Prim.Native.Nat.{ℕ, zero, suc, _^_, _≤_, _<_}
 use mathlib.Core.Path.{_≡_, refl, sym, ap, _∙_}
 use mathlib.Core.Bool.{Bool, true, false, cond, not, _&&_, false≢true}

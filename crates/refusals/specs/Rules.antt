@@ -1,5 +1,5 @@
--- The rules of a profile and the form of a session sheet, written out as document 01 gives them: refusals 8 and 14 are told by these. `(c : ℕ) × B` is some number c of which B holds.
--- Assumes nothing: these are definitions.
+-- The rules of a profile and the form of a session sheet, written out as document 01 gives them: refusals 8 and 14 are
+-- told by these. `(c : ℕ) × B` is some number c of which B holds. Assumes nothing: these are definitions.
 use Prim.Native.Nat.{ℕ, _≤_, _<_}
 use mathlib.Core.Path.{_≡_}
 use mathlib.Core.Bool.{true}
@@ -16,13 +16,15 @@ use Rattle.grammar.specs.Grammar.{reads, times}
 use Rattle.sheet.specs.Form.{Top, head, Tick, tickLine}
 
 -- ---- a profile, with the settings that may come with it
--- a stored value lies in the range that its row of Table 3-25 gives; where the row gives no end, in that of its type. No row has a type that has a NaN
+-- a stored value lies in the range that its row of Table 3-25 gives; where the row gives no end, in that of its type.
+-- No row has a type that has a NaN
 abbrev pub InRange : Store → Type 0
 InRange store =
     (id : ℕ) (type : ValueType) (range : Range) (default : ℕ) → rowOf id ≡ readWrite type range default
     → (lowEnd type range ≤ℤ numberOf (store .settings) id) × (numberOf (store .settings) id ≤ℤ highEnd type range)
 
--- BID 1 to 8; the fitted channels, at least one; the force-enabled ones, all fitted; stored values in range, where any are stored. The channels are 0 to 31
+-- BID 1 to 8; the fitted channels, at least one; the force-enabled ones, all fitted; stored values in range, where any
+-- are stored. The channels are 0 to 31
 pub record KeepsAllRules (p : Profile) (store : Store) : Type 0 where
   pub bid-from-1 : 1 ≤ p .bid
   pub bid-to-8 : p .bid ≤ 8
@@ -31,8 +33,8 @@ pub record KeepsAllRules (p : Profile) (store : Store) : Type 0 where
   pub stored-in-range : store .held ≡ true → InRange store
 
 -- ---- a sheet
--- at most 65,536 bytes: from the first on `board`, `fitted`, `forced` and `ticks` with what each says, then as many tick lines as `ticks` says, of at most 256 bytes of command each,
--- and nothing behind the last
+-- at most 65,536 bytes: from the first on `board`, `fitted`, `forced` and `ticks` with what each says, then as many
+-- tick lines as `ticks` says, of at most 256 bytes of command each, and nothing behind the last
 pub record OfTheForm (s : List ℕ) : Type 0 where
   pub short : length s ≤ 65536
   pub top : Top

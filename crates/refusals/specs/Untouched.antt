@@ -1,6 +1,8 @@
--- Demand 1, refusals 8 to 14: when each is given, and that the state and every lent buffer then hold what they held. The facts are those of the crates whose contracts they are about; here
--- they stand together, for every machine and every input. Words, transfers, received bytes and sheets are lent read-only and cannot change; a scratch buffer and an output buffer can.
--- What a refused sheet prints is laid into a buffer by a call of its own. Assumes nothing: these are definitions and the statement of the claim.
+-- Demand 1, refusals 8 to 14: when each is given, and that the state and every lent buffer then hold what they held.
+-- The facts are those of the crates whose contracts they are about; here they stand together, for every machine and
+-- every input. Words, transfers, received bytes and sheets are lent read-only and cannot change; a scratch buffer and
+-- an output buffer can. What a refused sheet prints is laid into a buffer by a call of its own. Assumes nothing: these
+-- are definitions and the statement of the claim.
 use Prim.Native.Nat.{ℕ, _<_}
 use mathlib.Core.Path.{_≡_}
 use mathlib.Core.Logic.{_⊎_}
@@ -59,7 +61,8 @@ pub record Frames : Type 0 where
   pub only : (m : Machine) (out : List ℕ) → framedNumber (framedOf (dueOf m) (length out)) ≡ 13 → length out < length (dueOf m)
   pub leaves : (m : Machine) (out : List ℕ) → length out < length (dueOf m) → laid (dueOf m) out ≡ out
 
--- 14 and 8, of a sheet: one that is over 65,536 bytes or not of its form, and else a bad profile, with which nothing is stored; no machine is started, and the output buffer stays
+-- 14 and 8, of a sheet: one that is over 65,536 bytes or not of its form, and else a bad profile, with which nothing is
+-- stored; no machine is started, and the output buffer stays
 abbrev pub numberIn : Open → ℕ
 numberIn (opens session answer printed) = answerNumber answer
 

@@ -1,4 +1,5 @@
--- What opening a sheet prints, the line of its refusal, and then each of its ticks, is together the whole transcript. Where a buffer has the room, what was printed is all of the text (`Pages`). Assumes nothing.
+-- What opening a sheet prints, the line of its refusal, and then each of its ticks, is together the whole transcript.
+-- Where a buffer has the room, what was printed is all of the text (`Pages`). Assumes nothing.
 use Prim.Native.Nat.{ℕ, zero, suc, _+_, _-_, _≤_, _<_}
 use mathlib.Core.Path.{_≡_, refl, ap, sym, _∙_}
 use mathlib.Core.Bool.{Bool, true, false, cond}

@@ -177,7 +177,8 @@ answerNumber Running = 0
 answerNumber ProfileBreaksARule = 8
 answerNumber NotOfForm = 14
 
--- the number for a sheet: 14 where it has over 65,536 bytes or is not of the form, else 8 where its profile breaks a rule, else none
+-- the number for a sheet: 14 where it has over 65,536 bytes or is not of the form, else 8 where its profile breaks a
+-- rule, else none
 abbrev pub formRefusal : Read Sheet → ℕ
 formRefusal fails = 14
 formRefusal (reads w i) = cond (keepsTheRules (profileIn (w .top)) emptyStore) 0 8

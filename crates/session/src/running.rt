@@ -79,8 +79,9 @@ fn started(profile: Profile, ticks: u32, first: usize, out: &mut [u8]) -> Opened
     }
 }
 
-// Opens a sheet of any bytes: the form of the whole sheet is looked at before the profile in it. The first line of the transcript goes into the front of the lent buffer, and a
-// buffer that is too short is filled with its front; where the sheet is refused, the buffer keeps what it held.
+// Opens a sheet of any bytes: the form of the whole sheet is looked at before the profile in it. The first line of the
+// transcript goes into the front of the lent buffer, and a buffer that is too short is filled with its front; where the
+// sheet is refused, the buffer keeps what it held.
 pub fn open(s: &[u8], out: &mut [u8]) -> Opened
     ensures leaves { λ r. ⌜ opened r (now (out .exit)) ≡ openedOf (now (out .entry)) (now (s .entry)) ⌝ }
     ensures number { λ r. ⌜ answerNumber (r .answer) ≡ sheetRefusal (now (s .entry)) ⌝ }
@@ -107,7 +108,8 @@ pub fn open(s: &[u8], out: &mut [u8]) -> Opened
     started(profile, ticks, first, out)
 }
 
-// Prints the line of a refused sheet into the front of the lent buffer, and nothing for a session that runs. A buffer that is too short is filled with its front.
+// Prints the line of a refused sheet into the front of the lent buffer, and nothing for a session that runs. A buffer
+// that is too short is filled with its front.
 pub fn refusal(answer: Answer, out: &mut [u8]) -> usize
     ensures { λ r. ⌜ page (now (out .exit)) r ≡ typed (page (now (out .entry)) 0) (refusalText answer) ⌝ }
 {

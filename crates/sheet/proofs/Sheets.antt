@@ -115,12 +115,15 @@ all-read s w i e =
     (lt-or-le 65536 (length s))
 
 -- ---- the answer is a head exactly where the sheet is of the form, and then it is that sheet's
-sheet-number : (r : Read Sheet) → headNumber (sheetHead r) ≡ refusalOf r
-sheet-number fails = refl
-sheet-number (reads w i) = refl
+pub answered : (s : List ℕ) → headNumber (sheetHead (sheetIn s)) ≡ refusalOf (sheetIn s)
+answered s = go (sheetIn s)
+  where
+    go : (r : Read Sheet) → headNumber (sheetHead r) ≡ refusalOf r
+    go fails = refl
+    go (reads w i) = refl
 
-pub with-sheet-number : (h : Head) (s : List ℕ) → h ≡ sheetHead (sheetIn s) → (h ≡ sheetHead (sheetIn s)) × (headNumber h ≡ refusalOf (sheetIn s))
-with-sheet-number h s e = (e, ap headNumber e ∙ sheet-number (sheetIn s))
+pub with-number : (h : Head) (s : List ℕ) → h ≡ sheetHead (sheetIn s) → (h ≡ sheetHead (sheetIn s)) × (headNumber h ≡ refusalOf (sheetIn s))
+with-number h s e = (e, ap headNumber e ∙ answered s)
 
 -- the sheet behind a head that was answered; its ticks are read one after another from the first on, up to the end
 pub record Accepted (s : List ℕ) (bid fitted forced ticks first : ℕ) : Type 0 where

@@ -60,12 +60,14 @@ abbrev pub headNumber : Head → ℕ
 headNumber (Head.Is bid fitted forced ticks first) = 0
 headNumber Head.Not = 14
 
--- 14 where a tick line is not of the form, and 13 where it is, but the buffer is too short for the bytes of its transfer
+-- 14 where a tick line is not of the form, and 13 where it is, but the buffer is too short for the bytes of its
+-- transfer
 abbrev pub tickNumber : TickLine → ℕ
 tickNumber (TickLine.Is rail overcurrent sent count next) = 0
 tickNumber TickLine.Not = 14
 tickNumber TickLine.TransferTooLong = 13
 
--- the number by the form: 0 for a tick line whose transfer has at most so many bytes, 13 for one whose transfer has more, 14 for what is none
+-- the number by the form: 0 for a tick line whose transfer has at most so many bytes, 13 for one whose transfer has
+-- more, 14 for what is none
 unfoldable pub tickRefusal : ℕ → List ℕ → ℕ → ℕ
 tickRefusal most s i = cond (isRead (tickLine most s i)) 0 (cond (isRead (anyTickLine s i)) 13 14)

@@ -72,8 +72,9 @@ fn read_command(s: &[u8], at: usize, transfer: &mut [u8]) -> Command
     spelt(&s[at..end], end + 1, transfer)
 }
 
-// The tick line at a place. The buffer's length is the most bytes that its transfer may have: a sheet's are read with 256. Where the line is not of the form, or its transfer
-// has more, the buffer keeps what it held, and the answer says which of the two it is.
+// The tick line at a place. The buffer's length is the most bytes that its transfer may have: a sheet's are read with
+// 256. Where the line is not of the form, or its transfer has more, the buffer keeps what it held, and the answer says
+// which of the two it is.
 pub fn read_tick(s: &[u8], at: usize, transfer: &mut [u8]) -> TickLine
     ensures answer { λ r. ⌜ r ≡ tickOf (length (now (transfer .entry))) (anyTickLine (now (s .entry)) at) ⌝ }
     ensures held { λ _. ⌜ now (transfer .exit) ≡ tickHeld (anyTickLine (now (s .entry)) at) (now (transfer .entry)) ⌝ }
