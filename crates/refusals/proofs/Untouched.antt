@@ -36,7 +36,7 @@ use Rattle.session.specs.declared.running.Answer.{Answer}
 use Rattle.session.specs.declared.running.Answer.the-variants.{Running, ProfileBreaksARule, NotOfForm}
 use Rattle.session.proofs.Steps as session
 use Rattle.refusals.specs.Conditions.{tickAnswer}
-use Rattle.refusals.specs.Rules.{OfTheForm}
+use Rattle.refusals.specs.Rules.{KeepsAllRules, OfTheForm}
 use Rattle.refusals.specs.Untouched.{startTold, Eight, NeitherNoneNor122, Nine, Reads, Frames, numberIn, sheetTold, Sheets, OtherRefusals}
 use Rattle.refusals.proofs.Rules.{rules-kept, kept-rules, form-read, read-form}
 
@@ -116,6 +116,25 @@ sheet-number held s = ap numberIn (session.open-is held s)
 not-read : (held s : List ℕ) → sheetTold held s ≡ 14 → sheetIn s ≡ fails
 not-read held s e = session.only-14 s (sym (sheet-number held s) ∙ e)
 
+-- a sheet of the form, by its profile
+module _ (held s : List ℕ) (f : OfTheForm s) where
+  told-0 : KeepsAllRules (profileIn (f .top)) emptyStore → sheetTold held s ≡ 0
+  told-0 k = sheet-number held s ∙ session.only-8 s _ _ (form-read s f) (rules-kept _ _ k)
+
+  told-8-by : keepsTheRules (profileIn (f .top)) emptyStore ≡ false → sheetTold held s ≡ 8
+  told-8-by k = sheet-number held s ∙ session.number-8 s _ _ (form-read s f) k
+
+  told-8 : (KeepsAllRules (profileIn (f .top)) emptyStore → ⊥) → sheetTold held s ≡ 8
+  told-8 bad = told-8-by (cases (keepsTheRules (profileIn (f .top)) emptyStore) (λ k. absurd (bad (kept-rules _ _ k))) (λ k. k))
+
+-- a sheet that is not told 14 is of the form
+formed : (held s : List ℕ) → (sheetTold held s ≡ 14 → ⊥) → OfTheForm s
+formed held s n = by (sheetIn s) refl
+  where
+    by : (r : Read Sheet) → sheetIn s ≡ r → OfTheForm s
+    by fails q = absurd (n (sheet-number held s ∙ session.number-14 s q))
+    by (reads w i) q = read-form s w i q
+
 sheets : Sheets
 unfolding openedOf startedOf begunOf startOf
 sheets =
@@ -123,10 +142,13 @@ sheets =
       given-14 = λ held s none. sheet-number held s ∙ session.number-14 s (no-form s none);
       only-14 = λ held s e f. let q = not-read held s e in let r = form-read s f in let z : _≡_ {A = ℕ} 0 1 = cc in absurd (omega arith);
       leaves-14 = λ held s e. rw (not-read held s e);
-      given-8 = λ held s f bad. sheet-number held s ∙ session.number-8 s _ _ (form-read s f) (cases (keepsTheRules (profileIn (f .top)) emptyStore) (λ k. absurd (bad (kept-rules _ _ k))) (λ k. k));
-      only-8 = λ held s f e k. let q = sym (sheet-number held s ∙ session.only-8 s _ _ (form-read s f) (rules-kept _ _ k)) ∙ e in absurd (omega arith);
+      given-8 = λ held s f bad. told-8 held s f bad;
+      only-8 = λ held s e. let f = formed held s (λ q. let z = sym e ∙ q in absurd (omega arith)) in (f, λ k. let z = sym (told-0 held s f k) ∙ e in absurd (omega arith));
       leaves-8 = λ held s e. go held s (sheetIn s) refl (sym (sheet-number held s) ∙ e);
-      given-none = λ held s f k. sheet-number held s ∙ session.only-8 s _ _ (form-read s f) (rules-kept _ _ k);
+      given-none = told-0;
+      only-none = λ held s e.
+          let f = formed held s (λ q. let z = sym e ∙ q in absurd (omega arith)) in
+          (f, cases (keepsTheRules (profileIn (f .top)) emptyStore) (λ k. kept-rules _ _ k) (λ k. let z = sym (told-8-by held s f k) ∙ e in absurd (omega arith)));
       no-other = λ held s. any held s (answerFrom (sheetIn s)) (sheet-number held s);
     }
   where

@@ -74,10 +74,11 @@ pub record Sheets : Type 0 where
   pub only-14 : (held s : List ℕ) → sheetTold held s ≡ 14 → OfTheForm s → ⊥
   pub leaves-14 : (held s : List ℕ) → sheetTold held s ≡ 14 → openedOf held s ≡ opens noSession NotOfForm (page held 0)
   pub given-8 : (held s : List ℕ) (f : OfTheForm s) → (KeepsAllRules (profileIn (f .top)) emptyStore → ⊥) → sheetTold held s ≡ 8
-  pub only-8 : (held s : List ℕ) (f : OfTheForm s) → sheetTold held s ≡ 8 → KeepsAllRules (profileIn (f .top)) emptyStore → ⊥
+  pub only-8 : (held s : List ℕ) → sheetTold held s ≡ 8 → (f : OfTheForm s) × (KeepsAllRules (profileIn (f .top)) emptyStore → ⊥)
   pub leaves-8 : (held s : List ℕ) → sheetTold held s ≡ 8 → openedOf held s ≡ opens noSession ProfileBreaksARule (page held 0)
   -- else none, and no other number is told
   pub given-none : (held s : List ℕ) (f : OfTheForm s) → KeepsAllRules (profileIn (f .top)) emptyStore → sheetTold held s ≡ 0
+  pub only-none : (held s : List ℕ) → sheetTold held s ≡ 0 → (f : OfTheForm s) × KeepsAllRules (profileIn (f .top)) emptyStore
   pub no-other : (held s : List ℕ) → (sheetTold held s ≡ 0) ⊎ (sheetTold held s ≡ 8) ⊎ (sheetTold held s ≡ 14)
 
 pub record OtherRefusals : Type 0 where
