@@ -1,46 +1,39 @@
--- The answers of document 01's command table: their numbers, and what each returns and leaves. Assumes nothing: these are definitions.
+-- The answers of document 01's command table: their numbers, and what each returns and leaves. Assumes nothing: these
+-- are definitions.
 use Prim.Native.Nat.{ℕ}
-use mathlib.Core.Bool.{true, false}
-use mathlib.Core.List.{List}
-use mathlib.Core.Option.{Option, none, some}
-use Rattle.wire.specs.declared.reply.Reply.{Reply}
-use Rattle.wire.specs.Replies.{replyOf}
-use Rattle.command.specs.Decode.{stidOf, ividOf, codeOf, bidOf}
-use Rattle.command.specs.declared.Header.{Header}
+use mathlib.Core.{Bool.true, Bool.false, List.List, Option.Option, Option.none, Option.some}
+use Rattle.wire.specs.{declared.reply.Reply.Reply, Replies.replyOf}
+use Rattle.command.specs.{Decode.stidOf, Decode.ividOf, Decode.codeOf, Decode.bidOf, declared.Header.Header}
 use Rattle.replies.specs.Layouts.{shortReply}
-use Rattle.state.specs.declared.parts.Board.{Board}
-use Rattle.state.specs.declared.parts.Profile.{Profile}
-use Rattle.state.specs.Parts.{withTimer, withReply}
-use Rattle.answers.specs.declared.Answer.{Answer}
+use Rattle.state.specs.{declared.parts.Board.Board, declared.parts.Profile.Profile, Parts.withTimer, Parts.withReply}
+use Rattle.answers.specs.{declared.Answer.Answer, declared.Outcome.Outcome, declared.Commanded.Commanded, declared.Received.Received}
 use Rattle.answers.specs.declared.Answer.the-variants.{Accepted, FewerThanFourBytes, InStartup, NotThisBoard, CodeNotListed, TooShort, NotAvailable, Wrong}
-use Rattle.answers.specs.declared.Outcome.{Outcome}
 use Rattle.answers.specs.declared.Outcome.the-variants.{WrongWordCount, NoTransfer, Answered}
-use Rattle.answers.specs.declared.Commanded.{Commanded}
-use Rattle.answers.specs.declared.Received.{Received}
 
 -- ---- numbers
-abbrev pub numberOf : Answer → ℕ
-numberOf Accepted = 0
-numberOf FewerThanFourBytes = 1
-numberOf InStartup = 2
-numberOf NotThisBoard = 3
-numberOf CodeNotListed = 4
-numberOf TooShort = 5
-numberOf NotAvailable = 6
-numberOf Wrong = 7
+abbrev pub answerNumber : Answer → ℕ
+answerNumber Accepted = 0
+answerNumber FewerThanFourBytes = 1
+answerNumber InStartup = 2
+answerNumber NotThisBoard = 3
+answerNumber CodeNotListed = 4
+answerNumber TooShort = 5
+answerNumber NotAvailable = 6
+answerNumber Wrong = 7
 
 -- 9 where the tick did not happen, and no number where there was no transfer to answer
 abbrev pub toldNumber : Outcome → Option ℕ
 toldNumber WrongWordCount = some 9
 toldNumber NoTransfer = none
-toldNumber (Answered answer) = some (numberOf answer)
+toldNumber (Answered answer) = some (answerNumber answer)
 
 -- ---- STAT
 -- the flag NEW
 abbrev pub new : ℕ
 new = 0x80
 
--- the codes are those of Table 3-11; NEW goes with acceptance alone. 1 and 2 make no reply, so theirs is never asked for.
+-- the codes are those of Table 3-11; NEW goes with acceptance alone. 1 and 2 make no reply, so theirs is never asked
+-- for.
 abbrev pub statOf : Answer → ℕ
 statOf Accepted = new  -- accepted is 0x00
 statOf NotThisBoard = 0x06

@@ -1,20 +1,14 @@
--- What a parameter reads. A read-only one reads what the rule that names it speaks of, and 0 where no rule does. Assumes nothing: these are definitions.
+-- What a parameter reads. A read-only one reads what the rule that names it speaks of, and 0 where no rule does.
+-- Assumes nothing: these are definitions.
 use Prim.Native.Nat.{ℕ}
-use mathlib.Core.Bool.{cond}
-use mathlib.Core.List.{List, [], _∷_}
-use lib.Dec.{eqb}
-use lib.ListN.{replicate}
+use mathlib.Core.{Bool.cond, List.List, List.[], List._∷_}
+use lib.{Dec.eqb, ListN.replicate}
 use Rattle.wire.specs.Numbers.{bytesOf}
-use Rattle.value.specs.Types.{width}
-use Rattle.value.specs.Values.{wireBytes, valueBytes}
-use Rattle.value.specs.declared.ValueBytes.{ValueBytes}
-use Rattle.settings.specs.Values.{getOf}
-use Rattle.settings.specs.declared.Got.{Got}
+use Rattle.value.specs.{Types.width, Values.wireBytes, Values.valueBytes, declared.ValueBytes.ValueBytes}
+use Rattle.settings.specs.{Values.getOf, declared.Got.Got}
 use Rattle.memory.specs.Limits.{safetyLow, safetyHigh, timeoutOf, emergencyLow, emergencyHigh, emergencyPeriod, linger}
 use Rattle.memory.specs.declared.Memory.{Memory}
-use Rattle.state.specs.Parts.{causeNumber}
-use Rattle.state.specs.declared.parts.Profile.{Profile}
-use Rattle.state.specs.declared.parts.Resets.{Resets}
+use Rattle.state.specs.{Parts.causeNumber, declared.parts.Profile.Profile, declared.parts.Resets.Resets}
 
 infix 70 _reads_
 pub data Row : Type 0 where
@@ -58,7 +52,8 @@ valueAs n Got.Unknown = []
 unfoldable pub valueRead : Profile → Memory → Resets → ℕ → List ℕ
 valueRead p m r id = valueAs (readOnlyNumber p m r id) (getOf (m .current) id)
 
--- the room of eight bytes in which they are handed on, and how many of them count: behind a setting's bytes stand zeros, behind a read-only one's the rest of its number
+-- the room of eight bytes in which they are handed on, and how many of them count: behind a setting's bytes stand
+-- zeros, behind a read-only one's the rest of its number
 abbrev pub roomAs : ℕ → Got → ValueBytes
 roomAs n (Got.Value v) = valueBytes v
 roomAs n (Got.ReadOnly t) = record { len = width t; bytes = bytesOf 8 n }

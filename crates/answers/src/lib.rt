@@ -1,4 +1,5 @@
-// What a transfer may be answered, with the status code of each answer, what a board is called by, and what a parameter reads.
+// What a transfer may be answered, with the status code of each answer, what a board is called by, and what a parameter
+// reads.
 ghost use mathlib.Core.Path.{_≡_};
 ghost use Rattle.answers.specs.Answers.{receivedIn, headerOf, statOf};
 
@@ -22,7 +23,8 @@ pub enum Answer {
     Wrong,
 }
 
-// What a tick tells of its transfer: that the words lent are neither none nor all, so that the tick did not happen; that there was no transfer; or its answer.
+// What a tick tells of its transfer: that the words lent are neither none nor all, so that the tick did not happen;
+// that there was no transfer; or its answer.
 pub enum Outcome {
     WrongWordCount,
     NoTransfer,

@@ -49,7 +49,8 @@ fn read_only_number(p: Profile, m: Memory, r: Resets, id: u16) -> u64
     }
 }
 
-// The bytes that an id reads, as many as its type has, at the front of a room of eight; an id that is no parameter has none.
+// The bytes that an id reads, as many as its type has, at the front of a room of eight; an id that is no parameter has
+// none.
 pub fn value_read(p: Profile, m: Memory, r: Resets, id: u16) -> ValueBytes
     ensures read { λ v. ⌜ take (v .len) (v .bytes) ≡ valueRead p m r id ⌝ }
     ensures room { λ v. ⌜ v ≡ roomRead p m r id ⌝ }

@@ -1,4 +1,5 @@
-// Runs the session sheet on standard input, and prints its transcript or why it is refused. Nothing is decided here: `session` says what is printed.
+// Runs the session sheet on standard input, and prints its transcript or why it is refused. Nothing is decided here:
+// `session` says what is printed.
 ghost use mathlib.Core.Path.{_≡_};
 ghost use Rattle.sheet.specs.Form.{tickLine};
 ghost use Rattle.session.specs.Sessions.{nextBy};

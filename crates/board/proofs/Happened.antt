@@ -1,5 +1,5 @@
--- A tick that happens tells that it had no transfer, or the transfer's answer, and never 9; the reply that it leaves as its own is one that it made; and it leaves the form of
--- the text line, but for a reset. Assumes nothing.
+-- A tick that happens tells that it had no transfer, or the transfer's answer, and never 9; the reply that it leaves as
+-- its own is one that it made; and it leaves the form of the text line, but for a reset. Assumes nothing.
 use Prim.Native.Nat.{ℕ}
 use mathlib.Core.Path.{_≡_, refl, ap, sym, subst, _∙_}
 use mathlib.Core.Bool.{Bool, true, false, cond, not, false≢true}
@@ -13,7 +13,7 @@ use borrow.Author.Tests.{ne-eqb}
 use Rattle.laws.proofs.Cases.{cases}
 use Rattle.modes.specs.Commands.{toSafety, toNominal}
 use Rattle.modes.specs.declared.Limits.{Limits}
-use Rattle.modes.specs.declared.Commanded as change
+use Rattle.modes.specs.declared.ModeAnswer as change
 use Rattle.watchdog.specs.Watchdog as dog
 use Rattle.watchdog.specs.declared.Event.{Event}
 use Rattle.watchdog.specs.declared.Event.the-variants.{NoEvent, PeripheralReset, WatchdogReset}
@@ -30,19 +30,20 @@ use Rattle.wire.specs.declared.forms.Form.the-variants.{Raw}
 use Rattle.state.specs.Parts.{modeOf, withReply}
 use Rattle.state.specs.Start.{freshOf, commandResetOf, watchdogResetOf}
 use Rattle.state.specs.declared.parts.Board.{Board}
-use Rattle.answers.specs.Answers.{numberOf, toldNumber, headerOf, acceptedWith, acceptedOf, refusedOf, notThisBoardOf}
+use Rattle.answers.specs.Answers.{answerNumber, toldNumber, headerOf, acceptedWith, acceptedOf, refusedOf, notThisBoardOf}
 use Rattle.answers.specs.declared.Answer.{Answer}
 use Rattle.answers.specs.declared.Answer.the-variants.{Accepted, FewerThanFourBytes, InStartup, NotThisBoard, CodeNotListed, TooShort, NotAvailable, Wrong}
 use Rattle.answers.specs.declared.Outcome.{Outcome}
 use Rattle.answers.specs.declared.Outcome.the-variants.{NoTransfer, Answered}
 use Rattle.answers.specs.declared.Commanded.{Commanded}
-use Rattle.effects.specs.Effects.{isNominal, switchedOf, groupOnOf, groupOffOf, groupStateOf, channelOnOf, channelOffOf, cancelledOf, switchedModeOf, faultsOf, housekeepingOf, parameterOf, rememberedOf, savedIn, restartedOf, runOf}
+use Rattle.effects.specs.Effects.{isNominal, switchedOf, groupOnOf, groupOffOf, groupStateOf, channelOnOf, channelOffOf, cancelledOf, switchedModeOf, faultsOf, housekeepingOf, parameterAnswered, rememberedOf, savedIn, restartedOf, runOf}
 use Rattle.commands.specs.Step.{isStartup, turnedDown, decodedOf, transferredOf, commandedOf}
 use Rattle.board.specs.Tick.{risenOf, changedOf, trippedOf, watchedAs, watchedIn, tickWith, allowedCount, tells, tickOf}
 use Rattle.board.specs.declared.Ticked.{Ticked}
 use Rattle.board.proofs.Laws.{number-9}
 
--- ---- every transfer is answered. Where a reply is made it is the same whatever reply r waited before; the form of the text line stays, but for a reset by command
+-- ---- every transfer is answered. Where a reply is made it is the same whatever reply r waited before; the form of the
+-- text line stays, but for a reset by command
 record Answers (b : Board) (c other : Commanded) : Type 0 where
   answer : Answer
   told-so : c .outcome ≡ Answered answer
@@ -64,13 +65,13 @@ module _ (r : Reply) where
   unfolding switchedOf refusedOf acceptedOf acceptedWith
   switched code right channels b = either (not (isNominal (modeOf b))) (replies NotAvailable refl refl refl) (either (not right) (replies Wrong refl refl refl) (replies Accepted refl refl refl))
 
-  switched-mode : (code : ℕ) (c : change.Commanded) (b : Board) → Answers b (switchedModeOf code c b) (switchedModeOf code c (withReply r b))
+  switched-mode : (code : ℕ) (c : change.ModeAnswer) (b : Board) → Answers b (switchedModeOf code c b) (switchedModeOf code c (withReply r b))
   unfolding switchedModeOf refusedOf acceptedOf acceptedWith
-  switched-mode code (change.Commanded.Accepted phase) b = replies Accepted refl refl refl
-  switched-mode code change.Commanded.Unavailable b = replies NotAvailable refl refl refl
+  switched-mode code (change.ModeAnswer.Accepted phase) b = replies Accepted refl refl refl
+  switched-mode code change.ModeAnswer.Unavailable b = replies NotAvailable refl refl refl
 
   run : (rail : ℤ) (limits : Limits) (code : ℕ) (c : Command) (b : Board) → Answers b (runOf rail limits code c b) (runOf rail limits code c (withReply r b))
-  unfolding runOf groupOnOf groupOffOf groupStateOf channelOnOf channelOffOf cancelledOf faultsOf housekeepingOf parameterOf rememberedOf savedIn restartedOf refusedOf acceptedOf acceptedWith
+  unfolding runOf groupOnOf groupOffOf groupStateOf channelOnOf channelOffOf cancelledOf faultsOf housekeepingOf parameterAnswered rememberedOf savedIn restartedOf refusedOf acceptedOf acceptedWith
   run rail limits code (Command.GroupOn g) b = switched code _ _ b
   run rail limits code (Command.GroupOff g) b = switched code _ _ b
   run rail limits code (Command.GroupState g) b = switched code _ _ b
@@ -144,7 +145,7 @@ only-9 rail named words sent s b allowed = told (λ o. toldNumber o ≡ some 9 �
     quiet : toldNumber NoTransfer ≡ some 9 → ⊥
     quiet e = let z : _≡_ {A = ℕ} 0 1 = cc in absurd (omega arith)
 
-    below : (answer : Answer) → numberOf answer ≡ 9 → ⊥
+    below : (answer : Answer) → answerNumber answer ≡ 9 → ⊥
     below Accepted e = absurd (omega arith)
     below FewerThanFourBytes e = absurd (omega arith)
     below InStartup e = absurd (omega arith)
@@ -155,7 +156,7 @@ only-9 rail named words sent s b allowed = told (λ o. toldNumber o ≡ some 9 �
     below Wrong e = absurd (omega arith)
 
     answers : (answer : Answer) → toldNumber (Answered answer) ≡ some 9 → ⊥
-    answers answer e = let n : numberOf answer ≡ 9 = cc in below answer n
+    answers answer e = let n : answerNumber answer ≡ 9 = cc in below answer n
 
 tells-other : (o : Option ℕ) → (o ≡ some 9 → ⊥) → tells 9 o ≡ false
 tells-other none n = refl

@@ -1,11 +1,9 @@
 -- What the contracts of a tick's own functions speak of. Assumes nothing: these are definitions.
 use Prim.Native.Nat.{ℕ}
-use mathlib.Core.Bool.{Bool, true, false}
-use mathlib.Core.List.{List}
+use mathlib.Core.{Bool.Bool, Bool.true, Bool.false, List.List}
 use Rattle.watchdog.specs.declared.Event.{Event}
 use Rattle.watchdog.specs.declared.Event.the-variants.{NoEvent, PeripheralReset, WatchdogReset}
-use Rattle.state.specs.declared.parts.Board.{Board}
-use Rattle.state.specs.declared.parts.Measured.{Measured}
+use Rattle.state.specs.{declared.parts.Board.Board, declared.parts.Measured.Measured}
 use Rattle.board.specs.declared.Settled.{Settled}
 
 -- the parts of a board that steps 1 to 3 change, but for the measured words

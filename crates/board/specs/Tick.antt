@@ -1,23 +1,17 @@
--- One tick in five steps. `rail` is in millivolts with its sign, `named` the set of channels that reported overcurrent, `words` the words lent, `sent`
--- whether there is a transfer and `s` its bytes. Assumes nothing: these are definitions.
+-- One tick in five steps. `rail` is in millivolts with its sign, `named` the set of channels that reported overcurrent,
+-- `words` the words lent, `sent` whether there is a transfer and `s` its bytes. Assumes nothing: these are definitions.
 use Prim.Native.Nat.{ℕ}
-use mathlib.Core.Bool.{Bool, true, false, cond, not, _||_}
-use mathlib.Core.List.{List}
+use mathlib.Core.{Bool.Bool, Bool.true, Bool.false, Bool.cond, Bool.not, Bool._||_, List.List}
 use mathlib.Core.Option.{Option, none, some}
-use lib.Dec.{eqb}
-use lib.IntN.{ℤ}
-use lib.ListN.{length}
-use Rattle.modes.specs.Table.{olderOf, stepOf}
-use Rattle.modes.specs.declared.Limits.{Limits}
+use lib.{Dec.eqb, IntN.ℤ, ListN.length}
+use Rattle.modes.specs.{Table.olderOf, Table.stepOf, declared.Limits.Limits}
 use Rattle.channels.specs.Operations.{overcurrentAt}
 use Rattle.watchdog.specs.Watchdog as dog
 use Rattle.watchdog.specs.declared.Event.{Event}
 use Rattle.watchdog.specs.declared.Event.the-variants.{NoEvent, PeripheralReset, WatchdogReset}
 use Rattle.memory.specs.Limits.{timeoutOf, limitsOf}
 use Rattle.state.specs.Parts.{modeOf, withPhase, withTimer, withChannels, withMeasured, withResets}
-use Rattle.state.specs.Start.{watchdogResetOf}
-use Rattle.state.specs.Change.{enteringOf, timerAfter, resetsAfter}
-use Rattle.state.specs.declared.parts.Board.{Board}
+use Rattle.state.specs.{Start.watchdogResetOf, Change.enteringOf, Change.timerAfter, Change.resetsAfter, declared.parts.Board.Board}
 use Rattle.state.specs.declared.parts.Measured.{Measured}
 use Rattle.commands.specs.Step.{commandedOf}
 use Rattle.answers.specs.declared.Commanded.{Commanded}

@@ -18,7 +18,8 @@ use state::Profile;
 use state::Resets;
 use watchdog::Event;
 
-// The board after a tick, what the tick tells of its transfer, what the watchdog did, and whether the tick made a reply that is still there.
+// The board after a tick, what the tick tells of its transfer, what the watchdog did, and whether the tick made a reply
+// that is still there.
 pub struct Ticked {
     pub board: Board,
     pub outcome: Outcome,
@@ -42,8 +43,9 @@ fn channels_after(before: Mode, after: Mode, p: Profile, c: Channels, named: u32
     entered.overcurrent(named)
 }
 
-// What steps 1 to 3 make of these parts: mode and timer are a tick older, then the table may change the mode with all that follows from it, and then overcurrent turns channels off.
-// Words that are lent make no difference to these, so none are asked for.
+// What steps 1 to 3 make of these parts: mode and timer are a tick older, then the table may change the mode with all
+// that follows from it, and then overcurrent turns channels off. Words that are lent make no difference to these, so
+// none are asked for.
 fn settle(b: Board, rail: i16, named: u32, limits: Limits) -> Settled
     ensures { λ r. ⌜ r ≡ settledIn (trippedOf named (changedOf rail limits (risenOf [] b))) ⌝ }
 {
@@ -64,14 +66,16 @@ fn settle(b: Board, rail: i16, named: u32, limits: Limits) -> Settled
     }
 }
 
-// 122 words take the place of those held, and are new; with any other number those held stay, as new as they were. Answers whether the words then held are new.
+// 122 words take the place of those held, and are new; with any other number those held stay, as new as they were.
+// Answers whether the words then held are new.
 fn bring(fresh: bool, held: &mut [u16; 122], words: &[u16]) -> bool
     ensures { λ r. ⌜ measuredAs (now (held .exit)) r ≡ broughtBy (now (words .entry)) (measuredAs (now (held .entry)) fresh) ⌝ }
 {
     if words.len() != 122 {
         return fresh;
     }
-    // stored whole at the end, and not one by one: a proof knows how long a local array is, and not how long one behind a reference is
+    // stored whole at the end, and not one by one: a proof knows how long a local array is, and not how long one behind
+    // a reference is
     let mut brought = [0u16; 122];
     let mut i = 0;
     while i < 122 {
@@ -103,9 +107,10 @@ fn is_allowed(count: usize) -> bool
     count == 122
 }
 
-// One tick: the rail in millivolts, the channels that reported overcurrent, the words lent, and no transfer or one. With no transfer its slice is not looked at.
-// Any number of words but 0 and 122 is refused, and the board stays as it was.
-// The board is changed in place and leaves at one place only, since it is large and copying it would take longer than the tick itself.
+// One tick: the rail in millivolts, the channels that reported overcurrent, the words lent, and no transfer or one.
+// With no transfer its slice is not looked at. Any number of words but 0 and 122 is refused, and the board stays as it
+// was. The board is changed in place and leaves at one place only, since it is large and copying it would take longer
+// than the tick itself.
 pub fn tick(
     mut b: Board,
     rail: i16,

@@ -7,7 +7,7 @@ use mathlib.Core.Option.{some}
 use lib.Dec.{eqb}
 use borrow.Author.Tests.{eq-eqb}
 use Rattle.laws.proofs.Cases.{cases}
-use Rattle.modes.specs.Table.{Row, from_when_to_, table, number, same, first, stepOf, olderOf}
+use Rattle.modes.specs.Table.{Row, from_when_to_, modeTable, number, same, first, stepOf, olderOf}
 use Rattle.modes.specs.Commands.{toNominal, toSafety, leaves}
 use Rattle.modes.specs.declared.Mode.{Mode}
 use Rattle.modes.specs.declared.Mode.the-variants.{Startup, Nominal, Safety, Emergency}
@@ -108,9 +108,9 @@ module _ (m : Machine) (i : Sample) where
   unfolding stepOf olderOf
   by-row o n =
       let e = by-table o in
-      let l = led (table (before m .age) (i .rail) (limits m)) (before m) (rw e at n) in
+      let l = led (modeTable (before m .age) (i .rail) (limits m)) (before m) (rw e at n) in
       record {
-        row = subst (λ (p : ModeAge). (from m .board .phase .mode when true to p .mode) is-in table (before m .age) (i .rail) (limits m)) (sym e) (l .row);
+        row = subst (λ (p : ModeAge). (from m .board .phase .mode when true to p .mode) is-in modeTable (before m .age) (i .rail) (limits m)) (sym e) (l .row);
         just-entered = ap (λ (p : ModeAge). p .age) e ∙ l .just-entered;
       }
 

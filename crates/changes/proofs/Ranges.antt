@@ -15,7 +15,7 @@ use Rattle.value.specs.Types.{codeOf}
 use Rattle.value.specs.declared.ParamValue.{ParamValue}
 use Rattle.value.specs.declared.ValueType.{ValueType}
 use Rattle.settings.specs.Table.{same, parameterOf, insideOf}
-use Rattle.settings.specs.Values.{numbers, numberOf, stored, withNumber, inRangeOf}
+use Rattle.settings.specs.Values.{numbers, settingOf, stored, withNumber, inRangeOf}
 use Rattle.settings.specs.declared.Parameter.{Parameter}
 use Rattle.settings.specs.declared.Settings.{Settings}
 use Rattle.settings.proofs.Places.{at, number-at}
@@ -39,8 +39,8 @@ stored-at P true l i z p q =
     (lt-or-le i (length l))
 
 -- so what holds of the number of each id, and of any in its range, holds of them afterwards
-number-stored : (s : Settings) (id : ℕ) (t : ValueType) (z : ℤ) → parameterOf id ≡ Parameter.ReadWrite t → insideOf id z ≡ true → insideOf id (numberOf s id) ≡ true
-    → insideOf id (numberOf (withNumber s t (id - codeOf t) z) id) ≡ true
+number-stored : (s : Settings) (id : ℕ) (t : ValueType) (z : ℤ) → parameterOf id ≡ Parameter.ReadWrite t → insideOf id z ≡ true → insideOf id (settingOf s id) ≡ true
+    → insideOf id (settingOf (withNumber s t (id - codeOf t) z) id) ≡ true
 number-stored s id t z e h g =
     let a = at id t e in
     let i = id - codeOf t in
@@ -54,7 +54,7 @@ wrote-in-range s r id (one t z e i) h =
     each-in-range r
     (λ j u q.
     elim (ℕ-discrete j id) [
-      | yes same-id ↦ subst (λ (k : ℕ). insideOf k (numberOf r k) ≡ true) (sym same-id) (number-stored s id t z e i (in-range-each s h id t e))
+      | yes same-id ↦ subst (λ (k : ℕ). insideOf k (settingOf r k) ≡ true) (sym same-id) (number-stored s id t z e i (in-range-each s h id t e))
       | no other ↦ subst (λ (x : ℤ). insideOf j x ≡ true) (sym (number-other s id j t z other e (in-fits id t z e i))) (in-range-each s h j u q)
     ])
 

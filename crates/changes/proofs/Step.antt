@@ -18,9 +18,9 @@ use Rattle.settings.specs.declared.Parameter.{Parameter}
 use Rattle.settings.specs.declared.Parameter.the-variants.{ReadWrite, ReadOnly, Unknown}
 use Rattle.modes.specs.Commands.{toSafety, toNominal, leaves}
 use Rattle.modes.specs.declared.Limits.{Limits}
-use Rattle.modes.specs.declared.Commanded as change
+use Rattle.modes.specs.declared.ModeAnswer as change
 use Rattle.channels.specs.declared.Channels.{Channels}
-use Rattle.command.specs.Table.{table, find}
+use Rattle.command.specs.Table.{commandTable, find}
 use Rattle.command.specs.Codes.{isIn, baseCodes}
 use Rattle.command.specs.Decode.{fewerThanFour, headerIs, codeOf, byteAfter, idOf, valuePart, getBy, getting, valued, setBy, setting, resetBy, resetting, carried, listed, decodeBy, decodeOf}
 use Rattle.command.specs.declared.Decoded.{Decoded}
@@ -38,7 +38,7 @@ use Rattle.state.specs.declared.parts.Board.{Board}
 use Rattle.answers.specs.Answers.{toldNumber, headerOf, new, acceptedWith, acceptedOf, refusedOf, notThisBoardOf}
 use Rattle.answers.specs.declared.Answer.{Answer}
 use Rattle.answers.specs.declared.Commanded.{Commanded}
-use Rattle.effects.specs.Effects.{isNominal, switchedOf, groupOnOf, groupOffOf, groupStateOf, channelOnOf, channelOffOf, cancelledOf, switchedModeOf, faultsOf, housekeepingOf, parameterOf as parameterRun, rememberedOf, savedIn, restartedOf, runOf}
+use Rattle.effects.specs.Effects.{isNominal, switchedOf, groupOnOf, groupOffOf, groupStateOf, channelOnOf, channelOffOf, cancelledOf, switchedModeOf, faultsOf, housekeepingOf, parameterAnswered as parameterRun, rememberedOf, savedIn, restartedOf, runOf}
 use Rattle.commands.specs.Step.{isStartup, turnedDown, decodedOf, transferredOf, commandedOf}
 use Rattle.groups.specs.Resets.{isAccepted}
 use Rattle.groups.proofs.Counts.{not-accepted}
@@ -183,38 +183,38 @@ module _ (rail : ℤ) (limits : Limits) (s : List ℕ) (b : Board) where
       }))
 
   -- 0x30
-  to-nominal : (x : change.Commanded) → x ≡ toNominal (b .phase) rail limits → Does 0x30 (switchedModeOf 0x30 x b)
+  to-nominal : (x : change.ModeAnswer) → x ≡ toNominal (b .phase) rail limits → Does 0x30 (switchedModeOf 0x30 x b)
   unfolding switchedModeOf acceptedOf acceptedWith isIn
-  to-nominal (change.Commanded.Accepted phase) e =
+  to-nominal (change.ModeAnswer.Accepted phase) e =
       accepting refl
       (record {
         timer = refl;
         phase = λ n _. both n refl;
-        nominal = λ _. ap (λ (x : change.Commanded). leaves x (b .phase)) e;
+        nominal = λ _. ap (λ (x : change.ModeAnswer). leaves x (b .phase)) e;
         safety = λ e. both refl e;
         current = λ _ _. refl;
         store = λ _. refl;
         range = λ r. r;
         faults = λ e. both refl e;
       })
-  to-nominal change.Commanded.Unavailable e = unavailable 0x30
+  to-nominal change.ModeAnswer.Unavailable e = unavailable 0x30
 
   -- 0x32
-  to-safety : (x : change.Commanded) → x ≡ toSafety (b .phase) → Does 0x32 (switchedModeOf 0x32 x b)
+  to-safety : (x : change.ModeAnswer) → x ≡ toSafety (b .phase) → Does 0x32 (switchedModeOf 0x32 x b)
   unfolding switchedModeOf acceptedOf acceptedWith isIn
-  to-safety (change.Commanded.Accepted phase) e =
+  to-safety (change.ModeAnswer.Accepted phase) e =
       accepting refl
       (record {
         timer = refl;
         phase = λ n _. both n refl;
         nominal = λ e. both refl e;
-        safety = λ _. ap (λ (x : change.Commanded). leaves x (b .phase)) e;
+        safety = λ _. ap (λ (x : change.ModeAnswer). leaves x (b .phase)) e;
         current = λ _ _. refl;
         store = λ _. refl;
         range = λ r. r;
         faults = λ e. both refl e;
       })
-  to-safety change.Commanded.Unavailable e = unavailable 0x32
+  to-safety change.ModeAnswer.Unavailable e = unavailable 0x32
 
   -- 0x42
   faults-shown : Does 0x42 (faultsOf 0x42 b)
@@ -302,10 +302,10 @@ module _ (rail : ℤ) (limits : Limits) (s : List ℕ) (b : Board) where
   load-store = load-leaves-store (b .memory .store)
 
   -- by the base list, code by code
-  in-list : (code : ℕ) → isIn code baseCodes ≡ true → Run-does code (listed (find table code) s)
-  unfolding listed find table baseCodes isIn carried getting setting resetting decodedOf runOf groupOnOf groupOffOf groupStateOf channelOnOf channelOffOf cancelledOf acceptedOf acceptedWith housekeepingOf
+  in-list : (code : ℕ) → isIn code baseCodes ≡ true → Run-does code (listed (find commandTable code) s)
+  unfolding listed find commandTable baseCodes isIn carried getting setting resetting decodedOf runOf groupOnOf groupOffOf groupStateOf channelOnOf channelOffOf cancelledOf acceptedOf acceptedWith housekeepingOf
   in-list code h =
-      by-code (λ k. Run-does k (listed (find table k) s)) code baseCodes
+      by-code (λ k. Run-does k (listed (find commandTable k) s)) code baseCodes
       (keyed 0xAA 5 0xA6 _ restarted
       and plain 0x02 4 _ (plainly 0x02 _ refl refl refl refl refl)
       and plain 0x04 4 _ (plainly 0x04 _ refl refl refl refl refl)

@@ -1,13 +1,10 @@
 -- When a tick accepts a command of some codes, by what it tells. `m` is the machine before the tick.
 -- Assumes nothing: these are definitions.
 use Prim.Native.Nat.{ℕ}
-use mathlib.Core.Bool.{Bool, _&&_}
-use mathlib.Core.List.{List}
-use Rattle.command.specs.Codes.{isIn}
-use Rattle.command.specs.Decode.{codeOf}
+use mathlib.Core.{Bool.Bool, Bool._&&_, List.List}
+use Rattle.command.specs.{Codes.isIn, Decode.codeOf}
 use Rattle.answers.specs.Answers.{toldNumber}
-use Rattle.unit.specs.declared.Machine.{Machine}
-use Rattle.unit.specs.Runs.{Sample, told}
+use Rattle.unit.specs.{declared.Machine.Machine, Runs.Sample, Runs.told}
 use Rattle.groups.specs.Resets.{isAccepted}
 
 -- the tick tells answer 0, and the code of its transfer is one of these

@@ -3,16 +3,12 @@
 -- step 3 left, unless the tick tells of a reset by the watchdog: `Resets` has what that leaves. Of every machine and
 -- every tick. `m` is the machine before the tick. Assumes nothing: these are definitions.
 use Prim.Native.Nat.{ℕ, _≤_, _<_}
-use mathlib.Core.Path.{_≡_}
-use mathlib.Core.Bool.{true, false}
-use mathlib.Core.Option.{Option, some}
+use mathlib.Core.{Path._≡_, Bool.true, Bool.false, Option.Option, Option.some}
 use Rattle.channels.specs.Chan.{chan}
 use Rattle.command.specs.Decode.{codeOf}
 use Rattle.answers.specs.Answers.{toldNumber}
-use Rattle.unit.specs.declared.Machine.{Machine}
-use Rattle.unit.specs.Runs.{Sample, told, happens, afterStep3}
-use Rattle.groups.specs.Groups.{sentences, madeBy}
-use Rattle.groups.specs.Resets.{tellsWatchdogReset}
+use Rattle.unit.specs.{declared.Machine.Machine, Runs.Sample, Runs.told, Runs.happens, Runs.afterStep3}
+use Rattle.groups.specs.{Groups.sentences, Groups.madeBy, Resets.tellsWatchdogReset}
 
 -- the answer that the tick tells
 abbrev pub answer : Machine → Sample → Option ℕ

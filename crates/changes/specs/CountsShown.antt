@@ -3,18 +3,12 @@
 -- that step 3 turned channel c off since the machine was last reset, this tick included, as far as 65,535 reaches.
 -- Assumes nothing: these are definitions.
 use Prim.Native.Nat.{ℕ, _+_, _*_, _<_, min}
-use mathlib.Core.Path.{_≡_}
-use mathlib.Core.Bool.{true}
-use mathlib.Core.List.{List, [], _∷_, _++_}
+use mathlib.Core.{Path._≡_, Bool.true, List.List, List.[], List._∷_, List._++_}
 use lib.ListN.{drop}
-use Rattle.wire.specs.Numbers.{number}
-use Rattle.wire.specs.Replies.{shown}
+use Rattle.wire.specs.{Numbers.number, Replies.shown}
 use Rattle.memory.specs.declared.Store.{Store}
-use Rattle.state.specs.Start.{keepsTheRules}
-use Rattle.state.specs.declared.parts.Profile.{Profile}
-use Rattle.unit.specs.Machine.{begunOf}
-use Rattle.unit.specs.declared.Machine.{Machine}
-use Rattle.unit.specs.Runs.{Sample, told, Call, tick, after}
+use Rattle.state.specs.{Start.keepsTheRules, declared.parts.Profile.Profile}
+use Rattle.unit.specs.{Machine.begunOf, declared.Machine.Machine, Runs.Sample, Runs.told, Runs.Call, Runs.tick, Runs.after}
 use Rattle.groups.specs.Counts.{timesTakenOff}
 use Rattle.changes.specs.Accepted.{acceptsOneOf}
 

@@ -5,16 +5,11 @@
 -- them. Of every machine and every tick; `Resets` has what a reset leaves. `m` is the machine before the tick.
 -- Assumes nothing: these are definitions.
 use Prim.Native.Nat.{ℕ}
-use mathlib.Core.Path.{_≡_}
-use mathlib.Core.Bool.{true, false}
-use mathlib.Core.List.{List, [], _∷_}
-use Rattle.modes.specs.Table.{Row, from_when_to_, table, same, stepOf, olderOf}
-use Rattle.modes.specs.Commands.{toNominal, toSafety, leaves}
-use Rattle.modes.specs.declared.ModeAge.{ModeAge}
-use Rattle.modes.specs.declared.Limits.{Limits}
+use mathlib.Core.{Path._≡_, Bool.true, Bool.false, List.List, List.[], List._∷_}
+use Rattle.modes.specs.Table.{Row, from_when_to_, modeTable, same, stepOf, olderOf}
+use Rattle.modes.specs.{Commands.toNominal, Commands.toSafety, Commands.leaves, declared.ModeAge.ModeAge, declared.Limits.Limits}
 use Rattle.memory.specs.Limits.{limitsOf}
-use Rattle.unit.specs.declared.Machine.{Machine}
-use Rattle.unit.specs.Runs.{Sample, told, happens, afterStep3}
+use Rattle.unit.specs.{declared.Machine.Machine, Runs.Sample, Runs.told, Runs.happens, Runs.afterStep3}
 use Rattle.groups.specs.Resets.{tellsReset}
 use Rattle.changes.specs.Accepted.{acceptsOneOf}
 
@@ -40,7 +35,7 @@ limits m = limitsOf (m .board .memory)
 
 -- a row leads from the mode before to the mode after, what it asks for holds, and the mode after was just entered
 pub record ByARow (m : Machine) (i : Sample) : Type 0 where
-  pub row : (from m .board .phase .mode when true to afterwards m i .mode) is-in table (before m .age) (i .rail) (limits m)
+  pub row : (from m .board .phase .mode when true to afterwards m i .mode) is-in modeTable (before m .age) (i .rail) (limits m)
   pub just-entered : afterwards m i .age ≡ 0
 
 -- nothing but the table has a say in the mode

@@ -3,11 +3,8 @@
 -- save count, is what it was, even through a reset, unless the tick accepts a save (0x94). Of every machine and every
 -- tick. `m` is the machine before the tick. Assumes nothing: these are definitions.
 use Prim.Native.Nat.{ℕ}
-use mathlib.Core.Path.{_≡_}
-use mathlib.Core.Bool.{false}
-use mathlib.Core.List.{List, [], _∷_}
-use Rattle.unit.specs.declared.Machine.{Machine}
-use Rattle.unit.specs.Runs.{Sample, told}
+use mathlib.Core.{Path._≡_, Bool.false, List.List, List.[], List._∷_}
+use Rattle.unit.specs.{declared.Machine.Machine, Runs.Sample, Runs.told}
 use Rattle.groups.specs.Resets.{tellsReset}
 use Rattle.changes.specs.Accepted.{acceptsOneOf}
 

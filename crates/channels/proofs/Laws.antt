@@ -1,6 +1,6 @@
--- What follows for a caller: each operation at one channel, which channels it leaves alone, that it turns off no forced channel, that only overcurrent counts,
--- and that a channel which is not fitted stays dark. Each law is stated once, over all that can happen to the channels short of a reset.
--- Assumes nothing.
+-- What follows for a caller: each operation at one channel, which channels it leaves alone, that it turns off no forced
+-- channel, that only overcurrent counts, and that a channel which is not fitted stays dark. Each law is stated once,
+-- over all that can happen to the channels short of a reset. Assumes nothing.
 use mathlib.Core.Path.{_≡_, refl, sym, ap, _∙_}
 use mathlib.Core.Bool.{Bool, true, false, cond, not, _&&_, _||_, and-true, and-false, false≢true}
 use Prim.Native.Nat.{ℕ, _+_, _^_, _<_, min}
@@ -16,7 +16,8 @@ use Rattle.channels.specs.declared.Channels.{Channels}
 use Rattle.channels.proofs.Sets.{ext, has-none, within-each, is-listOf}
 use Rattle.channels.proofs.Whole.{Held, whole-held, chan-whole, same-channels}
 
--- a command's work on the channels: 0x10, 0x12, 0x14 with the channels spoken of and the mask, 0x16 and 0x18 with the channel, and 0x04
+-- a command's work on the channels: 0x10, 0x12, 0x14 with the channels spoken of and the mask, 0x16 and 0x18 with the
+-- channel, and 0x04
 pub data Command : Type 0 where
   group-on : ℕ → ℕ → Command
   group-off : ℕ → ℕ → Command

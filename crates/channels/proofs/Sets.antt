@@ -1,6 +1,6 @@
--- What is in a set that is computed, at any width: `has` of a set that a rule picks, of `&`, `|`, `!` and `1 << c`, and that no two numbers hold the same channels.
--- A caller cites `has-out` for numbers above 31, `within-each` and `each-within`, `has-withChannel` and `withChannel-above`.
--- Assumes nothing.
+-- What is in a set that is computed, at any width: `has` of a set that a rule picks, of `&`, `|`, `!` and `1 << c`, and
+-- that no two numbers hold the same channels. A caller cites `has-out` for numbers above 31, `within-each` and
+-- `each-within`, `has-withChannel` and `withChannel-above`. Assumes nothing.
 use mathlib.Core.Path.{_≡_, refl, sym, ap, _∙_, subst}
 use mathlib.Core.Bool.{Bool, true, false, not, _&&_, _||_, xor, or-false, false≢true}
 use mathlib.Core.Logic.{⊎-elim}

@@ -1,4 +1,5 @@
--- The counts while the loop of `all_counted` goes over them: those below c are counted, the others as they were. Assumes nothing.
+-- The counts while the loop of `all_counted` goes over them: those below c are counted, the others as they were.
+-- Assumes nothing.
 use mathlib.Core.Path.{_≡_, _∙_}
 use mathlib.Core.Logic.{⊎-elim}
 use mathlib.Core.List.{List}

@@ -1,5 +1,5 @@
--- All 32 channels are what they are one by one: a caller reads one channel off `whole f` by `chan-whole`, and shows a value to be `whole f` by `is-whole`.
--- Assumes nothing.
+-- All 32 channels are what they are one by one: a caller reads one channel off `whole f` by `chan-whole`, and shows a
+-- value to be `whole f` by `is-whole`. Assumes nothing.
 use mathlib.Core.Path.{_≡_, refl, sym, ap, _∙_}
 use Prim.Native.Nat.{ℕ, _<_, _^_}
 use lib.ListN.{length, getD}

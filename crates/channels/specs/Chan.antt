@@ -1,9 +1,9 @@
--- One channel, and 32 of them. A rule of document 01 speaks of one channel; `whole` makes of it what all 32 are. Assumes nothing.
+-- One channel, and 32 of them. A rule of document 01 speaks of one channel; `whole` makes of it what all 32 are.
+-- Assumes nothing.
 use mathlib.Core.Bool.{Bool}
 use Prim.Native.Nat.{ℕ}
 use lib.ListN.{getD}
-use Rattle.channels.specs.Sets.{has, setOf, listOf}
-use Rattle.channels.specs.declared.Channels.{Channels}
+use Rattle.channels.specs.{Sets.has, Sets.setOf, Sets.listOf, declared.Channels.Channels}
 
 -- one channel: whether it is on, whether it is latched, and how often overcurrent turned it off
 pub record Chan : Type 0 where

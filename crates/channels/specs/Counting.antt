@@ -1,10 +1,9 @@
--- The counts alone, for the two private functions that `overcurrent` is made of: no caller of this crate cites anything here. Assumes nothing.
-use mathlib.Core.Bool.{Bool}
-use mathlib.Core.List.{List}
+-- The counts alone, for the two private functions that `overcurrent` is made of: no caller of this crate cites anything
+-- here. Assumes nothing.
+use mathlib.Core.{Bool.Bool, List.List}
 use Prim.Native.Nat.{ℕ, _+_, min}
 use lib.ListN.{getD}
-use Rattle.channels.specs.Sets.{has, listOf}
-use Rattle.channels.specs.Operations.{if_then_else_}
+use Rattle.channels.specs.{Sets.has, Sets.listOf, Operations.if_then_else_}
 
 -- a count, after its channel tripped or did not
 abbrev pub countOne : Bool → ℕ → ℕ

@@ -1,13 +1,11 @@
--- What document 01 lets happen to the channels: each sentence first for one channel, from what the sets say of it, then for all 32.
--- `fitted` and `forced` are the profile's sets, `mask` is the command's, and `spoken` holds the channels that the command speaks of: all 32, or 0 to 15 where its
--- extended mask is not there. Where a rule says nothing of a channel, as of one that is not fitted or not spoken of, it stays as it is, its latch too.
--- Assumes nothing.
+-- What document 01 lets happen to the channels: each sentence first for one channel, from what the sets say of it, then
+-- for all 32. `fitted` and `forced` are the profile's sets, `mask` is the command's, and `spoken` holds the channels
+-- that the command speaks of: all 32, or 0 to 15 where its extended mask is not there. Where a rule says nothing of a
+-- channel, as of one that is not fitted or not spoken of, it stays as it is, its latch too. Assumes nothing.
 use mathlib.Core.Bool.{Bool, true, false, cond, not, _&&_, _||_}
 use Prim.Native.Nat.{ℕ, _+_, min}
 use lib.Dec.{eqb, ltb}
-use Rattle.channels.specs.Sets.{has}
-use Rattle.channels.specs.Chan.{Chan, chan, whole}
-use Rattle.channels.specs.declared.Channels.{Channels}
+use Rattle.channels.specs.{Sets.has, Chan.Chan, Chan.chan, Chan.whole, declared.Channels.Channels}
 
 infix 10 if_then_else_
 abbrev pub if_then_else_ : {A : Type 0} → Bool → A → A → A
@@ -46,12 +44,14 @@ overcurrentOne named ch = if named && ch .on then tripped ch else ch
 abbrev pub groupOnOne : Bool → Bool → Bool → Chan → Chan
 groupOnOne fitted spoken mask ch = if fitted && spoken && mask then onAndCleared ch else ch
 
--- 0x12: a command-enabled channel that is spoken of and in the mask is then off, with no latch; a force-enabled one keeps its latch
+-- 0x12: a command-enabled channel that is spoken of and in the mask is then off, with no latch; a force-enabled one
+-- keeps its latch
 abbrev pub groupOffOne : Bool → Bool → Bool → Bool → Chan → Chan
 groupOffOne fitted forced spoken mask ch = if commandEnabled fitted forced && spoken && mask then offAndCleared ch else ch
 
 -- 0x14: a command-enabled channel that is spoken of is on or off as the mask has it or not, with no latch either way;
--- a force-enabled one that is spoken of is on, with no latch, where the mask has it, and stays as it is, its latch too, where not
+-- a force-enabled one that is spoken of is on, with no latch, where the mask has it, and stays as it is, its latch too,
+-- where not
 abbrev pub groupStateOne : Bool → Bool → Bool → Bool → Chan → Chan
 groupStateOne fitted forced spoken mask ch =
     if commandEnabled fitted forced && spoken

@@ -1,8 +1,7 @@
--- A set of channels is a number whose bit c says whether channel c is in it. The channels are 0 to 31, so a set is below 2 ^ 32 and holds none above 31.
--- Assumes nothing.
+-- A set of channels is a number whose bit c says whether channel c is in it. The channels are 0 to 31, so a set is
+-- below 2 ^ 32 and holds none above 31. Assumes nothing.
 use Prim.Native.Nat.{ℕ, zero, suc, _+_, _*_, _/_, _%_, _^_}
-use mathlib.Core.Bool.{Bool, true, false, not, _&&_, _||_}
-use mathlib.Core.List.{List, [], _∷_}
+use mathlib.Core.{Bool.Bool, Bool.true, Bool.false, Bool.not, Bool._&&_, Bool._||_, List.List, List.[], List._∷_}
 use lib.Dec.{eqb}
 
 -- channel c is in the set s: bit c of s is 1

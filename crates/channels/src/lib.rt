@@ -1,11 +1,13 @@
-// The 32 output channels: which are on, which are latched, and how often overcurrent turned each one off. Channel c is bit c of a set.
+// The 32 output channels: which are on, which are latched, and how often overcurrent turned each one off. Channel c is
+// bit c of a set.
 ghost use mathlib.Core.Path.{_≡_};
 ghost use mathlib.Core.Bool.{not};
 ghost use Rattle.channels.specs.Sets.{has, isWithin, withChannel};
 ghost use Rattle.channels.specs.Counting.{countOne, countAll};
 ghost use Rattle.channels.specs.Operations.{overcurrentAt, groupOn, groupOff, groupState, switchOn, switchOff, commandEnabledOff, allOff, forcedOn, cleared, wrongToSwitchOn, wrongToSwitchOff};
 
-// The fields are private, so that no other crate writes a count: overcurrent raises it, a reset sets it to 0, and nothing else changes it.
+// The fields are private, so that no other crate writes a count: overcurrent raises it, a reset sets it to 0, and
+// nothing else changes it.
 pub struct Channels {
     on: u32,
     latched: u32,
@@ -117,7 +119,8 @@ impl Channels {
         self.counts
     }
 
-    // The channels after those named reported overcurrent: each of them that was on is off, latched and counted; the others stay as they are.
+    // The channels after those named reported overcurrent: each of them that was on is off, latched and counted; the
+    // others stay as they are.
     pub fn overcurrent(self, named: u32) -> Channels
         ensures { λ r. ⌜ r ≡ overcurrentAt named self ⌝ }
     {
@@ -137,7 +140,8 @@ impl Channels {
         }
     }
 
-    // The channels after 0x10: each one in the mask that is fitted and spoken of is on, its latch cleared; the others stay as they are, latches too.
+    // The channels after 0x10: each one in the mask that is fitted and spoken of is on, its latch cleared; the others
+    // stay as they are, latches too.
     pub fn group_on(mut self, fitted: u32, spoken: u32, mask: u32) -> Channels
         ensures { λ r. ⌜ r ≡ groupOn fitted spoken mask self ⌝ }
     {
@@ -147,7 +151,8 @@ impl Channels {
         self
     }
 
-    // The channels after 0x12: each one in the mask that is command-enabled and spoken of is off, its latch cleared; the others stay as they are, latches too.
+    // The channels after 0x12: each one in the mask that is command-enabled and spoken of is off, its latch cleared;
+    // the others stay as they are, latches too.
     pub fn group_off(mut self, fitted: u32, forced: u32, spoken: u32, mask: u32) -> Channels
         ensures { λ r. ⌜ r ≡ groupOff fitted forced spoken mask self ⌝ }
     {
@@ -158,8 +163,9 @@ impl Channels {
         self
     }
 
-    // The channels after 0x14. Of those that are fitted and spoken of, whatever the mask has is on and what it lacks is off if command-enabled,
-    // their latches cleared. A forced one outside the mask, and every channel that is not fitted or not spoken of, stays as it is, its latch too.
+    // The channels after 0x14. Of those that are fitted and spoken of, whatever the mask has is on and what it lacks is
+    // off if command-enabled, their latches cleared. A forced one outside the mask, and every channel that is not
+    // fitted or not spoken of, stays as it is, its latch too.
     pub fn group_state(mut self, fitted: u32, forced: u32, spoken: u32, mask: u32) -> Channels
         ensures { λ r. ⌜ r ≡ groupState fitted forced spoken mask self ⌝ }
     {
@@ -171,7 +177,8 @@ impl Channels {
         self
     }
 
-    // The channels after 0x16: the one channel is on, its latch cleared. Where it is not there or not fitted, nothing changes.
+    // The channels after 0x16: the one channel is on, its latch cleared. Where it is not there or not fitted, nothing
+    // changes.
     pub fn switch_on(self, fitted: u32, c: u8) -> Channels
         ensures { λ r. ⌜ r ≡ switchOn fitted c self ⌝ }
     {
@@ -179,7 +186,8 @@ impl Channels {
         self.group_on(fitted, one, one)
     }
 
-    // The channels after 0x18: the one channel is off, its latch cleared. Where it is not there, not fitted or forced, nothing changes.
+    // The channels after 0x18: the one channel is off, its latch cleared. Where it is not there, not fitted or forced,
+    // nothing changes.
     pub fn switch_off(self, fitted: u32, forced: u32, c: u8) -> Channels
         ensures { λ r. ⌜ r ≡ switchOff fitted forced c self ⌝ }
     {
@@ -187,7 +195,8 @@ impl Channels {
         self.group_off(fitted, forced, one, one)
     }
 
-    // The channels after 0x04, and where safety is entered from nominal: the command-enabled ones are off, no latch is altered.
+    // The channels after 0x04, and where safety is entered from nominal: the command-enabled ones are off, no latch is
+    // altered.
     pub fn command_enabled_off(mut self, fitted: u32, forced: u32) -> Channels
         ensures { λ r. ⌜ r ≡ commandEnabledOff fitted forced self ⌝ }
     {
@@ -204,7 +213,8 @@ impl Channels {
         self
     }
 
-    // The channels where startup or emergency is left by the table: on are those that are fitted and forced, and no other; no latch is left.
+    // The channels where startup or emergency is left by the table: on are those that are fitted and forced, and no
+    // other; no latch is left.
     pub fn forced_on(mut self, fitted: u32, forced: u32) -> Channels
         ensures { λ r. ⌜ r ≡ forcedOn fitted forced self ⌝ }
     {

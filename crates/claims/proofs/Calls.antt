@@ -1,4 +1,5 @@
--- How a property of boards is carried through a tick, through a call that is no tick, through any calls, and to every machine that can be reached. Assumes nothing.
+-- How a property of boards is carried through a tick, through a call that is no tick, through any calls, and to every
+-- machine that can be reached. Assumes nothing.
 use Prim.Native.Nat.{ℕ}
 use mathlib.Core.Path.{_≡_, refl, sym, ap, subst}
 use mathlib.Core.Bool.{Bool, true, false, false≢true}

@@ -22,7 +22,7 @@ use Rattle.claims.proofs.Power.{power, power-of-one}
 use Rattle.claims.proofs.PowerNeeded.{power-needed}
 use Rattle.claims.proofs.PowerReal.{power-real}
 use Rattle.claims.proofs.Standing.{standing}
-use Rattle.claims.proofs.Wrong.{all-caught}
+use Rattle.claims.proofs.Wrong.{all-caught, all-break}
 
 pub claims : Claims
 claims =
@@ -51,4 +51,5 @@ claims =
       small-machine = powered;
       tight = tight;
       all-caught = all-caught;
+      all-break = all-break;
     }

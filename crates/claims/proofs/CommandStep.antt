@@ -1,4 +1,5 @@
--- What the command step can do to a board's mode and channels, for every board and every transfer: one law by the commands, for all that is shown of them. Assumes nothing.
+-- What the command step can do to a board's mode and channels, for every board and every transfer: one law by the
+-- commands, for all that is shown of them. Assumes nothing.
 use Prim.Native.Nat.{ℕ}
 use mathlib.Core.Path.{_≡_, refl}
 use mathlib.Core.Bool.{Bool, true, false, cond, false≢true}
@@ -11,7 +12,7 @@ use Rattle.modes.specs.declared.Mode.{Mode}
 use Rattle.modes.specs.declared.Mode.the-variants.{Startup, Nominal, Safety, Emergency}
 use Rattle.modes.specs.declared.ModeAge.{ModeAge}
 use Rattle.modes.specs.declared.Limits.{Limits}
-use Rattle.modes.specs.declared.Commanded as change
+use Rattle.modes.specs.declared.ModeAnswer as change
 use Rattle.channels.specs.Operations.{switchOn}
 use Rattle.channels.specs.declared.Channels.{Channels}
 use Rattle.channels.proofs.Laws as of-channels
@@ -32,7 +33,7 @@ use Rattle.answers.specs.declared.Answer.{Answer}
 use Rattle.answers.specs.declared.Answer.the-variants.{Accepted}
 use Rattle.answers.specs.declared.Outcome.the-variants.{Answered}
 use Rattle.answers.specs.declared.Commanded.{Commanded}
-use Rattle.effects.specs.Effects.{isNominal, switchedOf, groupOnOf, groupOffOf, groupStateOf, channelOnOf, channelOffOf, cancelledOf, switchedModeOf, faultsOf, housekeepingOf, parameterOf, rememberedOf, savedIn, seen, restartedOf, runOf}
+use Rattle.effects.specs.Effects.{isNominal, switchedOf, groupOnOf, groupOffOf, groupStateOf, channelOnOf, channelOffOf, cancelledOf, switchedModeOf, faultsOf, housekeepingOf, parameterAnswered, rememberedOf, savedIn, seen, restartedOf, runOf}
 use Rattle.commands.specs.Step.{isStartup, turnedDown, decodedOf, transferredOf, commandedOf}
 
 -- ---- what can become of a board
@@ -47,9 +48,9 @@ abbrev pub Stays : Board → Board → Type 0
 Stays b c = Becomes (b .phase) (b .channels) b c
 
 -- a change of mode that was asked for, with what it brings for the channels; where it is not available they stay
-abbrev pub Changes : change.Commanded → Board → Board → Type 0
-Changes (change.Commanded.Accepted next) b c = Becomes next (enteringOf (modeOf b) (next .mode) (b .profile) (b .channels)) b c
-Changes change.Commanded.Unavailable b c = Stays b c
+abbrev pub Changes : change.ModeAnswer → Board → Board → Type 0
+Changes (change.ModeAnswer.Accepted next) b c = Becomes next (enteringOf (modeOf b) (next .mode) (b .profile) (b .channels)) b c
+Changes change.ModeAnswer.Unavailable b c = Stays b c
 
 -- the channels after a command on them
 abbrev pub obeying : of-channels.Command → Board → Channels
@@ -78,8 +79,9 @@ asked (Run (Command.SaveConfiguration given)) = small.other
 asked (Run Command.SystemReset) = small.other
 asked (Refused r) = small.other
 
--- All that the step can do with a transfer that is decoded to d and is `ask` to the small machine: in startup nothing; nothing, too, where the command is refused or has to do with neither; the channels
--- switched, in nominal; the command-enabled ones off by 0x04; a change of mode; or a reset.
+-- All that the step can do with a transfer that is decoded to d and is `ask` to the small machine: in startup nothing;
+-- nothing, too, where the command is refused or has to do with neither; the channels switched, in nominal; the
+-- command-enabled ones off by 0x04; a change of mode; or a reset.
 pub data Does (rail : ℤ) (limits : Limits) (d : Decoded) (ask : small.Command) (b : Board) (c : Commanded) : Type 0 where
   idles : isStartup (modeOf b) ≡ true → Stays b (c .board) → Does rail limits d ask b c
   leaves-both : ask ≡ small.other → Stays b (c .board) → Does rail limits d ask b c
@@ -141,10 +143,10 @@ module _ (rail : ℤ) (limits : Limits) (b : Board) where
       (λ e. rw e (refuses a (refused Answer.NotAvailable code)))
 
   -- the two on the mode
-  switched-mode : (code : ℕ) (c : change.Commanded) → Changes c b (switchedModeOf code c b .board)
+  switched-mode : (code : ℕ) (c : change.ModeAnswer) → Changes c b (switchedModeOf code c b .board)
   unfolding switchedModeOf acceptedOf acceptedWith
-  switched-mode code (change.Commanded.Accepted next) = record { profile = refl; phase = refl; channels = refl }
-  switched-mode code change.Commanded.Unavailable = refused Answer.NotAvailable code
+  switched-mode code (change.ModeAnswer.Accepted next) = record { profile = refl; phase = refl; channels = refl }
+  switched-mode code change.ModeAnswer.Unavailable = refused Answer.NotAvailable code
 
   -- 0x50 forgets that the words are new
   measured : (reply : Reply) → Stays b (acceptedWith reply (withMeasured (seen (b .measured)) b) .board)
@@ -153,7 +155,7 @@ module _ (rail : ℤ) (limits : Limits) (b : Board) where
 
   -- every command of the list
   run : (code : ℕ) (c : Command) → DoesIt (Run c) (runOf rail limits code c b)
-  unfolding runOf groupOnOf groupOffOf groupStateOf channelOnOf channelOffOf cancelledOf faultsOf housekeepingOf parameterOf rememberedOf restartedOf acceptedOf
+  unfolding runOf groupOnOf groupOffOf groupStateOf channelOnOf channelOffOf cancelledOf faultsOf housekeepingOf parameterAnswered rememberedOf restartedOf acceptedOf
   run code (Command.GroupOn g) = switched _ refl code _ (of-channels.group-on (g .spoken) (g .mask))
   run code (Command.GroupOff g) = switched _ refl code _ (of-channels.group-off (g .spoken) (g .mask))
   run code (Command.GroupState g) = switched _ refl code _ (of-channels.group-state (g .spoken) (g .mask))

@@ -1,11 +1,12 @@
--- The number of times that channel 0 was taken off, worked out on short runs of a board in nominal, where that channel is forced and on: once by a report; not once more while it
--- is off; twice where 0x10 brought it back between two reports; and not at all where a reset came behind the report or in the same tick. Assumes nothing.
+-- The number of times that channel 0 was taken off, worked out on short runs of a board in nominal, where that channel
+-- is forced and on: once by a report; not once more while it is off; twice where 0x10 brought it back between two
+-- reports; and not at all where a reset came behind the report or in the same tick. Assumes nothing.
 use Prim.Native.Nat.{ℕ}
 use mathlib.Core.Path.{_≡_, refl, ap, _∙_}
 use mathlib.Core.List.{List, [], _∷_, map}
 use Rattle.wire.specs.Numbers.{number}
 use Rattle.settings.specs.Table.{lies, rowOf, find, readWriteRows, readOnlyRows, parameterOf, column, defaultOf, clampOf, atLeast, atMost, lowOf, highOf}
-use Rattle.settings.specs.Values.{numberOf, defaultsOf, defaultN}
+use Rattle.settings.specs.Values.{settingOf, defaultsOf, defaultN}
 use Rattle.modes.specs.Table.{stepOf, olderOf}
 use Rattle.channels.specs.Sets.{has, setOf, listOf}
 use Rattle.channels.specs.Chan.{whole}
@@ -55,7 +56,7 @@ runs =
 
 -- on the board as it then is
 on-woken : map (timesTakenOff 0 woken) runs ≡ 1 ∷ 1 ∷ 2 ∷ 0 ∷ 0 ∷ []
-unfolding timesTakenOff hasReset tellsReset tellsWatchdogReset tellsCommandReset toldOf tickOf tickWith allowedCount broughtBy risenOf changedOf trippedOf watchedIn commandedOf transferredOf decodedOf isStartup fewerThanFour headerIs groupIn number carried listed decodeBy decodeOf commands.table commands.find isIn baseCodes runOf groupOnOf switchedOf isNominal restartedOf commandResetOf acceptedOf acceptedWith channels.groupOn cleared forcedOn overcurrentAt has setOf listOf whole freshOf loadedFrom emptyStore olderOf stepOf dog.risenOf dog.watchedOf isDark fromNominalToSafety enteringOf timerAfter resetsAfter leavesEmergency limitsOf safetyLow safetyHigh timeoutOf numberOf parameterOf rowOf find readWriteRows readOnlyRows lies defaultsOf defaultN column defaultOf clampOf atLeast atMost lowOf highOf
+unfolding timesTakenOff hasReset tellsReset tellsWatchdogReset tellsCommandReset toldOf tickOf tickWith allowedCount broughtBy risenOf changedOf trippedOf watchedIn commandedOf transferredOf decodedOf isStartup fewerThanFour headerIs groupIn number carried listed decodeBy decodeOf commands.commandTable commands.find isIn baseCodes runOf groupOnOf switchedOf isNominal restartedOf commandResetOf acceptedOf acceptedWith channels.groupOn cleared forcedOn overcurrentAt has setOf listOf whole freshOf loadedFrom emptyStore olderOf stepOf dog.risenOf dog.watchedOf isDark fromNominalToSafety enteringOf timerAfter resetsAfter leavesEmergency limitsOf safetyLow safetyHigh timeoutOf settingOf parameterOf rowOf find readWriteRows readOnlyRows lies defaultsOf defaultN column defaultOf clampOf atLeast atMost lowOf highOf
 on-woken = refl
 
 -- the number at the end of each run

@@ -9,7 +9,7 @@ use Rattle.modes.specs.Commands.{toSafety, toNominal}
 use Rattle.modes.specs.declared.Mode.{Mode}
 use Rattle.modes.specs.declared.Mode.the-variants.{Nominal}
 use Rattle.modes.specs.declared.Limits.{Limits}
-use Rattle.modes.specs.declared.Commanded as change
+use Rattle.modes.specs.declared.ModeAnswer as change
 use Rattle.channels.specs.Sets.{has}
 use Rattle.channels.specs.Chan.{Chan, chan}
 use Rattle.channels.specs.Operations.{offAndLatchKept, overcurrentOne, commandEnabled}
@@ -53,9 +53,9 @@ module _ (k : ℕ) (h : k < 32) where
   stays b c q w = rw (q .phase, q .channels) w
 
   -- a change of mode that leads into the dark turns every channel off
-  changed : (x : change.Commanded) (b c : Board) → Changes x b c → OffInTheDark k b → OffInTheDark k c
-  changed (change.Commanded.Accepted next) b c q w = rw (q .phase, q .channels) (λ d. entering-off (modeOf b) (next .mode) (b .profile) (b .channels) d)
-  changed change.Commanded.Unavailable b c q w = stays b c q w
+  changed : (x : change.ModeAnswer) (b c : Board) → Changes x b c → OffInTheDark k b → OffInTheDark k c
+  changed (change.ModeAnswer.Accepted next) b c q w = rw (q .phase, q .channels) (λ d. entering-off (modeOf b) (next .mode) (b .profile) (b .channels) d)
+  changed change.ModeAnswer.Unavailable b c q w = stays b c q w
 
   -- 0x04 turns no channel on
   still-off : (enabled : Bool) (x : Chan) → x .on ≡ false → cond enabled (offAndLatchKept x) x .on ≡ false

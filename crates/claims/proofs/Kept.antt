@@ -18,7 +18,7 @@ use Rattle.modes.specs.declared.Mode.{Mode}
 use Rattle.modes.specs.declared.Mode.the-variants.{Startup, Nominal, Safety, Emergency}
 use Rattle.modes.specs.declared.ModeAge.{ModeAge}
 use Rattle.modes.specs.declared.Limits.{Limits}
-use Rattle.modes.specs.declared.Commanded as change
+use Rattle.modes.specs.declared.ModeAnswer as change
 use Rattle.channels.specs.declared.Channels.{Channels}
 use Rattle.channels.specs.Chan.{chan}
 use Rattle.command.specs.Table as commands
@@ -41,7 +41,7 @@ use Rattle.state.specs.declared.parts.Profile.{Profile}
 use Rattle.answers.specs.Answers.{toldNumber, headerOf, acceptedWith, acceptedOf, refusedOf, notThisBoardOf}
 use Rattle.answers.specs.declared.Answer.{Answer}
 use Rattle.answers.specs.declared.Commanded.{Commanded}
-use Rattle.effects.specs.Effects.{isNominal, switchedOf, groupOnOf, groupOffOf, groupStateOf, channelOnOf, channelOffOf, cancelledOf, switchedModeOf, faultsOf, housekeepingOf, parameterOf, rememberedOf, savedIn, restartedOf, runOf}
+use Rattle.effects.specs.Effects.{isNominal, switchedOf, groupOnOf, groupOffOf, groupStateOf, channelOnOf, channelOffOf, cancelledOf, switchedModeOf, faultsOf, housekeepingOf, parameterAnswered, rememberedOf, savedIn, restartedOf, runOf}
 use Rattle.commands.specs.Step.{isStartup, turnedDown, decodedOf, transferredOf, commandedOf}
 use Rattle.board.specs.Tick.{watchedAs, allowedCount, tickOf}
 use Rattle.text.specs.declared.framing.Due.{Due}
@@ -100,13 +100,13 @@ module _ (code : ℕ) where
   unfolding switchedOf
   switched right channels b = either (not (isNominal (modeOf b))) (refused _ b) (either (not right) (refused _ b) (accepted _))
 
-  switched-mode : (x : change.Commanded) (b : Board) → Coded (switchedModeOf code x b)
+  switched-mode : (x : change.ModeAnswer) (b : Board) → Coded (switchedModeOf code x b)
   unfolding switchedModeOf
-  switched-mode (change.Commanded.Accepted phase) b = accepted _
-  switched-mode change.Commanded.Unavailable b = refused _ b
+  switched-mode (change.ModeAnswer.Accepted phase) b = accepted _
+  switched-mode change.ModeAnswer.Unavailable b = refused _ b
 
   run : (rail : ℤ) (limits : Limits) (c : Command) (b : Board) → Coded (runOf rail limits code c b)
-  unfolding runOf groupOnOf groupOffOf groupStateOf channelOnOf channelOffOf cancelledOf faultsOf housekeepingOf parameterOf rememberedOf savedIn restartedOf acceptedWith faultsReply housekeepingReply parameterReply laidOut bytesOf
+  unfolding runOf groupOnOf groupOffOf groupStateOf channelOnOf channelOffOf cancelledOf faultsOf housekeepingOf parameterAnswered rememberedOf savedIn restartedOf acceptedWith faultsReply housekeepingReply parameterReply laidOut bytesOf
   run rail limits (Command.GroupOn g) b = switched _ _ b
   run rail limits (Command.GroupOff g) b = switched _ _ b
   run rail limits (Command.GroupState g) b = switched _ _ b
@@ -211,14 +211,14 @@ module _ (rail : ℤ) (limits : Limits) (s : List ℕ) (b : Board) where
   moved Nominal h e = h
   moved Safety h e = low (rail at-least limits .«safety_low») e
     where
-      low : (x : Bool) → Nominal-if-0 (switchedModeOf 0x30 (cond x (change.Commanded.Accepted (entered Nominal)) change.Commanded.Unavailable) b)
+      low : (x : Bool) → Nominal-if-0 (switchedModeOf 0x30 (cond x (change.ModeAnswer.Accepted (entered Nominal)) change.ModeAnswer.Unavailable) b)
       low true e = refl
       low false e = absurd (not-0 5 e)
   moved Emergency h e = absurd (not-0 5 e)
   moved Startup h e = absurd (not-0 5 e)
 
   nominal-step : codeOf s ≡ 0x30 → Nominal-if-0 (commandedOf rail limits true s b)
-  unfolding commandedOf transferredOf decodedOf decodeOf decodeBy isIn baseCodes commands.table commands.find listed carried runOf toNominal turnedDown refusedOf notThisBoardOf
+  unfolding commandedOf transferredOf decodedOf decodeOf decodeBy isIn baseCodes commands.commandTable commands.find listed carried runOf toNominal turnedDown refusedOf notThisBoardOf
   nominal-step e =
       rw e
       (cases (fewerThanFour s)

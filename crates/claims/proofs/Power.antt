@@ -1,4 +1,5 @@
--- Demand 3 on the board: each force-enabled channel is the small machine's, tick by tick, so both claims are inherited. Assumes nothing.
+-- Demand 3 on the board: each force-enabled channel is the small machine's, tick by tick, so both claims are inherited.
+-- Assumes nothing.
 use Prim.Native.Nat.{ℕ}
 use lib.IntN.{ℤ, pos}
 use mathlib.Core.Path.{_≡_, refl, sym, ap, _∙_, subst}

@@ -1,4 +1,5 @@
--- What the command step can do to the mode and to one force-enabled channel: it never turns the channel off, but by a reset. Assumes nothing.
+-- What the command step can do to the mode and to one force-enabled channel: it never turns the channel off, but by a
+-- reset. Assumes nothing.
 use Prim.Native.Nat.{ℕ}
 use mathlib.Core.Path.{_≡_, refl, sym, ap, _∙_}
 use mathlib.Core.Bool.{true, false, cond, false≢true}
@@ -11,7 +12,7 @@ use Rattle.modes.specs.declared.Mode.{Mode}
 use Rattle.modes.specs.declared.Mode.the-variants.{Startup, Nominal, Safety, Emergency}
 use Rattle.modes.specs.declared.ModeAge.{ModeAge}
 use Rattle.modes.specs.declared.Limits.{Limits}
-use Rattle.modes.specs.declared.Commanded as change
+use Rattle.modes.specs.declared.ModeAnswer as change
 use Rattle.channels.specs.Sets.{has}
 use Rattle.channels.specs.Chan.{Chan, chan}
 use Rattle.channels.specs.Operations.{onAndCleared, offAndLatchKept, allOff, forcedOn, commandEnabledOff}
@@ -105,9 +106,9 @@ module _ (p : Profile) (k : ℕ) (fe : ForceEnabledBy p k) (s : Channels) where
 -- ---- 0x30 and 0x32 lead from a lit mode to a lit one, if anywhere
 module _ (s : ModeAge) where
   -- where a change is accepted, the mode was lit and is lit
-  abbrev pub BothLit : change.Commanded → Type 0
-  BothLit (change.Commanded.Accepted next) = (small.isLit (s .mode) ≡ true) × (small.isLit (next .mode) ≡ true)
-  BothLit change.Commanded.Unavailable = Unit {0}
+  abbrev pub BothLit : change.ModeAnswer → Type 0
+  BothLit (change.ModeAnswer.Accepted next) = (small.isLit (s .mode) ≡ true) × (small.isLit (next .mode) ≡ true)
+  BothLit change.ModeAnswer.Unavailable = Unit {0}
 
   -- 0x32 is accepted in nominal and safety alone
   safety-lit : (m : Mode) → s .mode ≡ m → BothLit (toSafetyFrom m s)
@@ -134,9 +135,9 @@ module _ (s : ModeAge) where
   to-nominal-lit rail limits = nominal-lit (s .mode) rail limits refl
 
   -- so neither command leads into the dark or out of it
-  pub stays-lit : (x : change.Commanded) → BothLit x → small.isLit (leaves x s .mode) ≡ small.isLit (s .mode)
-  stays-lit (change.Commanded.Accepted next) lit = lit .1 ∙ sym (lit .0)
-  stays-lit change.Commanded.Unavailable lit = refl
+  pub stays-lit : (x : change.ModeAnswer) → BothLit x → small.isLit (leaves x s .mode) ≡ small.isLit (s .mode)
+  stays-lit (change.ModeAnswer.Accepted next) lit = lit .1 ∙ sym (lit .0)
+  stays-lit change.ModeAnswer.Unavailable lit = refl
 
 -- ---- the step at channel k
 module _ (k : ℕ) (b : Board) (fe : ForceEnabledBy (b .profile) k) where
@@ -164,9 +165,9 @@ module _ (k : ℕ) (b : Board) (fe : ForceEnabledBy (b .profile) k) where
   stays c q = moved (b .phase) (b .channels) c q refl
 
   -- a change between lit modes leaves the channel
-  changed : (x : change.Commanded) (c : Board) → BothLit (b .phase) x → Changes x b c → Moved k (leaves x (b .phase)) b c
-  changed (change.Commanded.Accepted next) c lit q = moved next _ c q (entering (b .profile) k fe (b .channels) (modeOf b) (next .mode) ∙ rw (lit .0, lit .1))
-  changed change.Commanded.Unavailable c lit q = stays c q
+  changed : (x : change.ModeAnswer) (c : Board) → BothLit (b .phase) x → Changes x b c → Moved k (leaves x (b .phase)) b c
+  changed (change.ModeAnswer.Accepted next) c lit q = moved next _ c q (entering (b .profile) k fe (b .channels) (modeOf b) (next .mode) ∙ rw (lit .0, lit .1))
+  changed change.ModeAnswer.Unavailable c lit q = stays c q
 
   -- the law of the command step, at channel k
   pub at-channel : (rail : ℤ) (limits : Limits) (d : Decoded) (ask : small.Command) (c : Commanded) → Does rail limits d ask b c → DoesAt k rail limits d ask b c

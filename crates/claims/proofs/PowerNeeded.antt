@@ -1,4 +1,5 @@
--- A run for each premise of demand 3 that is needed, which breaks the demand without it: two short ones, computed, and two long ones in nominal, by a law for each tick. Assumes nothing.
+-- A run for each premise of demand 3 that is needed, which breaks the demand without it: two short ones, computed, and
+-- two long ones in nominal, by a law for each tick. Assumes nothing.
 use Prim.Native.Nat.{ℕ, zero, suc, _+_, _≤_}
 use mathlib.Core.Path.{_≡_, refl, sym, ap, _∙_, subst}
 use mathlib.Core.Bool.{Bool, true, false, false≢true, and-false}
@@ -19,7 +20,7 @@ use Rattle.channels.proofs.Laws.{cleared-each}
 use Rattle.watchdog.specs.Watchdog as dog
 use Rattle.watchdog.specs.declared.Event.the-variants.{NoEvent}
 use Rattle.settings.specs.Table.{lies, rowOf, find, readWriteRows, readOnlyRows, parameterOf, column, defaultOf, clampOf, atLeast, atMost, lowOf, highOf}
-use Rattle.settings.specs.Values.{numberOf, defaultsOf, defaultN}
+use Rattle.settings.specs.Values.{settingOf, defaultsOf, defaultN}
 use Rattle.watchdog.proofs.Laws.{disabled, early}
 use Rattle.power.specs.Machine as small
 use Rattle.power.specs.Runs.{OffAtMost}
@@ -99,7 +100,7 @@ record Computed : Type 0 where
 
 -- by computation alone
 computed : Computed
-unfolding after begunOf startOf keepsTheRules isWithin allBelow has setOf listOf whole overcurrentAt allOff forcedOn commandEnabledOff cleared freshOf neverReset loadedFrom emptyStore toldOf tickOf tickWith allowedCount broughtBy risenOf changedOf trippedOf watchedIn commandedOf isDark fromNominalToSafety leavesEmergency enteringOf timerAfter resetsAfter dog.risenOf dog.watchedOf timeoutOf limitsOf safetyLow safetyHigh numberOf parameterOf rowOf find readWriteRows readOnlyRows lies defaultsOf defaultN column defaultOf clampOf atLeast atMost lowOf highOf stepOf olderOf transferredOf decodedOf isStartup decodeOf decodeBy fewerThanFour headerIs isIn baseCodes listed carried codes.find codes.table runOf restartedOf commandResetOf byCommand
+unfolding after begunOf startOf keepsTheRules isWithin allBelow has setOf listOf whole overcurrentAt allOff forcedOn commandEnabledOff cleared freshOf neverReset loadedFrom emptyStore toldOf tickOf tickWith allowedCount broughtBy risenOf changedOf trippedOf watchedIn commandedOf isDark fromNominalToSafety leavesEmergency enteringOf timerAfter resetsAfter dog.risenOf dog.watchedOf timeoutOf limitsOf safetyLow safetyHigh settingOf parameterOf rowOf find readWriteRows readOnlyRows lies defaultsOf defaultN column defaultOf clampOf atLeast atMost lowOf highOf stepOf olderOf transferredOf decodedOf isStartup decodeOf decodeBy fewerThanFour headerIs isIn baseCodes listed carried codes.find codes.commandTable runOf restartedOf commandResetOf byCommand
 computed =
     record {
       restart-line = refl;
@@ -192,12 +193,12 @@ at-zero (suc w) = early 0 (suc w) (omega arith) (omega arith) (omega arith)
 
 -- the NOOP is accepted, and feeds the timer
 accepts-noop : (rail : ℤ) (limits : Limits) (b : Board) → modeOf b ≡ Nominal → b .profile ≡ profile → commandedOf rail limits true (fed .transfer) b ≡ acceptedOf 0x02 b
-unfolding commandedOf transferredOf decodedOf isStartup decodeOf decodeBy fewerThanFour headerIs isIn baseCodes listed carried codes.find codes.table runOf
+unfolding commandedOf transferredOf decodedOf isStartup decodeOf decodeBy fewerThanFour headerIs isIn baseCodes listed carried codes.find codes.commandTable runOf
 accepts-noop rail limits b nominal of = rw (nominal, ap (λ (p : Profile). p .bid) of)
 
 -- to this board the bytes are a NOOP
 reads-noop : (p : Profile) → p ≡ profile → decodeOf (headerOf p) (fed .transfer) ≡ Run NoOperation
-unfolding decodeOf decodeBy fewerThanFour headerIs isIn baseCodes listed carried codes.find codes.table
+unfolding decodeOf decodeBy fewerThanFour headerIs isIn baseCodes listed carried codes.find codes.commandTable
 reads-noop p of = rw of
 
 -- the timer that it leaves is 0, so nothing happens

@@ -1,4 +1,5 @@
--- The long stretch of a rail at 0 mV on a real board, by stages: a tick of it never resets, so the channels are the small machine's, whose run `power` shows. Assumes nothing.
+-- The long stretch of a rail at 0 mV on a real board, by stages: a tick of it never resets, so the channels are the
+-- small machine's, whose run `power` shows. Assumes nothing.
 use Prim.Native.Nat.{ℕ, zero, suc, _+_, _^_, _-_, _≤_, min}
 use mathlib.Core.Path.{_≡_, refl, sym, ap, _∙_, subst}
 use mathlib.Core.Bool.{Bool, true, false, false≢true}
@@ -56,7 +57,8 @@ abbrev default : Limits
 default = record { linger = 6000; period = 60000; «safety_low» = pos 12400; «safety_high» = pos 14000; «emergency_low» = pos 12000; «emergency_high» = pos 12400 }
 
 -- ---- a rail at 0 mV
--- what the timer is in each mode: it is held at 0 in startup and emergency, and in safety it is no older than the mode, which linger ends; nominal is not reached
+-- what the timer is in each mode: it is held at 0 in startup and emergency, and in safety it is no older than the mode,
+-- which linger ends; nominal is not reached
 abbrev Rests : Mode → ℕ → ℕ → Type 0
 Rests Startup age timer = timer ≡ 0
 Rests Nominal age timer = ⊥

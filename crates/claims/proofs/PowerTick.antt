@@ -1,4 +1,5 @@
--- A whole tick at one force-enabled channel: the channel stays as `Standing` says, whatever happens, and without a reset and an overcurrent of that channel it is the small machine's. Assumes nothing.
+-- A whole tick at one force-enabled channel: the channel stays as `Standing` says, whatever happens, and without a
+-- reset and an overcurrent of that channel it is the small machine's. Assumes nothing.
 use Prim.Native.Nat.{ℕ, _<_}
 use mathlib.Core.Path.{_≡_, refl, sym, ap, _∙_, subst}
 use mathlib.Core.Bool.{Bool, true, false, cond, not, _&&_, _||_, and-false, false≢true}

@@ -6,7 +6,7 @@ use mathlib.Core.List.{List, [], _∷_}
 use lib.IntN.{ℤ}
 use Rattle.modes.specs.Commands.{toSafety, toNominal}
 use Rattle.modes.specs.declared.Limits.{Limits}
-use Rattle.modes.specs.declared.Commanded as change
+use Rattle.modes.specs.declared.ModeAnswer as change
 use Rattle.power.specs.Machine as small
 use Rattle.command.specs.declared.Decoded.{Decoded}
 use Rattle.memory.specs.Limits.{limitsOf}
@@ -23,9 +23,9 @@ use Rattle.claims.specs.Power.{isTick}
 use Rattle.claims.proofs.Calls.{by-tick, by-call}
 
 -- ---- step 4
-changed : (x : change.Commanded) (b c : Board) → Changes x b c → c .profile ≡ b .profile
-changed (change.Commanded.Accepted next) b c q = q .profile
-changed change.Commanded.Unavailable b c q = q .profile
+changed : (x : change.ModeAnswer) (b c : Board) → Changes x b c → c .profile ≡ b .profile
+changed (change.ModeAnswer.Accepted next) b c q = q .profile
+changed change.ModeAnswer.Unavailable b c q = q .profile
 
 -- nothing that the step does alters it
 done : (rail : ℤ) (limits : Limits) (d : Decoded) (ask : small.Command) (b : Board) (c : Commanded) → Does rail limits d ask b c → c .board .profile ≡ b .profile

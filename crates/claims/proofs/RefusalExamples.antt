@@ -1,12 +1,12 @@
--- A transfer for another board does not keep the watchdog quiet: with answer 3 a peripheral reset can be reported and the machine can be reset, which 0 and 4 to 7 rule out. antt computes
--- it. Assumes nothing.
+-- A transfer for another board does not keep the watchdog quiet: with answer 3 a peripheral reset can be reported and
+-- the machine can be reset, which 0 and 4 to 7 rule out. antt computes it. Assumes nothing.
 use mathlib.Core.Path.{_≡_, refl}
 use mathlib.Core.Bool.{true}
 use mathlib.Core.List.{[], _∷_, map}
 use mathlib.Core.Option.{some}
 use Prim.Native.Nat.{ℕ}
 use Rattle.settings.specs.Table as tables
-use Rattle.settings.specs.Values.{withNumber, setOf, numberOf, defaultsOf, defaultN}
+use Rattle.settings.specs.Values.{withNumber, setOf, settingOf, defaultsOf, defaultN}
 use Rattle.modes.specs.Table.{stepOf, olderOf}
 use Rattle.modes.specs.declared.Mode.the-variants.{Nominal}
 use Rattle.watchdog.specs.Watchdog as dog
@@ -37,5 +37,5 @@ forBoard2 = record { rail = + 15000; named = 0; words = []; sent = true; transfe
 pub refused-and-not-fed :
     (map (λ timer. tickAnswer (waiting timer) forBoard2) (650 ∷ 1000 ∷ []) ≡ some 3 ∷ some 3 ∷ [])
     × (map (λ timer. told (waiting timer) forBoard2 .event) (650 ∷ 1000 ∷ []) ≡ PeripheralReset ∷ WatchdogReset ∷ [])
-unfolding toldOf tickOf allowedCount limitsOf safetyLow safetyHigh set tickWith risenOf olderOf dog.risenOf changedOf stepOf isDark timerAfter trippedOf commandedOf transferredOf isStartup fewerThanFour decodedOf decodeOf decodeBy headerIs turnedDown notThisBoardOf watchedIn dog.watchedOf timeoutOf numberOf tables.parameterOf tables.rowOf tables.find tables.readWriteRows tables.lies setIn setOf withNumber tables.same tables.clampOf tables.atLeast tables.atMost tables.lowOf tables.highOf defaultsOf defaultN tables.column tables.defaultOf freshOf loadedFrom emptyStore
+unfolding toldOf tickOf allowedCount limitsOf safetyLow safetyHigh set tickWith risenOf olderOf dog.risenOf changedOf stepOf isDark timerAfter trippedOf commandedOf transferredOf isStartup fewerThanFour decodedOf decodeOf decodeBy headerIs turnedDown notThisBoardOf watchedIn dog.watchedOf timeoutOf settingOf tables.parameterOf tables.rowOf tables.find tables.readWriteRows tables.lies setIn setOf withNumber tables.same tables.clampOf tables.atLeast tables.atMost tables.lowOf tables.highOf defaultsOf defaultN tables.column tables.defaultOf freshOf loadedFrom emptyStore
 refused-and-not-fed = (refl, refl)

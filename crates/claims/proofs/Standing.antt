@@ -1,4 +1,5 @@
--- A force-enabled channel of a machine that can be reached is on exactly in nominal and safety, where it is not latched. Assumes nothing.
+-- A force-enabled channel of a machine that can be reached is on exactly in nominal and safety, where it is not
+-- latched. Assumes nothing.
 use Prim.Native.Nat.{ℕ}
 use mathlib.Core.Path.{_≡_, subst}
 use mathlib.Core.Bool.{true}

@@ -10,7 +10,7 @@ use native.Mathlib.Omega.{arith}
 use Rattle.wire.specs.Numbers.{bytesOf, number}
 use Rattle.wire.specs.Replies.{shown, written, replyOf, room, laidOut, replyCode}
 use Rattle.settings.specs.Table.{lies, rowOf, find, readWriteRows, readOnlyRows, parameterOf, column, defaultOf, clampOf, atLeast, atMost, lowOf, highOf}
-use Rattle.settings.specs.Values.{numberOf as settingOf, defaultsOf, defaultN}
+use Rattle.settings.specs.Values.{answerNumber as settingOf, defaultsOf, defaultN}
 use Rattle.modes.specs.Table.{entered, stepOf, olderOf}
 use Rattle.modes.specs.Commands.{toNominal}
 use Rattle.modes.specs.declared.Mode.the-variants.{Nominal}
@@ -28,7 +28,7 @@ use Rattle.replies.specs.Layouts.{shortReply, faultsReply, channelWords}
 use Rattle.state.specs.Parts.{withPhase, withChannels}
 use Rattle.state.specs.Start.{freshOf, keepsTheRules, startOf, neverReset}
 use Rattle.state.specs.Change.{isDark, fromNominalToSafety, enteringOf, timerAfter, resetsAfter, leavesEmergency}
-use Rattle.answers.specs.Answers.{numberOf, acceptedWith, acceptedOf, refusedOf, notThisBoardOf}
+use Rattle.answers.specs.Answers.{answerNumber, acceptedWith, acceptedOf, refusedOf, notThisBoardOf}
 use Rattle.answers.specs.declared.Answer.{Answer}
 use Rattle.answers.specs.declared.Answer.the-variants.{Accepted, FewerThanFourBytes, InStartup, NotThisBoard, CodeNotListed, TooShort, NotAvailable, Wrong}
 use Rattle.effects.specs.Effects.{isNominal, switchedOf, groupOnOf, switchedModeOf, faultsOf, runOf}
@@ -76,10 +76,10 @@ caught {p} {sees} {before} {last} r w d =
 
 -- each run, worked out
 pub all-caught : AllCaught
-unfolding stateAfter tickedWith refusing replyingNoop stayingInSafety unchanged countingAllNamed countAll groupOn groupIn number bytesOf shown written replyOf room laidOut replyCode shortReply faultsReply channelWords commands.table commands.find isIn baseCodes fewerThanFour headerIs carried listed decodeBy decodeOf acceptedWith acceptedOf refusedOf notThisBoardOf isNominal switchedOf groupOnOf switchedModeOf faultsOf runOf isStartup decodedOf transferredOf toNominal has setOf listOf whole cleared forcedOn allOff overcurrentAt commandEnabledOff freshOf loadedFrom emptyStore toldOf tickOf tickWith allowedCount broughtBy risenOf changedOf trippedOf watchedIn commandedOf olderOf stepOf dog.risenOf dog.watchedOf isDark fromNominalToSafety enteringOf timerAfter resetsAfter leavesEmergency limitsOf safetyLow safetyHigh timeoutOf settingOf parameterOf rowOf find readWriteRows readOnlyRows lies defaultsOf defaultN column defaultOf clampOf atLeast atMost lowOf highOf
+unfolding stateAfter tickedWith refusing replyingNoop stayingInSafety unchanged countingAllNamed countAll groupOn groupIn number bytesOf shown written replyOf room laidOut replyCode shortReply faultsReply channelWords commands.commandTable commands.find isIn baseCodes fewerThanFour headerIs carried listed decodeBy decodeOf acceptedWith acceptedOf refusedOf notThisBoardOf isNominal switchedOf groupOnOf switchedModeOf faultsOf runOf isStartup decodedOf transferredOf toNominal has setOf listOf whole cleared forcedOn allOff overcurrentAt commandEnabledOff freshOf loadedFrom emptyStore toldOf tickOf tickWith allowedCount broughtBy risenOf changedOf trippedOf watchedIn commandedOf olderOf stepOf dog.risenOf dog.watchedOf isDark fromNominalToSafety enteringOf timerAfter resetsAfter leavesEmergency limitsOf safetyLow safetyHigh timeoutOf settingOf parameterOf rowOf find readWriteRows readOnlyRows lies defaultsOf defaultN column defaultOf clampOf atLeast atMost lowOf highOf
 all-caught =
     record {
-      refuses-all = λ a refusal. caught refl (refused a refusal) (λ e. refusal (let z : 0 ≡ numberOf a = cc in sym z));
+      refuses-all = λ a refusal. caught refl (refused a refusal) (λ e. refusal (let z : 0 ≡ answerNumber a = cc in sym z));
       answers-noop = caught refl refl (λ e. let z : _≡_ {A = ℕ} 0x11 0x03 = cc in omega arith);
       stays-in-safety = caught refl refl (λ e. let z : _≡_ {A = ℕ} 0 1 = cc in omega arith);
       changes-nothing = caught refl refl (λ e. omega arith);
@@ -87,7 +87,7 @@ all-caught =
       makes-up-counts = caught refl refl (λ e. omega arith);
     }
   where
-    refused : (a : Answer) → (numberOf a ≡ 0 → ⊥) → answer (lastTold (refusesAll a) woken [] (sending 15000 noop)) ≡ some (numberOf a)
+    refused : (a : Answer) → (answerNumber a ≡ 0 → ⊥) → answer (lastTold (refusesAll a) woken [] (sending 15000 noop)) ≡ some (answerNumber a)
     refused Accepted refusal = absurd (refusal refl)
     refused FewerThanFourBytes refusal = refl
     refused InStartup refusal = refl
@@ -110,7 +110,7 @@ record Told-besides : Type 0 where
   made-up-count : getD (lastTold wrong.makesUpCounts awake [] (wrong.reporting 0b0010 wrong.faults) .machine .board .channels .counts) 1 0 ≡ 1
 
 told-besides : Told-besides
-unfolding stateAfter tickedWith refusing replyingNoop stayingInSafety unchanged countingAllNamed countAll groupOn groupIn number bytesOf shown written replyOf room laidOut replyCode shortReply faultsReply channelWords commands.table commands.find isIn baseCodes fewerThanFour headerIs carried listed decodeBy decodeOf acceptedWith acceptedOf refusedOf notThisBoardOf isNominal switchedOf groupOnOf switchedModeOf faultsOf runOf isStartup decodedOf transferredOf toNominal has setOf listOf whole cleared forcedOn allOff overcurrentAt commandEnabledOff freshOf loadedFrom emptyStore toldOf tickOf tickWith allowedCount broughtBy risenOf changedOf trippedOf watchedIn commandedOf olderOf stepOf dog.risenOf dog.watchedOf isDark fromNominalToSafety enteringOf timerAfter resetsAfter leavesEmergency limitsOf safetyLow safetyHigh timeoutOf settingOf parameterOf rowOf find readWriteRows readOnlyRows lies defaultsOf defaultN column defaultOf clampOf atLeast atMost lowOf highOf
+unfolding stateAfter tickedWith refusing replyingNoop stayingInSafety unchanged countingAllNamed countAll groupOn groupIn number bytesOf shown written replyOf room laidOut replyCode shortReply faultsReply channelWords commands.commandTable commands.find isIn baseCodes fewerThanFour headerIs carried listed decodeBy decodeOf acceptedWith acceptedOf refusedOf notThisBoardOf isNominal switchedOf groupOnOf switchedModeOf faultsOf runOf isStartup decodedOf transferredOf toNominal has setOf listOf whole cleared forcedOn allOff overcurrentAt commandEnabledOff freshOf loadedFrom emptyStore toldOf tickOf tickWith allowedCount broughtBy risenOf changedOf trippedOf watchedIn commandedOf olderOf stepOf dog.risenOf dog.watchedOf isDark fromNominalToSafety enteringOf timerAfter resetsAfter leavesEmergency limitsOf safetyLow safetyHigh timeoutOf settingOf parameterOf rowOf find readWriteRows readOnlyRows lies defaultsOf defaultN column defaultOf clampOf atLeast atMost lowOf highOf
 told-besides =
     record {
       noop-replied = awake-too (λ m. lastTold wrong.answersNoop m [] (sending 15000 wrong.groupOn) .replied) true refl;
@@ -135,7 +135,7 @@ all-break =
             let seen = all-caught .refuses-all a refusal in
             let given = exactly-when .only-told awake (sending 15000 noop) 0 (omega arith) (seen .machine-shows) in
             let told-0 = keeps awake [] (sending 15000 noop) 0 (given .0) (given .1) (given .2) in
-            refusal (same-number (numberOf a) 0 (sym (seen .program-shows) ∙ told-0));
+            refusal (same-number (answerNumber a) 0 (sym (seen .program-shows) ∙ told-0));
       };
       answers-noop = record {
         machine-keeps = replies-with-its-code;

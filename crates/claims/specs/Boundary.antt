@@ -1,31 +1,25 @@
--- Document 01's boundary table, row by row, as one claim over a list: each row gives a board, what one tick brings to it and what is then seen, and the tick is `tickWith`, to which the
--- contract of `board::tick` leads. Times are ticks and thresholds millivolts, with the numbers of the rows: linger 100, emergency period 300, safety low 6500. Rows 5 and 6 name no rail and
--- stand twice, with one at safety low and one below; the other rows that name none have one at safety low; row 15 stands twice for its two values. `a ∷ b ∷ []` is a list of two.
--- Assumes nothing: these are definitions and the statement of the claim.
+-- Document 01's boundary table, row by row, as one claim over a list: each row gives a board, what one tick brings to
+-- it and what is then seen, and the tick is `tickWith`, to which the contract of `board::tick` leads. Times are ticks
+-- and thresholds millivolts, with the numbers of the rows: linger 100, emergency period 300, safety low 6500. Rows 5
+-- and 6 name no rail and stand twice, with one at safety low and one below; the other rows that name none have one at
+-- safety low; row 15 stands twice for its two values. `a ∷ b ∷ []` is a list of two. Assumes nothing: these are
+-- definitions and the statement of the claim.
 use Prim.Native.Nat.{ℕ, _+_, _-_, _/_, _^_}
-use mathlib.Core.Path.{_≡_}
-use mathlib.Core.Bool.{true, false, cond}
-use mathlib.Core.List.{List, [], _∷_, _++_, map}
+use mathlib.Core.{Path._≡_, Bool.true, Bool.false, Bool.cond, List.List, List.[], List._∷_, List._++_, List.map}
 use mathlib.Core.Option.{Option, none, some}
-use lib.IntN.{ℤ, pos, negℤ}
-use lib.ListN.{replicate}
+use lib.{IntN.ℤ, IntN.pos, IntN.negℤ, ListN.replicate}
 use Rattle.wire.specs.Replies as replies
 use Rattle.wire.specs.Numbers.{bytesOf}
 use Rattle.value.specs.declared.ParamValue.the-variants.{Uint16}
-use Rattle.modes.specs.Table.{_aged_, entered}
-use Rattle.modes.specs.declared.Mode.{Mode}
+use Rattle.modes.specs.{Table._aged_, Table.entered, declared.Mode.Mode, declared.ModeAge.ModeAge, declared.Limits.Limits}
 use Rattle.modes.specs.declared.Mode.the-variants.{Startup, Nominal, Safety, Emergency}
-use Rattle.modes.specs.declared.ModeAge.{ModeAge}
-use Rattle.modes.specs.declared.Limits.{Limits}
 use Rattle.watchdog.specs.declared.Event.{Event}
 use Rattle.watchdog.specs.declared.Event.the-variants.{PeripheralReset, WatchdogReset}
 use Rattle.memory.specs.Memory.{emptyStore, setIn}
-use Rattle.state.specs.Parts.{withPhase, withTimer, withMemory, withChannels}
-use Rattle.state.specs.Start.{freshOf, neverReset}
+use Rattle.state.specs.{Parts.withPhase, Parts.withTimer, Parts.withMemory, Parts.withChannels, Start.freshOf, Start.neverReset}
 use Rattle.state.specs.declared.parts.Board.{Board}
 use Rattle.answers.specs.Answers.{toldNumber}
-use Rattle.board.specs.Tick.{tickWith}
-use Rattle.board.specs.declared.Ticked.{Ticked}
+use Rattle.board.specs.{Tick.tickWith, declared.Ticked.Ticked}
 
 infix 90 +_ −_
 abbrev pub +_ : ℕ → ℤ
@@ -90,7 +84,8 @@ rows =
     ∷ (row 15 timeout 1000 timer 1000 tells WatchdogReset then leaves-for Startup)
     ∷ []
 
--- ---- what is seen after a tick: what it tells of its transfer and the reply that it made; mode and age; the channels on; the watchdog's event, with mode and age
+-- ---- what is seen after a tick: what it tells of its transfer and the reply that it made; mode and age; the channels
+-- on; the watchdog's event, with mode and age
 pub data Seen : Type 0 where
   the-answer_and-reply_ : Option ℕ → Option (List ℕ) → Seen
   the-mode_ : ModeAge → Seen
@@ -102,8 +97,8 @@ infix 10 the-mode_
 infix 10 the-channels-on_
 infix 10 the-event_and-mode_
 -- ---- the tick of a row
--- linger, emergency period and safety low are the rows'. Of the thresholds that no row gives a number, safety high is 7000, so that 7001 is above it, and the emergency thresholds are
--- 6000 and 6400, so that -20 is a low rail.
+-- linger, emergency period and safety low are the rows'. Of the thresholds that no row gives a number, safety high is
+-- 7000, so that 7001 is above it, and the emergency thresholds are 6000 and 6400, so that -20 is a low rail.
 abbrev pub limits : Limits
 limits =
     record {
@@ -115,7 +110,8 @@ limits =
       «emergency_high» = + 6400;
     }
 
--- board 1, started with nothing stored and then brought into a mode, at an age that the rise of the tick makes one higher
+-- board 1, started with nothing stored and then brought into a mode, at an age that the rise of the tick makes one
+-- higher
 abbrev pub boardIn : Mode → ℕ → List ℕ → List ℕ → Board
 boardIn m age fs gs = withPhase (m aged (age - 1)) (freshOf (record { fitted = set fs; forced = set gs; bid = 1 }) emptyStore neverReset)
 
@@ -126,7 +122,8 @@ someBoard m age = boardIn m age (0 ∷ []) (0 ∷ [])
 abbrev pub withOn : List ℕ → Board → Board
 withOn cs b = withChannels (record { on = set cs; latched = 0; counts = replicate 32 0 }) b
 
--- with a timeout in ticks, which a board holds in seconds (0x4000), and the timer one below what the rise of the tick makes of it
+-- with a timeout in ticks, which a board holds in seconds (0x4000), and the timer one below what the rise of the tick
+-- makes of it
 abbrev pub withTimeout : ℕ → ℕ → Board → Board
 withTimeout w t b = withTimer (t - 1) (withMemory (setIn 0x4000 (Uint16 (w / 100)) (b .memory)) b)
 

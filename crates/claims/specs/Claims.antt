@@ -1,39 +1,20 @@
--- All that is claimed of the machine, on one page. Each field is a claim, which its own file states with its premises; where a
--- claim is about one transfer, one tick or one machine, it is claimed of all of them. docs/CLAIMS.md has each in words.
--- Assumes nothing: this is what is claimed, and `claims` in the proofs/ of this crate is its one proof.
+-- All that is claimed of the machine, on one page. Each field is a claim, which its own file states with its premises;
+-- where a claim is about one transfer, one tick or one machine, it is claimed of all of them. docs/CLAIMS.md has each
+-- in words. Assumes nothing: this is what is claimed, and `claims` in the proofs/ of this crate is its one proof.
 use Prim.Native.Nat.{ℕ}
 use mathlib.Core.List.{List}
 use lib.IntN.{ℤ}
 use Rattle.modes.specs.declared.Limits.{Limits}
 use Rattle.memory.specs.declared.Store.{Store}
-use Rattle.state.specs.declared.parts.Board.{Board}
-use Rattle.state.specs.declared.parts.Profile.{Profile}
-use Rattle.unit.specs.declared.Machine.{Machine}
-use Rattle.unit.specs.Runs.{Sample, Reached}
-use Rattle.refusals.specs.Conditions.{ExactlyWhen}
-use Rattle.refusals.specs.Refused.{RefusedCommand}
-use Rattle.refusals.specs.RefusedTicks.{RefusedTick}
-use Rattle.refusals.specs.Untouched.{OtherRefusals}
-use Rattle.groups.specs.Groups.{Groups}
-use Rattle.groups.specs.Altered.{Altered}
-use Rattle.groups.specs.Resets.{ResetIsTold}
-use Rattle.groups.specs.Unfitted.{Unfitted}
-use Rattle.groups.specs.Counts.{Counts}
-use Rattle.changes.specs.ChannelsAfter.{ChannelsAfter}
-use Rattle.changes.specs.SettingsChange.{SettingsChange}
-use Rattle.changes.specs.ModeChange.{ModeChange}
-use Rattle.changes.specs.CountsShown.{CountsShown}
+use Rattle.state.specs.{declared.parts.Board.Board, declared.parts.Profile.Profile}
+use Rattle.unit.specs.{declared.Machine.Machine, Runs.Sample, Runs.Reached}
+use Rattle.refusals.specs.{Conditions.ExactlyWhen, Refused.RefusedCommand, RefusedTicks.RefusedTick, Untouched.OtherRefusals}
+use Rattle.groups.specs.{Groups.Groups, Altered.Altered, Resets.ResetIsTold, Unfitted.Unfitted, Counts.Counts}
+use Rattle.changes.specs.{ChannelsAfter.ChannelsAfter, SettingsChange.SettingsChange, ModeChange.ModeChange, CountsShown.CountsShown}
 use Rattle.changes.specs.SoundMachine.{SoundMachine}
-use Rattle.power.specs.Claim.{Claim}
-use Rattle.power.specs.Tight.{Tight}
-use Rattle.claims.specs.Boundary.{BoundaryTable}
-use Rattle.claims.specs.Dark.{Dark}
-use Rattle.claims.specs.Power.{Power}
-use Rattle.claims.specs.PowerOfOne.{PowerOfOne}
-use Rattle.claims.specs.PowerNeeded.{PowerNeeded}
-use Rattle.claims.specs.PowerReal.{PowerReal}
-use Rattle.claims.specs.Standing.{Standing}
-use Rattle.claims.specs.Wrong.{AllCaught}
+use Rattle.power.specs.{Claim.Claim, Tight.Tight}
+use Rattle.claims.specs.{Boundary.BoundaryTable, Dark.Dark, Power.Power, PowerOfOne.PowerOfOne, PowerNeeded.PowerNeeded}
+use Rattle.claims.specs.{PowerReal.PowerReal, Standing.Standing, Wrong.AllCaught, Wrong.AllBreak}
 
 pub record Claims : Type 0 where
   -- document 01's boundary table
@@ -65,3 +46,4 @@ pub record Claims : Type 0 where
   pub tight : Tight
   -- the wrong programs that document 01 lists
   pub all-caught : AllCaught
+  pub all-break : AllBreak

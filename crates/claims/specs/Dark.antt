@@ -1,13 +1,10 @@
--- No channel is on in startup or emergency, force-enabled or not: after any tick of any machine, and on every machine that can be reached. Assumes nothing: this is the claim.
-use mathlib.Core.Path.{_≡_}
+-- No channel is on in startup or emergency, force-enabled or not: after any tick of any machine, and on every machine
+-- that can be reached. Assumes nothing: this is the claim.
+use mathlib.Core.{Path._≡_, Bool.true, Bool.false}
 use Prim.Native.Nat.{ℕ, _<_}
-use mathlib.Core.Bool.{true, false}
 use Rattle.channels.specs.Sets.{has}
-use Rattle.state.specs.Parts.{modeOf}
-use Rattle.state.specs.Change.{isDark}
-use Rattle.state.specs.declared.parts.Board.{Board}
-use Rattle.unit.specs.declared.Machine.{Machine}
-use Rattle.unit.specs.Runs.{Sample, told, tick, Reached}
+use Rattle.state.specs.{Parts.modeOf, Change.isDark, declared.parts.Board.Board}
+use Rattle.unit.specs.{declared.Machine.Machine, Runs.Sample, Runs.told, Runs.tick, Runs.Reached}
 use Rattle.claims.specs.Power.{isTick}
 
 abbrev pub OffInTheDark : ℕ → Board → Type 0

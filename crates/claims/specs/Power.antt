@@ -1,22 +1,21 @@
--- Demand 3, power. Take a machine that was started from a profile that keeps the rules and then used in any way, and from there a stretch of calls. Let the board have a force-enabled channel, and let
--- none of these be latched when the stretch begins; let no tick of the stretch reset the machine, alter a setting, or report an overcurrent of such a channel. Then, whatever the rails and the commands:
--- a force-enabled channel is never off for longer than 50 ticks, or than the emergency period where that is more; whenever it comes on in the stretch it is on for at least linger + 1 ticks, unless the stretch ends
--- before; and all of them come on and go off together.
--- On and off mean at a tick's end. A call of the stretch is a tick, a tick that refusal 9 turns away and that does not happen, or a read of the text line.
--- Assumes nothing: this is the claim.
-use mathlib.Core.Path.{_≡_}
+-- Demand 3, power. Take a machine that was started from a profile that keeps the rules and then used in any way, and
+-- from there a stretch of calls. Let the board have a force-enabled channel, and let none of these be latched when the
+-- stretch begins; let no tick of the stretch reset the machine, alter a setting, or report an overcurrent of such a
+-- channel. Then, whatever the rails and the commands: a force-enabled channel is never off for longer than 50 ticks, or
+-- than the emergency period where that is more; whenever it comes on in the stretch it is on for at least linger + 1
+-- ticks, unless the stretch ends before; and all of them come on and go off together. On and off mean at a tick's end.
+-- A call of the stretch is a tick, a tick that refusal 9 turns away and that does not happen, or a read of the text
+-- line. Assumes nothing: this is the claim.
+use mathlib.Core.{Path._≡_, Bool.Bool, Bool.true, Bool.false, List.List}
 use Prim.Native.Nat.{ℕ, _<_}
-use mathlib.Core.Bool.{Bool, true, false}
-use mathlib.Core.List.{List}
 use Rattle.modes.specs.declared.Limits.{Limits}
 use Rattle.channels.specs.Sets.{has}
-use Rattle.power.specs.Runs.{ends, channel, Stretch}
-use Rattle.power.specs.Claim.{Powered}
+use Rattle.power.specs.{Runs.ends, Runs.channel, Runs.Stretch, Claim.Powered}
 use Rattle.memory.specs.Limits.{limitsOf}
 use Rattle.state.specs.declared.parts.Profile.{Profile}
 use Rattle.unit.specs.declared.Machine.{Machine}
-use Rattle.groups.specs.Resets.{tellsReset}
 use Rattle.unit.specs.Runs.{Sample, told, happens, Call, tick, line, afterCall, Reached}
+use Rattle.groups.specs.Resets.{tellsReset}
 
 -- ---- what is looked at
 -- channel k is on
@@ -45,7 +44,8 @@ abbrev pub channelOf : ℕ → Machine → List Call → List Bool
 channelOf k m calls = channel afterCall isTick (isOn k) m calls
 
 -- ---- the stretch
--- a tick resets the machine, by what it tells: a watchdog reset, or a 0xAA that it accepted. `ResetIsTold` of `groups` says that the board then starts over, and only then
+-- a tick resets the machine, by what it tells: a watchdog reset, or a 0xAA that it accepted. `ResetIsTold` of `groups`
+-- says that the board then starts over, and only then
 abbrev pub Resets : Machine → Sample → Type 0
 Resets m i = tellsReset m i ≡ true
 
@@ -78,7 +78,8 @@ abbrev pub limits : Machine → Limits
 limits m = limitsOf (m .board .memory)
 
 pub record Demand3 (m : Machine) (calls : List Call) : Type 0 where
-  -- with the state before the stretch in front, by which a channel can be seen to come on at the first tick, and by the ticks' ends alone
+  -- with the state before the stretch in front, by which a channel can be seen to come on at the first tick, and by the
+  -- ticks' ends alone
   pub powered : (k : ℕ) → ForceEnabled k m → Powered (limits m .linger) (limits m .period) (channelOf k m calls)
   pub powered-by-ends : (k : ℕ) → ForceEnabled k m → Powered (limits m .linger) (limits m .period) (endsOf k m calls)
   pub together : (j k : ℕ) → ForceEnabled j m → ForceEnabled k m → channelOf j m calls ≡ channelOf k m calls

@@ -1,16 +1,15 @@
--- The premises of demand 3 that are needed: without any one of them the demand is false. For each a run that meets all the other premises, and on which the demand fails. Two premises are not needed, as
--- `PowerOfOne` shows: that the settings stay, and that the board has a force-enabled channel. Assumes nothing: this is the claim.
-use mathlib.Core.Path.{_≡_}
+-- The premises of demand 3 that are needed: without any one of them the demand is false. For each a run that meets all
+-- the other premises, and on which the demand fails. Two premises are not needed, as `PowerOfOne` shows: that the
+-- settings stay, and that the board has a force-enabled channel. Assumes nothing: this is the claim.
+use mathlib.Core.{Path._≡_, Bool.false, List.List}
 use Prim.Native.Nat.{ℕ}
-use mathlib.Core.Bool.{false}
-use mathlib.Core.List.{List}
 use Rattle.channels.specs.Sets.{has}
 use Rattle.power.specs.Claim.{Powered}
-use Rattle.unit.specs.declared.Machine.{Machine}
-use Rattle.unit.specs.Runs.{Sample, told, Call, Reached}
+use Rattle.unit.specs.{declared.Machine.Machine, Runs.Sample, Runs.told, Runs.Call, Runs.Reached}
 use Rattle.claims.specs.Power.{ForceEnabled, channelOf, Resets, Undisturbed, EachTick, AtLeastOne, NoneLatched, limits}
 
--- a machine that is as `Start` says, and a stretch from it whose ticks are as `Met` says, in which a force-enabled channel is off for too long, or on for too short a time
+-- a machine that is as `Start` says, and a stretch from it whose ticks are as `Met` says, in which a force-enabled
+-- channel is off for too long, or on for too short a time
 pub record Fails (Start : Machine → Type 0) (Met : Machine → Sample → Type 0) : Type 0 where
   pub from : Machine
   pub start : Start from

@@ -1,16 +1,13 @@
--- Demand 3 with fewer premises, for one force-enabled channel: what is needed is that the machine was reached, that no tick of the stretch resets it or names this channel, and that this channel is not
--- latched at the start of the stretch, or that the mode is then startup or emergency. Settings may change at every tick, other channels may be named and latched. The demand in `Power` follows.
--- Assumes nothing: this is the claim.
-use mathlib.Core.Path.{_≡_}
+-- Demand 3 with fewer premises, for one force-enabled channel: what is needed is that the machine was reached, that no
+-- tick of the stretch resets it or names this channel, and that this channel is not latched at the start of the
+-- stretch, or that the mode is then startup or emergency. Settings may change at every tick, other channels may be
+-- named and latched. The demand in `Power` follows. Assumes nothing: this is the claim.
+use mathlib.Core.{Path._≡_, Bool.true, Bool.false, List.List}
 use Prim.Native.Nat.{ℕ}
-use mathlib.Core.Bool.{true, false}
-use mathlib.Core.List.{List}
 use Rattle.channels.specs.Sets.{has}
-use Rattle.power.specs.Machine.{isLit}
-use Rattle.power.specs.Claim.{Powered}
+use Rattle.power.specs.{Machine.isLit, Claim.Powered}
 use Rattle.state.specs.Parts.{modeOf}
-use Rattle.unit.specs.declared.Machine.{Machine}
-use Rattle.unit.specs.Runs.{Sample, Call, Reached}
+use Rattle.unit.specs.{declared.Machine.Machine, Runs.Sample, Runs.Call, Runs.Reached}
 use Rattle.claims.specs.Power.{ForceEnabled, endsOf, channelOf, Resets, EachTick, limits}
 
 -- a tick that neither resets the machine nor names channel k

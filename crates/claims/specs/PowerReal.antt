@@ -1,18 +1,14 @@
--- Demand 3 is neither empty nor loose: on a real board, started from an accepted profile, a stretch of 72,052 ticks meets every premise, and in it each force-enabled channel is off for exactly 60,000 ticks
--- in a row, and on for exactly 6,001 before emergency comes again. The rail is at 0 mV throughout and nothing is sent. Assumes nothing: this is the claim.
-use mathlib.Core.Path.{_≡_}
+-- Demand 3 is neither empty nor loose: on a real board, started from an accepted profile, a stretch of 72,052 ticks
+-- meets every premise, and in it each force-enabled channel is off for exactly 60,000 ticks in a row, and on for
+-- exactly 6,001 before emergency comes again. The rail is at 0 mV throughout and nothing is sent. Assumes nothing: this
+-- is the claim.
+use mathlib.Core.{Path._≡_, Bool.Bool, Bool.false, List.List, List.[]}
 use Prim.Native.Nat.{ℕ}
-use mathlib.Core.Bool.{Bool, false}
-use mathlib.Core.List.{List, []}
-use lib.IntN.{pos}
-use lib.ListN.{replicate}
-use Rattle.power.specs.Runs.{turns}
-use Rattle.power.specs.Claim.{mostOff, leastOn}
+use lib.{IntN.pos, ListN.replicate}
+use Rattle.power.specs.{Runs.turns, Claim.mostOff, Claim.leastOn}
 use Rattle.memory.specs.Memory.{emptyStore}
 use Rattle.state.specs.declared.parts.Profile.{Profile}
-use Rattle.unit.specs.Machine.{noMachine, begunOf}
-use Rattle.unit.specs.declared.Machine.{Machine}
-use Rattle.unit.specs.Runs.{Call, tick, Reached}
+use Rattle.unit.specs.{Machine.noMachine, Machine.begunOf, declared.Machine.Machine, Runs.Call, Runs.tick, Runs.Reached}
 use Rattle.claims.specs.Power.{ForceEnabled, channelOf, Undisturbed, EachTick, AtLeastOne, NoneLatched, limits}
 
 -- board 1 with channels 0 to 3, of which 0 and 1 are force-enabled; nothing is stored
@@ -30,7 +26,8 @@ dead = tick (record { rail = pos 0; named = 0; words = []; sent = false; transfe
 abbrev pub ticks : ℕ
 ticks = 72052
 
--- the state before the stretch and 49 ticks in startup, 6,001 in safety, 60,000 in emergency, 6,001 in safety, and emergency again
+-- the state before the stretch and 49 ticks in startup, 6,001 in safety, 60,000 in emergency, 6,001 in safety, and
+-- emergency again
 abbrev pub expected : List Bool
 expected = turns 50 6001 60000 6001
 

@@ -1,13 +1,11 @@
--- A force-enabled channel of a machine that can be reached is on exactly in nominal and safety, where it is not latched; in startup and emergency it is off. Assumes nothing: this is the claim.
-use mathlib.Core.Path.{_≡_}
+-- A force-enabled channel of a machine that can be reached is on exactly in nominal and safety, where it is not
+-- latched; in startup and emergency it is off. Assumes nothing: this is the claim.
+use mathlib.Core.{Path._≡_, Bool.not, Bool._&&_}
 use Prim.Native.Nat.{ℕ}
-use mathlib.Core.Bool.{not, _&&_}
 use Rattle.channels.specs.Sets.{has}
 use Rattle.power.specs.Machine.{isLit}
-use Rattle.state.specs.Parts.{modeOf}
-use Rattle.state.specs.declared.parts.Board.{Board}
-use Rattle.unit.specs.declared.Machine.{Machine}
-use Rattle.unit.specs.Runs.{Reached}
+use Rattle.state.specs.{Parts.modeOf, declared.parts.Board.Board}
+use Rattle.unit.specs.{declared.Machine.Machine, Runs.Reached}
 use Rattle.claims.specs.Power.{ForceEnabled}
 
 abbrev pub Stands : ℕ → Board → Type 0

@@ -3,48 +3,32 @@
 -- and came into nominal: document 01's machine then shows one thing and the program another. And each breaks the claim
 -- that document 01 names for it, which document 01's machine keeps. Assumes nothing: these are definitions.
 use Prim.Native.Nat.{ℕ, _<_, min}
-use mathlib.Core.Path.{_≡_}
-use mathlib.Core.Bool.{Bool, true, false, cond, not}
-use mathlib.Core.List.{List, [], _∷_, _++_, map}
-use mathlib.Core.Option.{Option, some}
-use lib.IntN.{ℤ, pos}
-use lib.ListN.{length, getD, replicate}
+use mathlib.Core.{Path._≡_, Bool.Bool, Bool.true, Bool.false, Bool.cond, Bool.not}
+use mathlib.Core.{List.List, List.[], List._∷_, List._++_, List.map, Option.Option, Option.some}
+use lib.{IntN.ℤ, IntN.pos, ListN.length, ListN.getD, ListN.replicate}
 use Rattle.wire.specs.Replies.{shown, replyCode}
-use Rattle.modes.specs.Table.{same, olderOf}
-use Rattle.modes.specs.declared.Mode.{Mode}
+use Rattle.modes.specs.{Table.same, Table.olderOf, declared.Mode.Mode, declared.Limits.Limits}
 use Rattle.modes.specs.declared.Mode.the-variants.{Nominal, Safety}
-use Rattle.modes.specs.declared.Limits.{Limits}
-use Rattle.channels.specs.Chan.{chan}
-use Rattle.channels.specs.Operations.{overcurrentAt}
-use Rattle.channels.specs.Counting.{countAll}
-use Rattle.channels.specs.declared.Channels.{Channels}
+use Rattle.channels.specs.{Chan.chan, Operations.overcurrentAt, Counting.countAll, declared.Channels.Channels}
 use Rattle.command.specs.Decode.{codeOf}
-use Rattle.memory.specs.Limits.{limitsOf}
-use Rattle.memory.specs.Memory.{emptyStore}
-use Rattle.memory.specs.declared.Store.{Store}
-use Rattle.state.specs.Parts.{modeOf, withPhase, withChannels, withReply}
-use Rattle.state.specs.Start.{keepsTheRules}
-use Rattle.state.specs.declared.parts.Board.{Board}
+use Rattle.memory.specs.{Limits.limitsOf, Memory.emptyStore, declared.Store.Store}
+use Rattle.state.specs.{Parts.modeOf, Parts.withPhase, Parts.withChannels, Parts.withReply, Start.keepsTheRules, declared.parts.Board.Board}
 use Rattle.state.specs.declared.parts.Profile.{Profile}
-use Rattle.answers.specs.Answers.{numberOf, toldNumber, shortTo, silentOf, notThisBoardOf, refusedOf}
-use Rattle.answers.specs.declared.Answer.{Answer}
+use Rattle.answers.specs.Answers.{answerNumber, toldNumber, shortTo, silentOf, notThisBoardOf, refusedOf}
+use Rattle.answers.specs.{declared.Answer.Answer, declared.Commanded.Commanded}
 use Rattle.answers.specs.declared.Answer.the-variants.{Accepted, FewerThanFourBytes, InStartup, NotThisBoard, CodeNotListed, TooShort, NotAvailable, Wrong}
 use Rattle.answers.specs.declared.Outcome.the-variants.{Answered}
-use Rattle.answers.specs.declared.Commanded.{Commanded}
 use Rattle.commands.specs.Step.{commandedOf}
 use Rattle.board.specs.Tick.{risenOf, changedOf, trippedOf, watchedIn, allowedCount, notHappened}
 use Rattle.board.specs.declared.Ticked.{Ticked}
-use Rattle.unit.specs.Machine.{noMachine, begunOf, toldBy}
-use Rattle.unit.specs.declared.Machine.{Machine}
-use Rattle.unit.specs.declared.Told.{Told}
+use Rattle.unit.specs.{Machine.noMachine, Machine.begunOf, Machine.toldBy, declared.Machine.Machine, declared.Told.Told}
 use Rattle.unit.specs.Runs.{Sample, told, happens, afterStep3, Call, tick, after}
 use Rattle.refusals.specs.Conditions.{Given, metIn}
-use Rattle.groups.specs.Groups.{sentences, madeBy}
-use Rattle.groups.specs.Resets.{isAccepted}
-use Rattle.groups.specs.Counts.{timesTakenOff}
+use Rattle.groups.specs.{Groups.sentences, Groups.madeBy, Resets.isAccepted, Counts.timesTakenOff}
 
 -- ---- programs
--- a program has a state of its own, which it makes of the machine in whose place it is put; by each tick it tells something, the machine that it shows included
+-- a program has a state of its own, which it makes of the machine in whose place it is put; by each tick it tells
+-- something, the machine that it shows included
 pub record Program : Type 1 where
   pub State : Type 0
   pub start : Machine → State
@@ -80,7 +64,8 @@ module _ (three : ℕ → Board → Board) (four : ℤ → Limits → Bool → L
   toldWith m i = toldBy (tickedWith i (m .board)) (m .due)
 
 -- ---- the six
--- 1. refuses all: what the machine accepts is refused with a, whichever answer but 0 that is, and leaves what a leaves; all else is the machine's
+-- 1. refuses all: what the machine accepts is refused with a, whichever answer but 0 that is, and leaves what a leaves;
+-- all else is the machine's
 abbrev pub refusedAs : Answer → ℕ → Board → Commanded
 refusedAs Accepted code b = refusedOf Wrong code b
 refusedAs FewerThanFourBytes code b = silentOf (Answered FewerThanFourBytes) b
@@ -98,7 +83,8 @@ refusing a rail limits sent s b =
 abbrev pub refusesAll : Answer → Program
 refusesAll a = showing (toldWith trippedOf (refusing a))
 
--- 2. has the NOOP reply for every command: each command does what it should, and where it makes a reply, that is the reply of an accepted 0x02
+-- 2. has the NOOP reply for every command: each command does what it should, and where it makes a reply, that is the
+-- reply of an accepted 0x02
 abbrev pub noopFor : Commanded → Board → Commanded
 noopFor c b = record { board = withReply (shortTo 0x02 Accepted b) (c .board); outcome = c .outcome; replied = true }
 
@@ -143,7 +129,8 @@ firstTold (done t) i = t
 abbrev pub repeatsTheFirst : Program
 repeatsTheFirst = record { State = Once; start = fresh; tells = firstTold; next = λ s i. done (firstTold s i) }
 
--- 6. makes up overcurrent counts: step 3 counts every channel that is named, on or not; on and latched are the machine's
+-- 6. makes up overcurrent counts: step 3 counts every channel that is named, on or not; on and latched are the
+-- machine's
 abbrev pub withCounts : List ℕ → Channels → Channels
 withCounts counts ch = record { on = ch .on; latched = ch .latched; counts = counts }
 
@@ -205,7 +192,8 @@ abbrev pub answer : Told → Option ℕ
 answer t = toldNumber (t .outcome)
 
 -- ---- the claim
--- a program is caught: put in the place of that machine and run, it shows one thing at the last tick, and document 01's machine another
+-- a program is caught: put in the place of that machine and run, it shows one thing at the last tick, and document 01's
+-- machine another
 pub record Caught {A : Type 0} (p : Program) (sees : Told → A) (before : List Sample) (last : Sample) (right wrong : A) : Type 0 where
   pub machine-shows : sees (lastTold document01 awake before last) ≡ right
   pub program-shows : sees (lastTold p awake before last) ≡ wrong
@@ -213,7 +201,7 @@ pub record Caught {A : Type 0} (p : Program) (sees : Told → A) (before : List 
 
 pub record AllCaught : Type 0 where
   -- a NOOP is answered 0, and by the first program with its refusal, whichever that is
-  pub refuses-all : (a : Answer) → (numberOf a ≡ 0 → ⊥) → Caught (refusesAll a) answer [] (sending 15000 noop) (some 0) (some (numberOf a))
+  pub refuses-all : (a : Answer) → (answerNumber a ≡ 0 → ⊥) → Caught (refusesAll a) answer [] (sending 15000 noop) (some 0) (some (answerNumber a))
   -- the reply to 0x10 has the code 0x11, and that of the second program 0x03
   pub answers-noop : Caught answersNoop reply [] (sending 15000 groupOn) (0x11 ∷ 0x07 ∷ 0x11 ∷ 0x01 ∷ 0x80 ∷ []) (0x11 ∷ 0x07 ∷ 0x03 ∷ 0x01 ∷ 0x80 ∷ [])
   -- a rail of 0 mV leads into safety, and 0x30 at a good rail out of it
@@ -222,7 +210,8 @@ pub record AllCaught : Type 0 where
   pub changes-nothing : Caught changesNothing on [] (sending 15000 groupOn) 0b1111 0b0001
   -- a NOOP, and then 0x10, which has a reply of its own
   pub repeats-the-first : Caught repeatsTheFirst reply (sending 15000 noop ∷ []) (sending 15000 groupOn) (0x11 ∷ 0x07 ∷ 0x11 ∷ 0x01 ∷ 0x80 ∷ []) (0x11 ∷ 0x07 ∷ 0x03 ∷ 0x01 ∷ 0x80 ∷ [])
-  -- overcurrent is reported of channel 1, which is off, and 0x42 asks for the counts: that of channel 1 stands at byte 14 + 2
+  -- overcurrent is reported of channel 1, which is off, and 0x42 asks for the counts: that of channel 1 stands at byte
+  -- 14 + 2
   pub makes-up-counts : Caught makesUpCounts (replyByte 16) [] (reporting 0b0010 faults) 0 1
 
 -- ---- what each of them breaks
@@ -274,7 +263,7 @@ pub record Breaks (Claim : Program → Type 0) (p : Program) : Type 0 where
   pub program-does-not : Claim p → ⊥
 
 pub record AllBreak : Type 0 where
-  pub refuses-all : (a : Answer) → (numberOf a ≡ 0 → ⊥) → Breaks (AtEachTick TellsWhatIsGiven) (refusesAll a)
+  pub refuses-all : (a : Answer) → (answerNumber a ≡ 0 → ⊥) → Breaks (AtEachTick TellsWhatIsGiven) (refusesAll a)
   pub answers-noop : Breaks (AtEachTick RepliesWithItsCode) answersNoop
   pub stays-in-safety : Breaks (AtEachTick ComesIntoNominal) staysInSafety
   pub changes-nothing : Breaks (AtEachTick SwitchesTheNamed) changesNothing

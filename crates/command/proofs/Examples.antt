@@ -1,4 +1,5 @@
--- Group masks by the length of the transfer, the first rows of document 01's boundary table, and boards with other lists of codes. Assumes nothing.
+-- Group masks by the length of the transfer, the first rows of document 01's boundary table, and boards with other
+-- lists of codes. Assumes nothing.
 use Prim.Native.Nat.{ℕ, _+_, _*_}
 use mathlib.Core.Path.{_≡_, refl, ap}
 use mathlib.Core.List.{List, [], _∷_, map}
@@ -7,7 +8,7 @@ use lib.ListN.{length}
 use borrow.Author.Tests.{le-ltb}
 use Rattle.wire.specs.Numbers.{number}
 use Rattle.command.specs.Codes.{isIn, baseCodes}
-use Rattle.command.specs.Table.{table, find}
+use Rattle.command.specs.Table.{commandTable, find}
 use Rattle.command.specs.Decode.{fewerThanFour, headerIs, groupIn, carried, listed, decodeBy, decodeOf}
 use Rattle.command.specs.declared.Group.{Group}
 use Rattle.command.specs.declared.Command.the-variants.{NoOperation, CancelOperation}
@@ -40,7 +41,7 @@ pub boundary : (more : ℕ)
     → map (decodeOf (record { stid = 0x11; ivid = 0x07; bid = 0x01 }))
     ((0x11 ∷ 0x07 ∷ 0x02 ∷ 0x01 ∷ []) ∷ (0x11 ∷ 0x07 ∷ 0x02 ∷ 0x01 ∷ more ∷ []) ∷ (0x11 ∷ 0x07 ∷ 0x02 ∷ []) ∷ (0x11 ∷ 0x07 ∷ 0x03 ∷ 0x01 ∷ []) ∷ [])
     ≡ Run NoOperation ∷ Run NoOperation ∷ Refused FewerThanFourBytes ∷ Refused CodeNotListed ∷ []
-unfolding decodeOf decodeBy fewerThanFour headerIs isIn baseCodes listed carried find table
+unfolding decodeOf decodeBy fewerThanFour headerIs isIn baseCodes listed carried find commandTable
 boundary more = refl
 
 -- ---- a NOOP (0x02), a cancel (0x04) and the code 0x03, which no command has, by a board's list of codes
@@ -50,9 +51,9 @@ three codes =
     ((0x11 ∷ 0x07 ∷ 0x02 ∷ 0x01 ∷ []) ∷ (0x11 ∷ 0x07 ∷ 0x04 ∷ 0x01 ∷ []) ∷ (0x11 ∷ 0x07 ∷ 0x03 ∷ 0x01 ∷ []) ∷ [])
 
 pub of-one : three (0x02 ∷ []) ≡ Run NoOperation ∷ Refused CodeNotListed ∷ Refused CodeNotListed ∷ []
-unfolding decodeBy fewerThanFour headerIs isIn listed carried find table
+unfolding decodeBy fewerThanFour headerIs isIn listed carried find commandTable
 of-one = refl
 
 pub of-another : three (0x04 ∷ 0x03 ∷ []) ≡ Refused CodeNotListed ∷ Run CancelOperation ∷ Refused CodeNotListed ∷ []
-unfolding decodeBy fewerThanFour headerIs isIn listed carried find table
+unfolding decodeBy fewerThanFour headerIs isIn listed carried find commandTable
 of-another = refl

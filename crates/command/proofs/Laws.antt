@@ -1,4 +1,5 @@
--- The decoder answers the number of the first check of document 01's table that applies, whatever the board's list of codes is. Assumes nothing.
+-- The decoder answers the number of the first check of document 01's table that applies, whatever the board's list of
+-- codes is. Assumes nothing.
 use Prim.Native.Nat.{ℕ, _≤_, _<_}
 use mathlib.Core.Path.{_≡_, refl, sym, ap, _∙_, subst}
 use mathlib.Core.Bool.{Bool, true, false, cond, not, _&&_, _||_}
@@ -14,10 +15,10 @@ use Rattle.settings.specs.Table.{parameterOf}
 use Rattle.settings.specs.declared.Parameter.{Parameter}
 use Rattle.settings.specs.declared.Parameter.the-variants.{ReadWrite, ReadOnly, Unknown}
 use Rattle.command.specs.Codes.{isIn, baseCodes}
-use Rattle.command.specs.Table.{Row, _is_of_bytes, _is_of_bytes-with-key_, table, find}
+use Rattle.command.specs.Table.{Row, _is_of_bytes, _is_of_bytes-with-key_, commandTable, find}
 use Rattle.command.specs.Decode.{fewerThanFour, headerIs, stidOf, ividOf, codeOf, bidOf, byteAfter, idOf, valuePart, getBy, getting, valued, setBy, setting, resetBy, resetting, carried, listed, decodeBy, decodeOf}
-use Rattle.command.specs.Answers.{numberOf, answerOf}
-use Rattle.command.specs.Checks.{Check, _when_, first, headerDiffers, noCommand, idWrong, isTooShort, isNaN, valueOf, checksOf, checks}
+use Rattle.command.specs.Answers.{refusalNumber, decodedNumber}
+use Rattle.command.specs.Checks.{Check, _when_, first, headerDiffers, noCommand, idWrong, isTooShort, isNaN, valueReads, checksOf, checks}
 use Rattle.command.specs.declared.Listed.{Listed}
 use Rattle.command.specs.declared.Listed.the-variants.{Plain, Keyed, Missing}
 use Rattle.command.specs.declared.Header.{Header}
@@ -43,8 +44,8 @@ codeIn (c is name of n bytes) = c
 codeIn (c is name of n bytes-with-key k) = c
 
 -- they are the base list, in its order
-pub table-codes : map codeIn table ≡ baseCodes
-unfolding table baseCodes
+pub table-codes : map codeIn commandTable ≡ baseCodes
+unfolding commandTable baseCodes
 table-codes = refl
 
 no-row : (k : ℕ) (rows : List Row) → noCommand (find rows k) ≡ not (isIn k (map codeIn rows))
@@ -54,33 +55,33 @@ no-row k (c is name of n bytes ∷ rows) = cases (eqb k c) (λ e. rw e) (λ e. r
 no-row k (c is name of n bytes-with-key key ∷ rows) = cases (eqb k c) (λ e. rw e) (λ e. rw e (no-row k rows))
 
 -- so no command has a code exactly when it is not in the base list
-pub no-command : (code : ℕ) → noCommand (find table code) ≡ not (isIn code baseCodes)
-no-command code = no-row code table ∙ ap (λ (cs : List ℕ). not (isIn code cs)) table-codes
+pub no-command : (code : ℕ) → noCommand (find commandTable code) ≡ not (isIn code baseCodes)
+no-command code = no-row code commandTable ∙ ap (λ (cs : List ℕ). not (isIn code cs)) table-codes
 
 -- ---- the number of an answer behind a check
-behind : (b : Bool) (r : Refusal) (d : Decoded) → answerOf (cond b (Refused r) d) ≡ cond b (numberOf r) (answerOf d)
+behind : (b : Bool) (r : Refusal) (d : Decoded) → decodedNumber (cond b (Refused r) d) ≡ cond b (refusalNumber r) (decodedNumber d)
 behind true r d = refl
 behind false r d = refl
 
-get-number : (id : ℕ) (p : Parameter) → answerOf (getBy id p) ≡ cond (idWrong 0x82 p) 7 0
+get-number : (id : ℕ) (p : Parameter) → decodedNumber (getBy id p) ≡ cond (idWrong 0x82 p) 7 0
 unfolding idWrong
 get-number id (ReadWrite t) = refl
 get-number id (ReadOnly t) = refl
 get-number id Unknown = refl
 
-reset-number : (id : ℕ) (p : Parameter) → answerOf (resetBy id p) ≡ cond (idWrong 0x86 p) 7 0
+reset-number : (id : ℕ) (p : Parameter) → decodedNumber (resetBy id p) ≡ cond (idWrong 0x86 p) 7 0
 unfolding idWrong
 reset-number id (ReadWrite t) = refl
 reset-number id (ReadOnly t) = refl
 reset-number id Unknown = refl
 
-valued-number : (id : ℕ) (v : Parsed) → answerOf (valued id v) ≡ cond (isTooShort v) 5 (cond (isNaN v) 7 0)
+valued-number : (id : ℕ) (v : Parsed) → decodedNumber (valued id v) ≡ cond (isTooShort v) 5 (cond (isNaN v) 7 0)
 unfolding valued
 valued-number id (Parsed.Value v) = refl
 valued-number id Parsed.TooShort = refl
 valued-number id Parsed.NotANumber = refl
 
-set-number : (id : ℕ) (p : Parameter) (value : List ℕ) → answerOf (setBy id p value) ≡ cond (idWrong 0x84 p) 7 (cond (valueOf p value isTooShort) 5 (cond (valueOf p value isNaN) 7 0))
+set-number : (id : ℕ) (p : Parameter) (value : List ℕ) → decodedNumber (setBy id p value) ≡ cond (idWrong 0x84 p) 7 (cond (valueReads p value isTooShort) 5 (cond (valueReads p value isNaN) 7 0))
 unfolding idWrong
 set-number id (ReadWrite t) value = valued-number id (readOf t value)
 set-number id (ReadOnly t) value = refl
@@ -88,30 +89,30 @@ set-number id Unknown value = refl
 
 -- ---- a command of the list
 module _ (s : List ℕ) where
-  plain : (needed : ℕ) (d : Decoded) → answerOf (cond (ltb (length s) needed) (Refused TooShort) d) ≡ cond (ltb (length s) needed) 5 (answerOf d)
+  plain : (needed : ℕ) (d : Decoded) → decodedNumber (cond (ltb (length s) needed) (Refused TooShort) d) ≡ cond (ltb (length s) needed) 5 (decodedNumber d)
   plain needed d = behind (ltb (length s) needed) TooShort d
 
   keyed : (needed key : ℕ) (d : Decoded)
-      → answerOf (cond (ltb (length s) needed) (Refused TooShort) (cond (not (eqb (byteAfter s) key)) (Refused WrongKey) d))
-      ≡ cond (ltb (length s) needed) 5 (cond (not (eqb (byteAfter s) key)) 7 (answerOf d))
+      → decodedNumber (cond (ltb (length s) needed) (Refused TooShort) (cond (not (eqb (byteAfter s) key)) (Refused WrongKey) d))
+      ≡ cond (ltb (length s) needed) 5 (cond (not (eqb (byteAfter s) key)) 7 (decodedNumber d))
   keyed needed key d = behind (ltb (length s) needed) TooShort _ ∙ ap (cond (ltb (length s) needed) 5) (behind (not (eqb (byteAfter s) key)) WrongKey d)
 
-  uncommanded : (entry : Listed) → noCommand entry ≡ true → answerOf (listed entry s) ≡ 4
+  uncommanded : (entry : Listed) → noCommand entry ≡ true → decodedNumber (listed entry s) ≡ 4
   unfolding listed
   uncommanded (Plain name needed) h = absurd (subst T (sym h) tt)
   uncommanded (Keyed name needed key) h = absurd (subst T (sym h) tt)
   uncommanded Missing h = refl
 
-  unlisted : (code : ℕ) → isIn code baseCodes ≡ false → answerOf (listed (find table code) s) ≡ first (checksOf code s)
+  unlisted : (code : ℕ) → isIn code baseCodes ≡ false → decodedNumber (listed (find commandTable code) s) ≡ first (checksOf code s)
   unfolding first checksOf
   unlisted code h =
-      let n : noCommand (find table code) ≡ true = no-command code ∙ ap not h in
-      uncommanded (find table code) n ∙ rw n
+      let n : noCommand (find commandTable code) ≡ true = no-command code ∙ ap not h in
+      uncommanded (find commandTable code) n ∙ rw n
 
-  answers-first : (code : ℕ) → answerOf (listed (find table code) s) ≡ first (checksOf code s)
-  unfolding listed carried find table first checksOf baseCodes idWrong getting setting resetting
+  answers-first : (code : ℕ) → decodedNumber (listed (find commandTable code) s) ≡ first (checksOf code s)
+  unfolding listed carried find commandTable first checksOf baseCodes idWrong getting setting resetting
   answers-first code =
-      by-code (λ k. answerOf (listed (find table k) s) ≡ first (checksOf k s)) code baseCodes
+      by-code (λ k. decodedNumber (listed (find commandTable k) s) ≡ first (checksOf k s)) code baseCodes
       (keyed 5 0xA6 _ and plain 4 _ and plain 4 _ and plain 4 _ and plain 6 _ and plain 6 _ and plain 6 _ and plain 5 _ and plain 5 _ and plain 4 _ and plain 4 _ and plain 4 _ and plain 4 _
       and (plain 6 _ ∙ ap (cond (ltb (length s) 6) 5) (get-number (idOf s) (parameterOf (idOf s))))
       and (plain 6 _ ∙ ap (cond (ltb (length s) 6) 5) (set-number (idOf s) (parameterOf (idOf s)) (valuePart s)))
@@ -125,7 +126,7 @@ differs true true c = refl
 differs true false c = refl
 differs false b c = refl
 
-pub first-check : (codes : List ℕ) (board : Header) (s : List ℕ) → answerOf (decodeBy codes board s) ≡ first (checks codes board s)
+pub first-check : (codes : List ℕ) (board : Header) (s : List ℕ) → decodedNumber (decodeBy codes board s) ≡ first (checks codes board s)
 unfolding decodeBy first checks headerDiffers headerIs
 first-check codes board s =
     behind (fewerThanFour s) _ _
@@ -135,8 +136,8 @@ first-check codes board s =
     ∙ ap (cond (not (headerIs board s)) 3)
     (behind (not (isIn (codeOf s) codes)) _ _ ∙ ap (cond (not (isIn (codeOf s) codes)) 4) (answers-first s (codeOf s)))))
 
-pub with-answer : {r : Decoded} (codes : List ℕ) (board : Header) (s : List ℕ) → r ≡ decodeBy codes board s → (r ≡ decodeBy codes board s) × (answerOf r ≡ first (checks codes board s))
-with-answer codes board s e = (e, ap answerOf e ∙ first-check codes board s)
+pub with-answer : {r : Decoded} (codes : List ℕ) (board : Header) (s : List ℕ) → r ≡ decodeBy codes board s → (r ≡ decodeBy codes board s) × (decodedNumber r ≡ first (checks codes board s))
+with-answer codes board s e = (e, ap decodedNumber e ∙ first-check codes board s)
 
 -- ---- a number is answered exactly when its check applies and none before it does
 -- no check of a list has the number n, and n is not 0
@@ -182,53 +183,53 @@ module _ (codes : List ℕ) (board : Header) (s : List ℕ) where
   behind3 = 4 when not (isIn (codeOf s) codes) ∷ checksOf (codeOf s) s
 
   -- 1: fewer than 4 bytes
-  pub short-is-1 : length s < 4 → answerOf (decodeBy codes board s) ≡ 1
+  pub short-is-1 : length s < 4 → decodedNumber (decodeBy codes board s) ≡ 1
   unfolding first checks fewerThanFour
   short-is-1 h = first-check codes board s ∙ rw (lt-ltb (length s) 4 h)
 
-  pub is-1-short : answerOf (decodeBy codes board s) ≡ 1 → length s < 4
+  pub is-1-short : decodedNumber (decodeBy codes board s) ≡ 1 → length s < 4
   unfolding checks checksOf fewerThanFour
   is-1-short h = ltb-true (length s) 4 (applies 1 (fewerThanFour s) behind1 refl (sym (first-check codes board s) ∙ h))
 
   -- 3: 4 bytes or more, and STID, IVID or BID is not the board's
-  pub other-is-3 : 4 ≤ length s → headerDiffers board s ≡ true → answerOf (decodeBy codes board s) ≡ 3
+  pub other-is-3 : 4 ≤ length s → headerDiffers board s ≡ true → decodedNumber (decodeBy codes board s) ≡ 3
   unfolding first checks fewerThanFour
   other-is-3 h d = first-check codes board s ∙ rw (le-ltb (length s) 4 h, d)
 
-  past-1 : (n : ℕ) → (1 ≡ n → ⊥) → answerOf (decodeBy codes board s) ≡ n → (fewerThanFour s ≡ false) × (first behind1 ≡ n)
+  past-1 : (n : ℕ) → (1 ≡ n → ⊥) → decodedNumber (decodeBy codes board s) ≡ n → (fewerThanFour s ≡ false) × (first behind1 ≡ n)
   unfolding checks
   past-1 n d h = passed 1 n (fewerThanFour s) behind1 d (sym (first-check codes board s) ∙ h)
 
-  pub is-3-other : answerOf (decodeBy codes board s) ≡ 3 → (4 ≤ length s) × (headerDiffers board s ≡ true)
+  pub is-3-other : decodedNumber (decodeBy codes board s) ≡ 3 → (4 ≤ length s) × (headerDiffers board s ≡ true)
   unfolding checksOf fewerThanFour
   is-3-other h =
       let u = past-1 3 (λ e. omega arith) h in
       (ltb-false (length s) 4 (u .0), applies 3 (headerDiffers board s) behind3 refl (u .1))
 
   -- 4: the header is the board's, and the code is not in the board's list, or no command has it
-  pub unlisted-is-4 : 4 ≤ length s → headerDiffers board s ≡ false → isIn (codeOf s) codes ≡ false → answerOf (decodeBy codes board s) ≡ 4
+  pub unlisted-is-4 : 4 ≤ length s → headerDiffers board s ≡ false → isIn (codeOf s) codes ≡ false → decodedNumber (decodeBy codes board s) ≡ 4
   unfolding first checks fewerThanFour
   unlisted-is-4 h d n = first-check codes board s ∙ rw (le-ltb (length s) 4 h, d, n)
 
-  pub uncommanded-is-4 : 4 ≤ length s → headerDiffers board s ≡ false → noCommand (find table (codeOf s)) ≡ true → answerOf (decodeBy codes board s) ≡ 4
+  pub uncommanded-is-4 : 4 ≤ length s → headerDiffers board s ≡ false → noCommand (find commandTable (codeOf s)) ≡ true → decodedNumber (decodeBy codes board s) ≡ 4
   unfolding first checks checksOf fewerThanFour
   uncommanded-is-4 h d n =
       cases (isIn (codeOf s) codes) (λ e. first-check codes board s ∙ rw (le-ltb (length s) 4 h, d, e, n)) (unlisted-is-4 h d)
 
-  pub is-4-unlisted-or-uncommanded : answerOf (decodeBy codes board s) ≡ 4
-      → (4 ≤ length s) × ((headerDiffers board s ≡ false) × (not (isIn (codeOf s) codes) || noCommand (find table (codeOf s)) ≡ true))
+  pub is-4-unlisted-or-uncommanded : decodedNumber (decodeBy codes board s) ≡ 4
+      → (4 ≤ length s) × ((headerDiffers board s ≡ false) × (not (isIn (codeOf s) codes) || noCommand (find commandTable (codeOf s)) ≡ true))
   unfolding checksOf fewerThanFour
   is-4-unlisted-or-uncommanded h =
       let u = past-1 4 (λ e. omega arith) h in
       let v = passed 3 4 (headerDiffers board s) behind3 (λ e. omega arith) (u .1) in
-      (ltb-false (length s) 4 (u .0), (v .0, one-of 4 (not (isIn (codeOf s) codes)) (noCommand (find table (codeOf s))) _ refl (v .1)))
+      (ltb-false (length s) 4 (u .0), (v .0, one-of 4 (not (isIn (codeOf s) codes)) (noCommand (find commandTable (codeOf s))) _ refl (v .1)))
 
 -- with the base list: exactly when the code is not in it
 or-same : (a : Bool) → a || a ≡ true → a ≡ true
 or-same true h = refl
 or-same false h = h
 
-pub is-4-unlisted : (board : Header) (s : List ℕ) → answerOf (decodeOf board s) ≡ 4 → (4 ≤ length s) × ((headerDiffers board s ≡ false) × (isIn (codeOf s) baseCodes ≡ false))
+pub is-4-unlisted : (board : Header) (s : List ℕ) → decodedNumber (decodeOf board s) ≡ 4 → (4 ≤ length s) × ((headerDiffers board s ≡ false) × (isIn (codeOf s) baseCodes ≡ false))
 unfolding decodeOf
 is-4-unlisted board s h =
     let u = is-4-unlisted-or-uncommanded baseCodes board s h in

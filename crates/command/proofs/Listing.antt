@@ -1,4 +1,5 @@
--- One turn of the walk over a list of codes: the code at place i is the one that is looked for, or the rest decides. Assumes nothing.
+-- One turn of the walk over a list of codes: the code at place i is the one that is looked for, or the rest decides.
+-- Assumes nothing.
 use Prim.Native.Nat.{ℕ, _+_, _<_, _≤_}
 use mathlib.Core.Path.{_≡_, refl, sym}
 use mathlib.Core.Bool.{true, false}

@@ -3,19 +3,14 @@
 use Prim.Native.Nat.{ℕ}
 use mathlib.Core.Bool.{Bool, true, false, cond, not, _&&_, _||_}
 use mathlib.Core.List.{List, [], _∷_}
-use lib.Dec.{ltb, eqb}
-use lib.ListN.{length}
-use Rattle.value.specs.Values.{readOf}
-use Rattle.value.specs.declared.Parsed.{Parsed}
-use Rattle.settings.specs.Table.{parameterOf}
-use Rattle.settings.specs.declared.Parameter.{Parameter}
+use lib.{Dec.ltb, Dec.eqb, ListN.length}
+use Rattle.value.specs.{Values.readOf, declared.Parsed.Parsed}
+use Rattle.settings.specs.{Table.parameterOf, declared.Parameter.Parameter}
 use Rattle.settings.specs.declared.Parameter.the-variants.{ReadWrite, ReadOnly, Unknown}
-use Rattle.command.specs.Codes.{isIn}
-use Rattle.command.specs.Table.{table, find}
+use Rattle.command.specs.{Codes.isIn, Table.commandTable, Table.find}
 use Rattle.command.specs.Decode.{fewerThanFour, stidOf, ividOf, codeOf, bidOf, byteAfter, idOf, valuePart}
-use Rattle.command.specs.declared.Listed.{Listed}
+use Rattle.command.specs.{declared.Listed.Listed, declared.Header.Header}
 use Rattle.command.specs.declared.Listed.the-variants.{Plain, Keyed, Missing}
-use Rattle.command.specs.declared.Header.{Header}
 
 infix 68 _when_
 pub data Check : Type 0 where
@@ -73,20 +68,20 @@ isNaN (Parsed.Value v) = false
 isNaN Parsed.TooShort = false
 isNaN Parsed.NotANumber = true
 
-abbrev pub valueOf : Parameter → List ℕ → (Parsed → Bool) → Bool
-valueOf (ReadWrite t) value is = is (readOf t value)
-valueOf (ReadOnly t) value is = false
-valueOf Unknown value is = false
+abbrev pub valueReads : Parameter → List ℕ → (Parsed → Bool) → Bool
+valueReads (ReadWrite t) value is = is (readOf t value)
+valueReads (ReadOnly t) value is = false
+valueReads Unknown value is = false
 
 -- the checks behind that of the board's list of codes; a code that is in the list and that no command has is 4 too
 unfoldable pub checksOf : ℕ → List ℕ → List Check
 checksOf code s =
-    4 when noCommand (find table code)
-    ∷ 5 when shorter (find table code) s
-    ∷ 7 when keyWrong (find table code) s
+    4 when noCommand (find commandTable code)
+    ∷ 5 when shorter (find commandTable code) s
+    ∷ 7 when keyWrong (find commandTable code) s
     ∷ 7 when idWrong code (parameterOf (idOf s))
-    ∷ 5 when (eqb code 0x84 && valueOf (parameterOf (idOf s)) (valuePart s) isTooShort)
-    ∷ 7 when (eqb code 0x84 && valueOf (parameterOf (idOf s)) (valuePart s) isNaN)
+    ∷ 5 when (eqb code 0x84 && valueReads (parameterOf (idOf s)) (valuePart s) isTooShort)
+    ∷ 7 when (eqb code 0x84 && valueReads (parameterOf (idOf s)) (valuePart s) isNaN)
     ∷ []
 
 -- the checks of a transfer in their order, for a board with its own list of codes

@@ -1,7 +1,7 @@
--- A board's own list of codes, and the base list. `a ∷ b ∷ []` is a list of two. Assumes nothing: these are definitions.
+-- A board's own list of codes, and the base list. `a ∷ b ∷ []` is a list of two. Assumes nothing: these are
+-- definitions.
 use Prim.Native.Nat.{ℕ}
-use mathlib.Core.Bool.{Bool, false, _||_}
-use mathlib.Core.List.{List, [], _∷_}
+use mathlib.Core.{Bool.Bool, Bool.false, Bool._||_, List.List, List.[], List._∷_}
 use lib.Dec.{eqb}
 
 -- whether a code is in a list

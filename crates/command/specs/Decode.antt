@@ -1,26 +1,18 @@
 -- A transfer as a command, by document 01's checks in their order: the first that applies answers.
--- `getD s i 0` is the byte at i, `drop i s` what stands from i on, and `number n` the number of its first n bytes, the lowest first. Assumes nothing.
+-- `getD s i 0` is the byte at i, `drop i s` what stands from i on, and `number n` the number of its first n bytes, the
+-- lowest first. Assumes nothing.
 use Prim.Native.Nat.{ℕ, _-_, _^_}
-use mathlib.Core.Bool.{Bool, cond, not, _&&_}
-use mathlib.Core.List.{List}
-use lib.Dec.{ltb, eqb}
-use lib.ListN.{length, drop, getD}
+use mathlib.Core.{Bool.Bool, Bool.cond, Bool.not, Bool._&&_, List.List}
+use lib.{Dec.ltb, Dec.eqb, ListN.length, ListN.drop, ListN.getD}
 use Rattle.wire.specs.Numbers.{number}
-use Rattle.value.specs.Values.{readOf}
-use Rattle.value.specs.declared.Parsed.{Parsed}
-use Rattle.settings.specs.Table.{parameterOf}
-use Rattle.settings.specs.declared.Parameter.{Parameter}
+use Rattle.value.specs.{Values.readOf, declared.Parsed.Parsed}
+use Rattle.settings.specs.{Table.parameterOf, declared.Parameter.Parameter}
 use Rattle.settings.specs.declared.Parameter.the-variants.{ReadWrite, ReadOnly, Unknown}
-use Rattle.command.specs.Codes.{isIn, baseCodes}
-use Rattle.command.specs.Table.{table, find}
-use Rattle.command.specs.declared.Name.{Name}
-use Rattle.command.specs.declared.Listed.{Listed}
+use Rattle.command.specs.{Codes.isIn, Codes.baseCodes, Table.commandTable, Table.find, declared.Name.Name, declared.Listed.Listed}
+use Rattle.command.specs.{declared.Header.Header, declared.Group.Group, declared.Decoded.Decoded}
 use Rattle.command.specs.declared.Listed.the-variants.{Plain, Keyed, Missing}
-use Rattle.command.specs.declared.Header.{Header}
-use Rattle.command.specs.declared.Group.{Group}
 use Rattle.command.specs.declared.Command.the-variants.{SystemReset, NoOperation, CancelOperation, Watchdog, GroupOn, GroupOff, GroupState, ChannelOn, ChannelOff, SwitchToNominal, SwitchToSafety, GetOvercurrentFaultState, GetHousekeeping, GetParameter, SetParameter, ResetParameter, ResetConfiguration, LoadConfiguration, SaveConfiguration}
 use Rattle.command.specs.declared.Refusal.the-variants.{FewerThanFourBytes, NotThisBoard, CodeNotListed, TooShort, WrongKey, WrongParameter, NotANumber}
-use Rattle.command.specs.declared.Decoded.{Decoded}
 use Rattle.command.specs.declared.Decoded.the-variants.{Run, Refused}
 
 -- ---- the header: STID, IVID, CC, BID
@@ -58,7 +50,8 @@ valuePart s = drop 6 s
 abbrev pub checksumIn : List ℕ → ℕ
 checksumIn s = number 2 (drop 5 s)
 
--- a mask (CH_BF) of channels 0 to 15 stands at 4, and one (CH_EXT_BF) of channels 16 to 31 at 6, of which both bytes count, or none
+-- a mask (CH_BF) of channels 0 to 15 stands at 4, and one (CH_EXT_BF) of channels 16 to 31 at 6, of which both bytes
+-- count, or none
 unfoldable pub groupIn : List ℕ → Group
 groupIn s =
     cond (ltb (length s) 8)
@@ -75,7 +68,8 @@ getBy id Unknown = Refused WrongParameter
 unfoldable pub getting : ℕ → Decoded
 getting id = getBy id (parameterOf id)
 
--- 0x84, behind the two bytes of the id (5): an id that is unknown or read-only (7), fewer bytes than the value has (5), a NaN (7)
+-- 0x84, behind the two bytes of the id (5): an id that is unknown or read-only (7), fewer bytes than the value has (5),
+-- a NaN (7)
 unfoldable pub valued : ℕ → Parsed → Decoded
 valued id (Parsed.Value v) = Run (SetParameter id v)
 valued id Parsed.TooShort = Refused TooShort
@@ -137,7 +131,7 @@ decodeBy codes board s =
     cond (fewerThanFour s) (Refused FewerThanFourBytes)  -- 1
     (cond (not (headerIs board s)) (Refused NotThisBoard)  -- 3
     (cond (not (isIn (codeOf s) codes)) (Refused CodeNotListed)  -- 4
-    (listed (find table (codeOf s)) s)))
+    (listed (find commandTable (codeOf s)) s)))
 
 -- to a board of the base
 unfoldable pub decodeOf : Header → List ℕ → Decoded

@@ -1,12 +1,11 @@
--- The commands that the decoder knows: the code, the bytes and the key of each, as the ICD's command pages give them. Which of them a board has, its own list of codes says.
--- `a ∷ b ∷ []` is a list of two, and `cond b x y` is x where b holds, else y. Assumes nothing.
+-- The commands that the decoder knows: the code, the bytes and the key of each, as the ICD's command pages give them.
+-- Which of them a board has, its own list of codes says. `a ∷ b ∷ []` is a list of two, and `cond b x y` is x where b
+-- holds, else y. Assumes nothing.
 use Prim.Native.Nat.{ℕ}
-use mathlib.Core.Bool.{cond}
-use mathlib.Core.List.{List, [], _∷_}
+use mathlib.Core.{Bool.cond, List.List, List.[], List._∷_}
 use lib.Dec.{eqb}
-use Rattle.command.specs.declared.Name.{Name}
+use Rattle.command.specs.{declared.Name.Name, declared.Listed.Listed}
 use Rattle.command.specs.declared.Name.the-variants.{SystemReset, NoOperation, CancelOperation, Watchdog, GroupOn, GroupOff, GroupState, ChannelOn, ChannelOff, SwitchToNominal, SwitchToSafety, GetOvercurrentFaultState, GetHousekeeping, GetParameter, SetParameter, ResetParameter, ResetConfiguration, LoadConfiguration, SaveConfiguration}
-use Rattle.command.specs.declared.Listed.{Listed}
 use Rattle.command.specs.declared.Listed.the-variants.{Plain, Keyed, Missing}
 
 -- a row: a code, the command of that code, the bytes it needs, and its key where it has one
@@ -17,8 +16,8 @@ pub data Row : Type 0 where
   _is_of_bytes-with-key_ : ℕ → Name → ℕ → ℕ → Row
 
 -- 0x84 needs the two bytes of its id first; how many its value has, the id's type says
-unfoldable pub table : List Row
-table =
+unfoldable pub commandTable : List Row
+commandTable =
     0xAA is SystemReset of 5 bytes-with-key 0xA6  -- page 29
     ∷ 0x02 is NoOperation of 4 bytes  -- page 30
     ∷ 0x04 is CancelOperation of 4 bytes  -- page 31

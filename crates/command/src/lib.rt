@@ -1,10 +1,10 @@
 // Any transfer, decoded to a command or a refusal, for the checks that need neither mode nor state.
 ghost use mathlib.Core.Path.{_≡_};
 ghost use Rattle.command.specs.Codes.{isIn, baseCodes};
-ghost use Rattle.command.specs.Table.{table, find};
+ghost use Rattle.command.specs.Table.{commandTable, find};
 ghost use Rattle.command.specs.Decode.{fewerThanFour, headerIs, groupIn, getting, valued, setting, resetting, carried, listed, decodeBy};
 ghost use Rattle.command.specs.Checks.{first, checks};
-ghost use Rattle.command.specs.Answers.{answerOf};
+ghost use Rattle.command.specs.Answers.{decodedNumber};
 use settings::Parameter;
 use value::ParamValue;
 use value::Parsed;
@@ -155,7 +155,7 @@ fn is_listed(codes: &[u8], code: u8) -> bool
 
 // What the table of commands says of a code.
 fn listed_as(code: u8) -> Listed
-    ensures { λ r. ⌜ r ≡ find table code ⌝ }
+    ensures { λ r. ⌜ r ≡ find commandTable code ⌝ }
 {
     match code {
         0xAA => Listed::Keyed(Name::SystemReset, 5, 0xA6),
@@ -271,7 +271,8 @@ fn carried(name: Name, transfer: &[u8]) -> Decoded
     }
 }
 
-// A command as the table has it: long enough, with its key, and then what it carries. A code that has no row is not listed, whatever a board's list says.
+// A command as the table has it: long enough, with its key, and then what it carries. A code that has no row is not
+// listed, whatever a board's list says.
 fn by_list(entry: Listed, transfer: &[u8]) -> Decoded
     ensures { λ r. ⌜ r ≡ listed entry (now (transfer .entry)) ⌝ }
 {
@@ -298,7 +299,7 @@ fn by_list(entry: Listed, transfer: &[u8]) -> Decoded
 // What a transfer is to a board with its own header and list of codes: the first check that applies answers.
 pub fn decode(header: Header, codes: &[u8], transfer: &[u8]) -> Decoded
     ensures { λ r. ⌜ r ≡ decodeBy (now (codes .entry)) header (now (transfer .entry)) ⌝ }
-    ensures number { λ r. ⌜ answerOf r ≡ first (checks (now (codes .entry)) header (now (transfer .entry))) ⌝ }
+    ensures number { λ r. ⌜ decodedNumber r ≡ first (checks (now (codes .entry)) header (now (transfer .entry))) ⌝ }
 {
     let code = wire::byte(transfer, 2);
     let short = too_short(transfer);

@@ -6,7 +6,7 @@ use mathlib.Core.List.{List}
 use lib.IntN.{ℤ}
 use Rattle.laws.proofs.Cases.{cases}
 use Rattle.modes.specs.declared.Limits.{Limits}
-use Rattle.modes.specs.declared.Commanded as change
+use Rattle.modes.specs.declared.ModeAnswer as change
 use Rattle.modes.specs.Commands.{toSafety, toNominal}
 use Rattle.channels.specs.declared.Channels.{Channels}
 use Rattle.command.specs.Decode.{fewerThanFour, codeOf, decodeOf}
@@ -19,7 +19,7 @@ use Rattle.state.specs.Start.{commandResetOf}
 use Rattle.state.specs.declared.parts.Board.{Board}
 use Rattle.answers.specs.Answers.{headerOf, acceptedWith, acceptedOf, refusedOf, notThisBoardOf}
 use Rattle.answers.specs.declared.Commanded.{Commanded}
-use Rattle.effects.specs.Effects.{isNominal, switchedOf, groupOnOf, groupOffOf, groupStateOf, channelOnOf, channelOffOf, cancelledOf, switchedModeOf, faultsOf, housekeepingOf, parameterOf, rememberedOf, savedIn, restartedOf, runOf}
+use Rattle.effects.specs.Effects.{isNominal, switchedOf, groupOnOf, groupOffOf, groupStateOf, channelOnOf, channelOffOf, cancelledOf, switchedModeOf, faultsOf, housekeepingOf, parameterAnswered, rememberedOf, savedIn, restartedOf, runOf}
 use Rattle.commands.specs.Step.{isStartup, turnedDown, decodedOf, transferredOf, commandedOf}
 use Rattle.effects.specs.Parts.{obeyedIn}
 use Rattle.commands.specs.Parts.{askedBy, askedOf, askedIn, memoryChangeAsked, memoryAfter, alters, isRestart, layoutAsked, replyTo}
@@ -70,17 +70,17 @@ module _ (code : ℕ) (b : Board) where
   unfolding switchedOf replyTo acceptedOf acceptedWith refusedOf
   switched right channels = cases (isNominal (modeOf b)) (λ n. cases right (λ r. rw (n, r)) (λ r. rw (n, r))) (λ n. rw n)
 
-  changed : (to : change.Commanded) → shortly (obeyedIn (switchedModeOf 0 to b)) ≡ switchedModeOf code to b
+  changed : (to : change.ModeAnswer) → shortly (obeyedIn (switchedModeOf 0 to b)) ≡ switchedModeOf code to b
   unfolding switchedModeOf replyTo acceptedOf acceptedWith refusedOf
-  changed (change.Commanded.Accepted phase) = refl
-  changed change.Commanded.Unavailable = refl
+  changed (change.ModeAnswer.Accepted phase) = refl
+  changed change.ModeAnswer.Unavailable = refl
 
   saved : (given : ℕ) → whole code (asked.Run (Command.SaveConfiguration given)) (obeyedIn (savedIn 0 given b)) b ≡ savedIn code given b
   unfolding savedIn savedOf rememberedOf replyTo acceptedOf acceptedWith refusedOf
   saved given = cases (isRight given (b .memory)) (λ e. rw e) (λ e. rw e)
 
   run : (rail : ℤ) (limits : Limits) (c : Command) → whole code (asked.Run c) (obeyedIn (runOf rail limits 0 c b)) b ≡ runOf rail limits code c b
-  unfolding runOf groupOnOf groupOffOf groupStateOf channelOnOf channelOffOf cancelledOf faultsOf housekeepingOf parameterOf rememberedOf restartedOf commandResetOf replyTo acceptedOf acceptedWith
+  unfolding runOf groupOnOf groupOffOf groupStateOf channelOnOf channelOffOf cancelledOf faultsOf housekeepingOf parameterAnswered rememberedOf restartedOf commandResetOf replyTo acceptedOf acceptedWith
   run rail limits (Command.GroupOn g) = switched _ _
   run rail limits (Command.GroupOff g) = switched _ _
   run rail limits (Command.GroupState g) = switched _ _

@@ -1,36 +1,25 @@
--- The command step part by part: a board is changed in place, so the code finds mode, timer, channels and words, the memory, and the reply each by itself. `Effects` and `Step` say what the
--- command step is; these only name its parts, and proofs/Whole shows that together they are the step. Assumes nothing: these are definitions.
+-- The command step part by part: a board is changed in place, so the code finds mode, timer, channels and words, the
+-- memory, and the reply each by itself. `Effects` and `Step` say what the command step is; these only name its parts,
+-- and proofs/Whole shows that together they are the step. Assumes nothing: these are definitions.
 use Prim.Native.Nat.{ℕ}
-use mathlib.Core.Bool.{Bool, true, false, cond, not}
-use mathlib.Core.List.{List}
+use mathlib.Core.{Bool.Bool, Bool.true, Bool.false, Bool.cond, Bool.not, List.List}
 use lib.IntN.{ℤ}
-use Rattle.wire.specs.Replies.{replyOf}
-use Rattle.wire.specs.declared.reply.Reply.{Reply}
-use Rattle.modes.specs.declared.Mode.{Mode}
-use Rattle.modes.specs.declared.Limits.{Limits}
-use Rattle.command.specs.Decode.{fewerThanFour, decodeOf}
-use Rattle.command.specs.declared.Header.{Header}
+use Rattle.wire.specs.{Replies.replyOf, declared.reply.Reply.Reply}
+use Rattle.modes.specs.{declared.Mode.Mode, declared.Limits.Limits}
+use Rattle.command.specs.{Decode.fewerThanFour, Decode.decodeOf, declared.Header.Header}
 use Rattle.command.specs.declared.Refusal as refusal
 use Rattle.command.specs.declared.Decoded as decoded
-use Rattle.memory.specs.Memory.{loadOf, defaultedOf, setIn, resetIn, savedOf}
-use Rattle.memory.specs.declared.Memory.{Memory}
+use Rattle.memory.specs.{Memory.loadOf, Memory.defaultedOf, Memory.setIn, Memory.resetIn, Memory.savedOf, declared.Memory.Memory}
 use Rattle.replies.specs.Layouts.{shortReply, faultsReply, housekeepingReply, parameterReply}
-use Rattle.state.specs.Parts.{withTimer}
-use Rattle.state.specs.declared.parts.Board.{Board}
+use Rattle.state.specs.{Parts.withTimer, declared.parts.Board.Board}
 use Rattle.answers.specs.Answers.{headerOf, new, statOf, silentOf, replyingOf, shortTo}
-use Rattle.answers.specs.Parameters.{valueRead}
-use Rattle.answers.specs.declared.Answer.{Answer}
-use Rattle.answers.specs.declared.Outcome.{Outcome}
+use Rattle.answers.specs.{Parameters.valueRead, declared.Answer.Answer, declared.Outcome.Outcome, declared.Commanded.Commanded}
 use Rattle.answers.specs.declared.Outcome.the-variants.{WrongWordCount, NoTransfer, Answered}
-use Rattle.answers.specs.declared.Commanded.{Commanded}
-use Rattle.effects.specs.Effects.{newWhere, runOf}
-use Rattle.effects.specs.Parts.{memoryChangeOf, layoutOf}
-use Rattle.commands.specs.Step.{isStartup}
-use Rattle.commands.specs.declared.asked.Asked.{Asked}
-use Rattle.commands.specs.declared.asked.Asked.the-variants.{Silence, Refusal, Run}
-use Rattle.effects.specs.declared.parts.Layout.{Layout}
-use Rattle.effects.specs.declared.parts.Layout.the-variants.{Short, Faults, Housekeeping, Parameter}
+use Rattle.effects.specs.{Effects.newWhere, Effects.runOf, Parts.memoryChangeOf, Parts.layoutOf, declared.parts.Layout.Layout}
 use Rattle.effects.specs.declared.parts.MemoryChange.{MemoryChange}
+use Rattle.commands.specs.{Step.isStartup, declared.asked.Asked.Asked}
+use Rattle.commands.specs.declared.asked.Asked.the-variants.{Silence, Refusal, Run}
+use Rattle.effects.specs.declared.parts.Layout.the-variants.{Short, Faults, Housekeeping, Parameter}
 use Rattle.effects.specs.declared.parts.MemoryChange.the-variants.{AsBefore, Set, ResetOne, Defaults, Load, Save, Restart}
 
 -- ---- the checks 1 to 5, and 7 for key, id and value, by their numbers
@@ -107,7 +96,8 @@ isRestart Load = false
 isRestart (Save given) = false
 isRestart Restart = true
 
--- ---- the reply, of a board with its memory as after the command and its words as new as before it. The longer layouts are of accepted commands alone, so they do not look at the outcome.
+-- ---- the reply, of a board with its memory as after the command and its words as new as before it. The longer layouts
+-- are of accepted commands alone, so they do not look at the outcome.
 abbrev pub layoutAsked : Asked → Layout
 layoutAsked (Silence outcome) = Short
 layoutAsked (Refusal answer) = Short

@@ -1,23 +1,18 @@
--- Step 4 of a tick: document 01's checks in their order, the first that applies answers. Checks 1, 3, 4, 5 and 7 for key, id and value are the decoder's; 6, and 7 for
--- channel and checksum, are each command's own. Assumes nothing: these are definitions.
+-- Step 4 of a tick: document 01's checks in their order, the first that applies answers. Checks 1, 3, 4, 5 and 7 for
+-- key, id and value are the decoder's; 6, and 7 for channel and checksum, are each command's own. Assumes nothing:
+-- these are definitions.
 use Prim.Native.Nat.{ℕ}
-use mathlib.Core.Bool.{Bool, true, false, cond, not}
-use mathlib.Core.List.{List}
+use mathlib.Core.{Bool.Bool, Bool.true, Bool.false, Bool.cond, Bool.not, List.List}
 use lib.IntN.{ℤ}
-use Rattle.modes.specs.declared.Mode.{Mode}
+use Rattle.modes.specs.{declared.Mode.Mode, declared.Limits.Limits}
 use Rattle.modes.specs.declared.Mode.the-variants.{Startup, Nominal, Safety, Emergency}
-use Rattle.modes.specs.declared.Limits.{Limits}
-use Rattle.command.specs.Decode.{fewerThanFour, codeOf, decodeOf}
-use Rattle.command.specs.declared.Refusal.{Refusal}
-use Rattle.command.specs.declared.Decoded.{Decoded}
+use Rattle.command.specs.{Decode.fewerThanFour, Decode.codeOf, Decode.decodeOf, declared.Refusal.Refusal, declared.Decoded.Decoded}
 use Rattle.command.specs.declared.Decoded.the-variants.{Run, Refused}
-use Rattle.state.specs.Parts.{modeOf}
-use Rattle.state.specs.declared.parts.Board.{Board}
-use Rattle.answers.specs.Answers.{headerOf, silentOf, refusedOf, notThisBoardOf}
-use Rattle.effects.specs.Effects.{runOf}
-use Rattle.answers.specs.declared.Answer.{Answer}
-use Rattle.answers.specs.declared.Outcome.the-variants.{NoTransfer, Answered}
+use Rattle.state.specs.{Parts.modeOf, declared.parts.Board.Board}
+use Rattle.answers.specs.{Answers.headerOf, Answers.silentOf, Answers.refusedOf, Answers.notThisBoardOf, declared.Answer.Answer}
 use Rattle.answers.specs.declared.Commanded.{Commanded}
+use Rattle.effects.specs.Effects.{runOf}
+use Rattle.answers.specs.declared.Outcome.the-variants.{NoTransfer, Answered}
 
 unfoldable pub isStartup : Mode → Bool
 isStartup Startup = true

@@ -57,7 +57,8 @@ fn refused_by(r: Refusal) -> Asked
     }
 }
 
-// What a transfer asks of a board in a mode and with a header; where none was sent, nothing. Its length and the mode are asked before the decoder is.
+// What a transfer asks of a board in a mode and with a header; where none was sent, nothing. Its length and the mode
+// are asked before the decoder is.
 pub fn asked_of(mode: Mode, own: Header, sent: bool, transfer: &[u8]) -> Asked
     ensures { λ r. ⌜ r ≡ askedOf mode own sent (now (transfer .entry)) ⌝ }
 {

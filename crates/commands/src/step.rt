@@ -42,7 +42,8 @@ fn new_where(fresh: bool) -> u8
     0x00
 }
 
-// The reply of a board whose memory is as after the command and whose words are as new as before it, with the board's own header and not the one that was received.
+// The reply of a board whose memory is as after the command and whose words are as new as before it, with the board's
+// own header and not the one that was received.
 fn reply_to(b: Board, received: Received, outcome: Outcome, layout: Layout) -> Reply
     ensures { λ r. ⌜ r ≡ replyTo (received .code) outcome layout b ⌝ }
 {
@@ -120,7 +121,8 @@ fn memory_after(m: Memory, change: MemoryChange) -> Memory
 }
 
 // Step 4: no transfer, or one of any length and content. Where none was sent, the slice is not looked at.
-// What is put into the board is found from the board as it came, but for the reply, which a changed memory shows in; so the board is handed to nobody who changes it.
+// What is put into the board is found from the board as it came, but for the reply, which a changed memory shows in; so
+// the board is handed to nobody who changes it.
 pub fn commanded(mut b: Board, rail: i16, limits: Limits, sent: bool, transfer: &[u8]) -> Commanded
     ensures { λ r. ⌜ r ≡ commandedOf rail limits sent (now (transfer .entry)) b ⌝ }
 {

@@ -1,5 +1,5 @@
--- One bit of the division, as the code does it: twice the remainder without its highest bit, and the divisor taken off where that bit and the message's differ.
--- Assumes nothing.
+-- One bit of the division, as the code does it: twice the remainder without its highest bit, and the divisor taken off
+-- where that bit and the message's differ. Assumes nothing.
 use mathlib.Core.Path.{_≡_, refl, sym, ap, _∙_}
 use mathlib.Core.Bool.{Bool, true, false, cond}
 use Prim.Native.Nat.{ℕ, zero, suc, _+_, _*_, _^_, _<_, _≤_}

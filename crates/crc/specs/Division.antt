@@ -1,11 +1,9 @@
--- The checksum of document 01: what is left of the bytes, high bit first and times x^16, on division by x^16 + x^12 + x^5 + 1, from a start of 0xFFFF.
--- A polynomial over the two-element field is a number: the coefficient of x^k is its binary digit k. There a sum and a difference are both `bitXor`.
--- Assumes nothing: these are definitions.
+-- The checksum of document 01: what is left of the bytes, high bit first and times x^16, on division by x^16 + x^12 +
+-- x^5 + 1, from a start of 0xFFFF. A polynomial over the two-element field is a number: the coefficient of x^k is its
+-- binary digit k. There a sum and a difference are both `bitXor`. Assumes nothing: these are definitions.
 use Prim.Native.Nat.{ℕ, _+_, _*_, _/_, _%_, _^_}
-use mathlib.Core.Bool.{cond}
-use mathlib.Core.List.{List, [], _∷_}
-use lib.Bits.{bitXor}
-use lib.Dec.{leb}
+use mathlib.Core.{Bool.cond, List.List, List.[], List._∷_}
+use lib.{Bits.bitXor, Dec.leb}
 
 -- x^16 + x^12 + x^5 + 1
 abbrev pub polynomial : ℕ

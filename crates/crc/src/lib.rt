@@ -1,4 +1,5 @@
-// The checksum over the settings: division by x^16 + x^12 + x^5 + 1, high bit first, from a start of 0xFFFF, with no final change.
+// The checksum over the settings: division by x^16 + x^12 + x^5 + 1, high bit first, from a start of 0xFFFF, with no
+// final change.
 ghost use mathlib.Core.Path.{_≡_};
 ghost use Prim.Native.Nat.{_<_};
 ghost use Rattle.crc.specs.Division.{divided, alongBits, bitsOf, continuedOf, checksumOf};
@@ -41,7 +42,8 @@ fn wide(b: u8) -> u16
     b as u16
 }
 
-// The checksum of some bytes and of those behind them, from the checksum of the first: so a list can be walked in parts.
+// The checksum of some bytes and of those behind them, from the checksum of the first: so a list can be walked in
+// parts.
 pub fn continued(from: u16, bytes: &[u8]) -> u16
     ensures { λ r. ⌜ r ≡ continuedOf from (now (bytes .entry)) ⌝ }
 {

@@ -1,31 +1,23 @@
--- Document 01's effects, command by command, in its order. `code` is the command's code, from which the reply's is made; the last argument is the board as the command finds it.
--- Assumes nothing: these are definitions.
+-- Document 01's effects, command by command, in its order. `code` is the command's code, from which the reply's is
+-- made; the last argument is the board as the command finds it. Assumes nothing: these are definitions.
 use Prim.Native.Nat.{ℕ}
 use mathlib.Core.Bool.{Bool, true, false, cond, not}
 use lib.IntN.{ℤ}
 use Rattle.wire.specs.Replies.{replyOf}
-use Rattle.modes.specs.Commands.{toSafety, toNominal}
-use Rattle.modes.specs.declared.Mode.{Mode}
+use Rattle.modes.specs.{Commands.toSafety, Commands.toNominal, declared.Mode.Mode, declared.Limits.Limits}
 use Rattle.modes.specs.declared.Mode.the-variants.{Startup, Nominal, Safety, Emergency}
-use Rattle.modes.specs.declared.Limits.{Limits}
-use Rattle.modes.specs.declared.Commanded as change
+use Rattle.modes.specs.declared.ModeAnswer as change
 use Rattle.channels.specs.Operations.{groupOn, groupOff, groupState, switchOn, switchOff, commandEnabledOff, wrongToSwitchOn, wrongToSwitchOff}
 use Rattle.channels.specs.declared.Channels.{Channels}
-use Rattle.command.specs.declared.Group.{Group}
-use Rattle.command.specs.declared.Command.{Command}
-use Rattle.memory.specs.Memory.{loadOf, defaultedOf, setIn, resetIn, savedOf}
-use Rattle.memory.specs.declared.Memory.{Memory}
+use Rattle.command.specs.{declared.Group.Group, declared.Command.Command}
+use Rattle.memory.specs.{Memory.loadOf, Memory.defaultedOf, Memory.setIn, Memory.resetIn, Memory.savedOf, declared.Memory.Memory}
 use Rattle.replies.specs.Layouts.{faultsReply, housekeepingReply, parameterReply}
-use Rattle.state.specs.Parts.{modeOf, withPhase, withMemory, withChannels, withMeasured}
-use Rattle.state.specs.Start.{commandResetOf}
-use Rattle.state.specs.Change.{enteringOf}
-use Rattle.state.specs.declared.parts.Board.{Board}
-use Rattle.state.specs.declared.parts.Measured.{Measured}
+use Rattle.state.specs.{Parts.modeOf, Parts.withPhase, Parts.withMemory, Parts.withChannels, Parts.withMeasured, Start.commandResetOf}
+use Rattle.state.specs.{Change.enteringOf, declared.parts.Board.Board, declared.parts.Measured.Measured}
 use Rattle.answers.specs.Answers.{headerOf, new, silentOf, acceptedWith, acceptedOf, refusedOf}
-use Rattle.answers.specs.Parameters.{valueRead}
+use Rattle.answers.specs.{Parameters.valueRead, declared.Commanded.Commanded}
 use Rattle.answers.specs.declared.Answer.the-variants.{Accepted, NotAvailable, Wrong}
 use Rattle.answers.specs.declared.Outcome.the-variants.{Answered}
-use Rattle.answers.specs.declared.Commanded.{Commanded}
 
 -- ---- 0x10, 0x12, 0x14, 0x16, 0x18
 unfoldable pub isNominal : Mode → Bool
@@ -65,11 +57,12 @@ channelOffOf code one b =
 unfoldable pub cancelledOf : ℕ → Board → Commanded
 cancelledOf code b = acceptedOf code (withChannels (commandEnabledOff (b .profile .fitted) (b .profile .forced) (b .channels)) b)
 
--- ---- 0x30 and 0x32: the mode that the command leads to, with what the change brings for the channels; 6 where it is not available
-unfoldable pub switchedModeOf : ℕ → change.Commanded → Board → Commanded
-switchedModeOf code (change.Commanded.Accepted phase) b =
+-- ---- 0x30 and 0x32: the mode that the command leads to, with what the change brings for the channels; 6 where it is
+-- not available
+unfoldable pub switchedModeOf : ℕ → change.ModeAnswer → Board → Commanded
+switchedModeOf code (change.ModeAnswer.Accepted phase) b =
     acceptedOf code (withPhase phase (withChannels (enteringOf (modeOf b) (phase .mode) (b .profile) (b .channels)) b))
-switchedModeOf code change.Commanded.Unavailable b = refusedOf NotAvailable code b
+switchedModeOf code change.ModeAnswer.Unavailable b = refusedOf NotAvailable code b
 
 -- ---- 0x42: the sets of channels, and how often each one tripped
 unfoldable pub faultsOf : ℕ → Board → Commanded
@@ -93,8 +86,8 @@ housekeepingOf code b =
     (withMeasured (seen (b .measured)) b)
 
 -- ---- 0x82, 0x84 and 0x86: a parameter is read, set, or reset; the reply has the value that the id then reads
-unfoldable pub parameterOf : ℕ → ℕ → Memory → Board → Commanded
-parameterOf code id memory b =
+unfoldable pub parameterAnswered : ℕ → ℕ → Memory → Board → Commanded
+parameterAnswered code id memory b =
     acceptedWith
     (replyOf (parameterReply (headerOf (b .profile)) code new id (valueRead (b .profile) memory (b .resets) id)))
     (withMemory memory b)
@@ -127,9 +120,9 @@ runOf rail limits code Command.SwitchToSafety b = switchedModeOf code (toSafety 
 runOf rail limits code Command.SwitchToNominal b = switchedModeOf code (toNominal (b .phase) rail limits) b
 runOf rail limits code Command.GetOvercurrentFaultState b = faultsOf code b
 runOf rail limits code Command.GetHousekeeping b = housekeepingOf code b
-runOf rail limits code (Command.GetParameter id) b = parameterOf code id (b .memory) b
-runOf rail limits code (Command.SetParameter id v) b = parameterOf code id (setIn id v (b .memory)) b
-runOf rail limits code (Command.ResetParameter id) b = parameterOf code id (resetIn id (b .memory)) b
+runOf rail limits code (Command.GetParameter id) b = parameterAnswered code id (b .memory) b
+runOf rail limits code (Command.SetParameter id v) b = parameterAnswered code id (setIn id v (b .memory)) b
+runOf rail limits code (Command.ResetParameter id) b = parameterAnswered code id (resetIn id (b .memory)) b
 runOf rail limits code Command.ResetConfiguration b = rememberedOf code (defaultedOf (b .memory)) b
 runOf rail limits code Command.LoadConfiguration b = rememberedOf code (loadOf (b .memory)) b
 runOf rail limits code (Command.SaveConfiguration given) b = savedIn code given b

@@ -1,12 +1,11 @@
--- The effects part by part, for code that changes a board in place: some parts of a board, what becomes of its memory, and the layout of its reply. That these are the effects
--- of `Effects` is shown where they are put together, in proofs/Whole of `commands`. Assumes nothing: these are definitions.
+-- The effects part by part, for code that changes a board in place: some parts of a board, what becomes of its memory,
+-- and the layout of its reply. That these are the effects of `Effects` is shown where they are put together, in
+-- proofs/Whole of `commands`. Assumes nothing: these are definitions.
 use Prim.Native.Nat.{ℕ}
 use Rattle.command.specs.declared.Command.{Command}
 use Rattle.answers.specs.declared.Commanded.{Commanded}
-use Rattle.effects.specs.declared.parts.Obeyed.{Obeyed}
-use Rattle.effects.specs.declared.parts.Layout.{Layout}
+use Rattle.effects.specs.{declared.parts.Obeyed.Obeyed, declared.parts.Layout.Layout, declared.parts.MemoryChange.MemoryChange}
 use Rattle.effects.specs.declared.parts.Layout.the-variants.{Short, Faults, Housekeeping, Parameter}
-use Rattle.effects.specs.declared.parts.MemoryChange.{MemoryChange}
 use Rattle.effects.specs.declared.parts.MemoryChange.the-variants.{AsBefore, Set, ResetOne, Defaults, Load, Save, Restart}
 
 -- Nothing of what `obeyedIn` takes of an answered command depends on the command's code, so its contracts need none:

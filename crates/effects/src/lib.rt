@@ -1,4 +1,5 @@
-// What each command does once the decoder let it through, part by part: to some parts of a board, to its memory, and how its reply is laid out.
+// What each command does once the decoder let it through, part by part: to some parts of a board, to its memory, and
+// how its reply is laid out.
 ghost use mathlib.Core.Path.{_≡_};
 ghost use Rattle.answers.specs.Answers.{acceptedOf, refusedOf};
 ghost use Rattle.state.specs.Parts.{withPhase, withChannels};
@@ -58,15 +59,15 @@ pub fn only_fed(b: Board, answer: Answer) -> Obeyed
 }
 
 // 0x30 and 0x32: the mode, and with it the channels, where the change is available.
-fn switched_mode(b: Board, change: modes::Commanded) -> Obeyed
+fn switched_mode(b: Board, change: modes::ModeAnswer) -> Obeyed
     ensures { λ r. ⌜ r ≡ obeyedIn (switchedModeOf anyCode change b) ⌝ }
 {
     match change {
-        modes::Commanded::Accepted(phase) => {
+        modes::ModeAnswer::Accepted(phase) => {
             let channels = state::entering(b.phase.mode(), phase.mode(), b.profile, b.channels);
             accepted(b, phase, channels)
         }
-        modes::Commanded::Unavailable => only_fed(b, Answer::NotAvailable),
+        modes::ModeAnswer::Unavailable => only_fed(b, Answer::NotAvailable),
     }
 }
 

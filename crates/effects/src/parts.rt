@@ -1,10 +1,12 @@
-// The parts in which a command is obeyed. A board is changed in place, since handing it back as a whole costs a copy of it at each turn.
+// The parts in which a command is obeyed. A board is changed in place, since handing it back as a whole costs a copy of
+// it at each turn.
 use answers::Outcome;
 use channels::Channels;
 use modes::ModeAge;
 use value::ParamValue;
 
-// Mode and age, timer, channels, and whether the words are new, as a transfer leaves them; what the tick tells of it, and whether a reply was made. What else a restart changes is left to `state`.
+// Mode and age, timer, channels, and whether the words are new, as a transfer leaves them; what the tick tells of it,
+// and whether a reply was made. What else a restart changes is left to `state`.
 pub struct Obeyed {
     pub phase: ModeAge,
     pub timer: u64,

@@ -1,11 +1,8 @@
--- What a text says from a place on. A text is a list of bytes; a parser takes a text and a place in it, and gives what it reads there with
--- the place behind it, or fails. Assumes nothing: these are definitions.
+-- What a text says from a place on. A text is a list of bytes; a parser takes a text and a place in it, and gives what
+-- it reads there with the place behind it, or fails. Assumes nothing: these are definitions.
 use Prim.Native.Nat.{ℕ, zero, suc, _+_, _-_}
-use mathlib.Core.Bool.{cond}
-use mathlib.Core.Option.{Option, none, some}
-use mathlib.Core.List.{List, [], _∷_}
-use lib.Dec.{eqb}
-use lib.ListN.{length, getD, take, drop}
+use mathlib.Core.{Bool.cond, Option.Option, Option.none, Option.some, List.List, List.[], List._∷_}
+use lib.{Dec.eqb, ListN.length, ListN.getD, ListN.take, ListN.drop}
 
 infixl 20 _>>=_ _>>_
 infixr 10 _<|>_

@@ -1,12 +1,8 @@
 -- The numbers of a text: decimal ones, with and without a sign, and hex ones. Assumes nothing: these are definitions.
 use Prim.Native.Nat.{ℕ, zero, suc, _+_, _-_, _*_}
-use mathlib.Core.Bool.{Bool, true, false, cond, not}
-use mathlib.Core.List.{List, [], _∷_}
-use lib.Dec.{eqb, leb}
-use lib.IntN.{ℤ, pos, negsuc}
-use lib.ListN.{length, drop}
-use Rattle.hex.specs.Hex.{between, digitOf}
-use Rattle.hex.specs.declared.Hex.{Hex}
+use mathlib.Core.{Bool.Bool, Bool.true, Bool.false, Bool.cond, Bool.not, List.List, List.[], List._∷_}
+use lib.{Dec.eqb, Dec.leb, IntN.ℤ, IntN.pos, IntN.negsuc, ListN.length, ListN.drop}
+use Rattle.hex.specs.{Hex.between, Hex.digitOf, declared.Hex.Hex}
 use Rattle.hex.specs.declared.Hex.the-variants.{Value, Bad}
 use Rattle.grammar.specs.Grammar.{Read, fails, reads, Parser, _>>=_, _>>_, pure, _<|>_, peekAt, byte}
 

@@ -1,18 +1,14 @@
--- What each answer of the readers says, as the grammar has it: what was read and the place behind it, or nothing. Assumes nothing: these are definitions.
+-- What each answer of the readers says, as the grammar has it: what was read and the place behind it, or nothing.
+-- Assumes nothing: these are definitions.
 use Prim.Native.Nat.{ℕ, _-_, _≤_, _<_}
 use mathlib.Core.List.{List}
-use lib.IntN.{ℤ}
-use lib.ListN.{take, drop}
-use Rattle.grammar.specs.Grammar.{Read, fails, reads}
-use Rattle.grammar.specs.declared.Next.{Next}
+use lib.{IntN.ℤ, ListN.take, ListN.drop}
+use Rattle.grammar.specs.{Grammar.Read, Grammar.fails, Grammar.reads, declared.Next.Next, declared.Number.Number}
+use Rattle.grammar.specs.{declared.Signed.Signed, declared.Word.Word, declared.Place.Place}
 use Rattle.grammar.specs.declared.Next.the-variants.{To, Not as NotNext}
-use Rattle.grammar.specs.declared.Number.{Number}
 use Rattle.grammar.specs.declared.Number.the-variants.{Is as IsNumber, Not as NotNumber}
-use Rattle.grammar.specs.declared.Signed.{Signed}
 use Rattle.grammar.specs.declared.Signed.the-variants.{Is as IsSigned, Not as NotSigned}
-use Rattle.grammar.specs.declared.Word.{Word}
 use Rattle.grammar.specs.declared.Word.the-variants.{Is as IsWord, Not as NotWord}
-use Rattle.grammar.specs.declared.Place.{Place}
 use Rattle.grammar.specs.declared.Place.the-variants.{At, Never}
 
 abbrev pub seenNext : Next → Read (Unit {0})
@@ -62,7 +58,8 @@ abbrev pub placeRefusal : Place → ℕ
 placeRefusal (At place) = 0
 placeRefusal Never = 14
 
--- document 01's number where this part has to stand: without it a sheet is not of its form. Tried as one of two ways it is no refusal yet. 0 is none
+-- document 01's number where this part has to stand: without it a sheet is not of its form. Tried as one of two ways it
+-- is no refusal yet. 0 is none
 abbrev pub refusalOf : {A : Type 0} → Read A → ℕ
 refusalOf fails = 14
 refusalOf (reads a j) = 0

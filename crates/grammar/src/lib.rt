@@ -1,4 +1,5 @@
-// The parts of which a sheet is put together, each read at a place of a text. A place may be any: past the end nothing is read.
+// The parts of which a sheet is put together, each read at a place of a text. A place may be any: past the end nothing
+// is read.
 ghost use mathlib.Core.Path.{_≡_};
 ghost use Prim.Native.Nat.{_<_, _≤_};
 ghost use lib.ListN.{length};
@@ -84,7 +85,8 @@ pub enum Number {
     Not,
 }
 
-// A decimal number of at most limit. Reading stops once the limit is passed, so that any count of digits may come and nothing overflows.
+// A decimal number of at most limit. Reading stops once the limit is passed, so that any count of digits may come and
+// nothing overflows.
 pub fn read_number(s: &[u8], at: usize, limit: u32) -> Number
     ensures is { λ r. ⌜ seenNumber r ≡ number limit (now (s .entry)) at ⌝ }
     ensures number { λ r. ⌜ numberRefusal r ≡ refusalOf (number limit (now (s .entry)) at) ⌝ }
@@ -128,8 +130,8 @@ pub enum Signed {
     Not,
 }
 
-// A number from -32768 to 32767, with a - in front if it is below 0. Its value comes from its pattern, since a magnitude of 32768 has no
-// place in the type.
+// A number from -32768 to 32767, with a - in front if it is below 0. Its value comes from its pattern, since a
+// magnitude of 32768 has no place in the type.
 pub fn read_signed(s: &[u8], at: usize) -> Signed
     ensures is { λ r. ⌜ seenSigned r ≡ signed (now (s .entry)) at ⌝ }
     ensures number { λ r. ⌜ signedRefusal r ≡ refusalOf (signed (now (s .entry)) at) ⌝ }

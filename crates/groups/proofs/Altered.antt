@@ -1,4 +1,5 @@
--- Why the sentences come to that: by going through them, and for the single commands by the order of document 01's checks. Assumes nothing.
+-- Why the sentences come to that: by going through them, and for the single commands by the order of document 01's
+-- checks. Assumes nothing.
 use Prim.Native.Nat.{ℕ, suc, _<_}
 use mathlib.Core.Path.{_≡_, refl, sym, ap, _∙_, subst}
 use mathlib.Core.Bool.{Bool, true, false, not, _&&_, _||_, and-false, false≢true}
@@ -37,7 +38,8 @@ unnamed (at k each named becomes f ∷ rest) code ch e = cases (eqb code k && na
 other : (code k : ℕ) (codes : List ℕ) → isIn code codes ≡ false → isIn k codes ≡ true → eqb code k ≡ false
 other code k codes out here = cases (eqb code k) (λ e. absurd (false≢true (sym out ∙ ap (λ (x : ℕ). isIn x codes) (eqb-true code k e) ∙ here))) (λ e. e)
 
--- what is true of a channel, and of what each sentence that names it makes of it, is true of what the sentences make of it
+-- what is true of a channel, and of what each sentence that names it makes of it, is true of what the sentences make of
+-- it
 infixr 20 _and_
 pub data Makes (P : Chan → Type 0) (code : ℕ) (ch : Chan) : List Sentence → Type 0 where
   none : Makes P code ch []
@@ -122,7 +124,8 @@ module _ (rail : ℤ) (limits : Limits) (s : List ℕ) (b : Board) where
       let z : first (checksOf rail limits b s) ≡ 0 = cc in
       none-here 6 _ _ (past 6 _ _ (past 4 _ _ (past 6 _ _ (past 6 _ _ (past 5 _ _ (past 4 _ _ (past 3 _ _ (past 2 _ _ (past 1 _ _ (past 0 _ _ z))))))))))
 
-  -- a channel that is not wrong to switch on is there and fitted; one that is not wrong to switch off is command-enabled too
+  -- a channel that is not wrong to switch on is there and fitted; one that is not wrong to switch off is
+  -- command-enabled too
   right-on : wrongToSwitchOn (b .profile .fitted) (byteAfter s) ≡ false → (byteAfter s < 32) × (isFitted b s (byteAfter s) ≡ true)
   right-on w =
       let n = neither (ltb 31 (byteAfter s)) (not (has (b .profile .fitted) (byteAfter s))) w in

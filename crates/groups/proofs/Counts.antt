@@ -1,4 +1,5 @@
--- Why the counts are what they are: step 3 raises one by 1, up to 65,535, and a reset clears them; nothing else of a tick touches one. Assumes nothing.
+-- Why the counts are what they are: step 3 raises one by 1, up to 65,535, and a reset clears them; nothing else of a
+-- tick touches one. Assumes nothing.
 use Prim.Native.Nat.{ℕ, suc, _+_, _<_, _≤_, min}
 use mathlib.Core.Path.{_≡_, refl, ap, _∙_}
 use mathlib.Core.Bool.{Bool, true, false, cond, _&&_, _||_, and-false}
@@ -170,7 +171,8 @@ line-counts : (c : ℕ) (received : List ℕ) (room : ℕ) (m : Machine) → cou
 unfolding heardOf
 line-counts c received room m = heard-counts c (lineOf (m .board .form) received room) m
 
--- ---- a run: where it has no reset, the count that it starts with and the ticks that took the channel off; else those behind the last reset alone
+-- ---- a run: where it has no reset, the count that it starts with and the ticks that took the channel off; else those
+-- behind the last reset alone
 at-most : (reset off : Bool) (n : ℕ) → n ≤ 65535 → countNext reset off n ≤ 65535
 at-most true off n h = omega arith
 at-most false true n h = omega arith

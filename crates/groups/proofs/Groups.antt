@@ -1,5 +1,6 @@
--- Why a command alters the channels that document 01 names for it and no others. Each command of the base list is run on any board; the laws of `channels` say what its
--- operation makes of one channel, and that is what the sentences say. Assumes nothing.
+-- Why a command alters the channels that document 01 names for it and no others. Each command of the base list is run
+-- on any board; the laws of `channels` say what its operation makes of one channel, and that is what the sentences say.
+-- Assumes nothing.
 use Prim.Native.Nat.{ℕ, suc, _<_}
 use mathlib.Core.Path.{_≡_, refl, sym, ap, _∙_, subst}
 use mathlib.Core.Bool.{Bool, true, false, cond, not, _&&_, and-true, and-false, false≢true}
@@ -28,7 +29,7 @@ use Rattle.channels.specs.declared.Channels.{Channels}
 use Rattle.channels.proofs.Sets.{allBelow-each}
 use Rattle.channels.proofs.Whole.{Held}
 use Rattle.channels.proofs.Laws as channel
-use Rattle.command.specs.Table.{table, find}
+use Rattle.command.specs.Table.{commandTable, find}
 use Rattle.command.specs.Codes.{isIn, baseCodes}
 use Rattle.command.specs.Decode.{fewerThanFour, headerIs, codeOf, byteAfter, idOf, valuePart, groupIn, getBy, getting, valued, setBy, setting, resetBy, resetting, carried, listed, decodeBy, decodeOf}
 use Rattle.command.specs.declared.Group.{Group}
@@ -46,7 +47,7 @@ use Rattle.state.specs.declared.parts.Board.{Board}
 use Rattle.answers.specs.Answers.{toldNumber, headerOf, acceptedWith, acceptedOf, refusedOf, notThisBoardOf}
 use Rattle.answers.specs.declared.Answer.{Answer}
 use Rattle.answers.specs.declared.Commanded.{Commanded}
-use Rattle.effects.specs.Effects.{isNominal, switchedOf, groupOnOf, groupOffOf, groupStateOf, channelOnOf, channelOffOf, cancelledOf, switchedModeOf, faultsOf, housekeepingOf, parameterOf as parameterRun, rememberedOf, savedIn, restartedOf, runOf}
+use Rattle.effects.specs.Effects.{isNominal, switchedOf, groupOnOf, groupOffOf, groupStateOf, channelOnOf, channelOffOf, cancelledOf, switchedModeOf, faultsOf, housekeepingOf, parameterAnswered as parameterRun, rememberedOf, savedIn, restartedOf, runOf}
 use Rattle.commands.specs.Step.{isStartup, turnedDown, decodedOf, transferredOf, commandedOf}
 use Rattle.groups.specs.Groups.{maskIn, isSpokenOf, sentences, madeBy, Groups}
 
@@ -105,7 +106,8 @@ module _ (rail : ℤ) (limits : Limits) (s : List ℕ) (b : Board) where
     pub profile : after .profile ≡ b .profile
     pub phase : after .phase ≡ b .phase
 
-  -- that of an accepted command of code k has each channel as the sentences say; only 0xAA is a reset, and nothing else leads into startup
+  -- that of an accepted command of code k has each channel as the sentences say; only 0xAA is a reset, and nothing else
+  -- leads into startup
   pub record Made (k : ℕ) (after : Board) : Type 0 where
     pub one-by-one : (c : ℕ) → c < 32 → chan (after .channels) c ≡ madeBy (sentences b s c) k (chan (b .channels) c)
     pub held : Held (b .channels) → Held (after .channels)
@@ -342,10 +344,10 @@ module _ (rail : ℤ) (limits : Limits) (s : List ℕ) (b : Board) where
   keyed k needed key d p = plain k needed _ (behind k (not (eqb (byteAfter s) key)) WrongKey d p)
 
   -- by the base list, code by code
-  in-list : (code : ℕ) → isIn code baseCodes ≡ true → Run-leaves code (listed (find table code) s)
-  unfolding listed find table baseCodes carried getting setting resetting decodedOf runOf acceptedOf acceptedWith faultsOf housekeepingOf toSafety toNominal madeBy sentences
+  in-list : (code : ℕ) → isIn code baseCodes ≡ true → Run-leaves code (listed (find commandTable code) s)
+  unfolding listed find commandTable baseCodes carried getting setting resetting decodedOf runOf acceptedOf acceptedWith faultsOf housekeepingOf toSafety toNominal madeBy sentences
   in-list code h =
-      by-code (λ k. Run-leaves k (listed (find table k) s)) code baseCodes
+      by-code (λ k. Run-leaves k (listed (find commandTable k) s)) code baseCodes
       (keyed 0xAA 5 0xA6 _ restarted
       and plain 0x02 4 _ (plainly 0x02 _ refl refl refl refl (λ c. refl) refl)
       and plain 0x04 4 _ cancelled

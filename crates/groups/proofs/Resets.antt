@@ -1,5 +1,5 @@
--- Why a tick tells of a reset exactly where the board starts over: step 1 makes every age at least 1, no row of the table and no command but 0xAA leads into startup, and both
--- kinds of reset do so at age 0. Assumes nothing.
+-- Why a tick tells of a reset exactly where the board starts over: step 1 makes every age at least 1, no row of the
+-- table and no command but 0xAA leads into startup, and both kinds of reset do so at age 0. Assumes nothing.
 use Prim.Native.Nat.{ℕ, _+_, _<_, _≤_, min}
 use mathlib.Core.Path.{_≡_, refl, sym, ap, _∙_, subst}
 use mathlib.Core.Bool.{Bool, true, false, cond, _&&_, _||_, and-false, false≢true}
@@ -10,7 +10,7 @@ use lib.Dec.{eqb}
 use lib.IntN.{ℤ}
 use borrow.Author.Tests.{ne-eqb}
 use Rattle.laws.proofs.Cases.{cases}
-use Rattle.modes.specs.Table.{_at-least_, same, entered, Row, from_when_to_, table, first, stepOf, olderOf}
+use Rattle.modes.specs.Table.{_at-least_, same, entered, Row, from_when_to_, modeTable, first, stepOf, olderOf}
 use Rattle.modes.specs.declared.Mode.{Mode}
 use Rattle.modes.specs.declared.Mode.the-variants.{Startup, Nominal, Safety, Emergency}
 use Rattle.modes.specs.declared.ModeAge.{ModeAge}
@@ -72,7 +72,7 @@ by-rows ((from m when b to n) ∷ rows) s t o = by-row (same m (s .mode) && b) n
 step-goes-on : (s : ModeAge) (rail : ℤ) (limits : Limits) → 0 < s .age → isOver (stepOf s rail limits) ≡ false
 unfolding stepOf
 step-goes-on s rail limits h =
-    by-rows (table (s .age) rail limits) s
+    by-rows (modeTable (s .age) rail limits) s
     (nominal-or-safety (rail at-least limits .«safety_low»), (refl, (refl, (refl, (refl, tt)))))
     (old-goes-on s h)
 

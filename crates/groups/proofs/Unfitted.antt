@@ -1,4 +1,5 @@
--- Why a channel that is not fitted stays off and unlatched: it is so at a start, and each step of a tick keeps it. Assumes nothing.
+-- Why a channel that is not fitted stays off and unlatched: it is so at a start, and each step of a tick keeps it.
+-- Assumes nothing.
 use Prim.Native.Nat.{ℕ, _<_}
 use mathlib.Core.Path.{_≡_, refl, sym, _∙_, subst}
 use mathlib.Core.Bool.{Bool, true, false, cond, and-false}
@@ -40,7 +41,8 @@ use Rattle.groups.specs.Unfitted.{Unfitted}
 use Rattle.groups.proofs.Groups.{Leaves, refusing, accepting, leaves}
 use Rattle.groups.proofs.Altered.{none, _and_, made-so, failed}
 
--- ---- what every step keeps: sets of 32 channels with 32 counts, and the channels that p does not have off and unlatched
+-- ---- what every step keeps: sets of 32 channels with 32 counts, and the channels that p does not have off and
+-- unlatched
 pub record Sound (p : Profile) (ch : Channels) : Type 0 where
   pub held : Held ch
   pub dark : (c : ℕ) → c < 32 → has (p .fitted) c ≡ false → Dark (chan ch c)
@@ -97,7 +99,8 @@ made-dark s b code c ch f d =
     and none)
     d
 
--- a refused command alters no channel, and no sentence names one that is not fitted, but that of 0xAA, which turns it off
+-- a refused command alters no channel, and no sentence names one that is not fitted, but that of 0xAA, which turns it
+-- off
 pub commanded : (rail : ℤ) (limits : Limits) (sent : Bool) (s : List ℕ) (p : Profile) (b : Board) → Stands p b → Stands p (commandedOf rail limits sent s b .board)
 unfolding commandedOf
 commanded rail limits false s p b u = u

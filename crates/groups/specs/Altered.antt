@@ -1,22 +1,15 @@
--- Demand 2, what the sentences of Groups come to: which channels can change at all, that a force-enabled channel is turned off by no command but the reset, that no command
--- but the reset touches a count, and that 0x16 and 0x18 are accepted only for a channel that they then switch. For every board, rail, limits and transfer.
--- Assumes nothing: these are definitions.
+-- Demand 2, what the sentences of Groups come to: which channels can change at all, that a force-enabled channel is
+-- turned off by no command but the reset, that no command but the reset touches a count, and that 0x16 and 0x18 are
+-- accepted only for a channel that they then switch. For every board, rail, limits and transfer. Assumes nothing: these
+-- are definitions.
 use Prim.Native.Nat.{ℕ, _<_}
-use mathlib.Core.Path.{_≡_}
-use mathlib.Core.Bool.{true, false}
-use mathlib.Core.List.{List, [], _∷_}
-use lib.Dec.{eqb}
-use lib.IntN.{ℤ}
-use Rattle.modes.specs.Table.{same}
+use mathlib.Core.{Path._≡_, Bool.true, Bool.false, List.List, List.[], List._∷_}
+use lib.{Dec.eqb, IntN.ℤ}
+use Rattle.modes.specs.{Table.same, declared.Limits.Limits}
 use Rattle.modes.specs.declared.Mode.the-variants.{Nominal}
-use Rattle.modes.specs.declared.Limits.{Limits}
-use Rattle.channels.specs.Sets.{has}
-use Rattle.channels.specs.Chan.{Chan, chan}
-use Rattle.channels.specs.Operations.{onAndCleared, offAndCleared}
-use Rattle.command.specs.Codes.{isIn}
-use Rattle.command.specs.Decode.{codeOf, byteAfter}
-use Rattle.state.specs.Parts.{modeOf}
-use Rattle.state.specs.declared.parts.Board.{Board}
+use Rattle.channels.specs.{Sets.has, Chan.Chan, Chan.chan, Operations.onAndCleared, Operations.offAndCleared}
+use Rattle.command.specs.{Codes.isIn, Decode.codeOf, Decode.byteAfter}
+use Rattle.state.specs.{Parts.modeOf, declared.parts.Board.Board}
 use Rattle.groups.specs.Groups.{obeyed, Answers, sentences, namedBy, isCommandEnabled, isFitted}
 
 -- the commands that can alter a channel

@@ -1,17 +1,15 @@
--- Demand 2, the overcurrent counts: start a machine from an accepted profile and run it as you like. The count of a channel then says how often step 3 turned it off since the
--- machine was last reset, as far as 65,535 reaches. A tick refused with 9 did not happen and counts nothing, nor does a read of the text line. `m` is the machine before the
+-- Demand 2, the overcurrent counts: start a machine from an accepted profile and run it as you like. The count of a
+-- channel then says how often step 3 turned it off since the machine was last reset, as far as 65,535 reaches. A tick
+-- refused with 9 did not happen and counts nothing, nor does a read of the text line. `m` is the machine before the
 -- call, `bit` of true is 1 and of false 0. Assumes nothing: these are definitions.
 use Prim.Native.Nat.{ℕ, _+_, _<_, min}
-use mathlib.Core.Path.{_≡_}
-use mathlib.Core.Bool.{Bool, true, false, not, _&&_, _||_}
+use mathlib.Core.{Path._≡_, Bool.Bool, Bool.true, Bool.false, Bool.not, Bool._&&_, Bool._||_}
 use mathlib.Core.List.{List, [], _∷_}
 use lib.ListN.{getD}
 use Rattle.channels.specs.Sets.{has, bit}
 use Rattle.memory.specs.declared.Store.{Store}
-use Rattle.state.specs.Start.{keepsTheRules}
-use Rattle.state.specs.declared.parts.Profile.{Profile}
-use Rattle.unit.specs.Machine.{begunOf}
-use Rattle.unit.specs.declared.Machine.{Machine}
+use Rattle.state.specs.{Start.keepsTheRules, declared.parts.Profile.Profile}
+use Rattle.unit.specs.{Machine.begunOf, declared.Machine.Machine}
 use Rattle.unit.specs.Runs.{Sample, Call, tick, line, afterCall, after, happens, afterStep2}
 use Rattle.groups.specs.Resets.{tellsReset}
 

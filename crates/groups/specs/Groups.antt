@@ -1,28 +1,22 @@
--- Demand 2, groups: what a command does to the channels. Document 01 has, for each command, the channels that it is about and what becomes of them; every other channel stays as
--- it is, and so do all where the command is refused. Mask, fitted and forced channels may be any, the board need not be one that can be reached, and rail and limits are any.
--- `board` is the board as the command finds it, `s` the bytes of the transfer, `has set c` says that channel c is in the set, and `chan channels c` is channel c: whether it is
--- on, whether it is latched, and its count. A channel that becomes `onAndCleared` is on, `offAndCleared` off, both with no latch; `offAndLatchKept` is off with its latch as it
+-- Demand 2, groups: what a command does to the channels. Document 01 has, for each command, the channels that it is
+-- about and what becomes of them; every other channel stays as it is, and so do all where the command is refused. Mask,
+-- fitted and forced channels may be any, the board need not be one that can be reached, and rail and limits are any.
+-- `board` is the board as the command finds it, `s` the bytes of the transfer, `has set c` says that channel c is in
+-- the set, and `chan channels c` is channel c: whether it is on, whether it is latched, and its count. A channel that
+-- becomes `onAndCleared` is on, `offAndCleared` off, both with no latch; `offAndLatchKept` is off with its latch as it
 -- was; and all three keep the count. Assumes nothing: these are definitions.
 use Prim.Native.Nat.{ℕ, suc, _<_}
-use mathlib.Core.Path.{_≡_}
-use mathlib.Core.Bool.{Bool, true, false, cond, not, _&&_, _||_}
-use mathlib.Core.List.{List, [], _∷_}
-use mathlib.Core.Option.{some}
-use lib.Dec.{eqb, ltb}
-use lib.IntN.{ℤ}
-use lib.ListN.{length, drop}
+use mathlib.Core.{Path._≡_, Bool.Bool, Bool.true, Bool.false, Bool.cond, Bool.not, Bool._&&_, Bool._||_}
+use mathlib.Core.{List.List, List.[], List._∷_, Option.some}
+use lib.{Dec.eqb, Dec.ltb, IntN.ℤ, ListN.length, ListN.drop}
 use Rattle.wire.specs.Numbers.{number}
-use Rattle.modes.specs.Table.{same}
+use Rattle.modes.specs.{Table.same, declared.Limits.Limits}
 use Rattle.modes.specs.declared.Mode.the-variants.{Nominal}
-use Rattle.modes.specs.declared.Limits.{Limits}
-use Rattle.channels.specs.Sets.{has}
-use Rattle.channels.specs.Chan.{Chan, chan}
+use Rattle.channels.specs.{Sets.has, Chan.Chan, Chan.chan}
 use Rattle.channels.specs.Operations.{forceEnabled, commandEnabled, onAndCleared, offAndCleared, offAndLatchKept, clearOne}
 use Rattle.command.specs.Decode.{codeOf, byteAfter}
-use Rattle.state.specs.Parts.{modeOf}
-use Rattle.state.specs.declared.parts.Board.{Board}
-use Rattle.answers.specs.Answers.{toldNumber}
-use Rattle.answers.specs.declared.Commanded.{Commanded}
+use Rattle.state.specs.{Parts.modeOf, declared.parts.Board.Board}
+use Rattle.answers.specs.{Answers.toldNumber, declared.Commanded.Commanded}
 use Rattle.commands.specs.Step.{commandedOf}
 
 -- ---- the bytes of a transfer
@@ -63,7 +57,8 @@ module _ (board : Board) (s : List ℕ) (c : ℕ) where
   abbrev pub isTheOne : Bool
   isTheOne = eqb c (byteAfter s)
 
-  -- 0x10 group on, 0x12 group off, 0x14 group state, 0x16 one on, 0x18 one off, 0x04 all command-enabled off, 0x32 from nominal into safety, 0xAA reset
+  -- 0x10 group on, 0x12 group off, 0x14 group state, 0x16 one on, 0x18 one off, 0x04 all command-enabled off, 0x32 from
+  -- nominal into safety, 0xAA reset
   unfoldable pub sentences : List Sentence
   sentences =
       at 0x10 each (isFitted && isSpokenOf s c && isInTheMask) becomes onAndCleared
@@ -96,7 +91,8 @@ module _ (rail : ℤ) (limits : Limits) (s : List ℕ) (board : Board) where
   abbrev pub Answers : ℕ → Type 0
   Answers n = toldNumber (obeyed .outcome) ≡ some n
 
-  -- a transfer is answered; accepted, each channel is what the sentences make of it; refused, all channels are what they were; and without a transfer nothing changes
+  -- a transfer is answered; accepted, each channel is what the sentences make of it; refused, all channels are what
+  -- they were; and without a transfer nothing changes
   pub record Groups : Type 0 where
     pub answered : (n : ℕ) × Answers n
     pub accepted : Answers 0 → (c : ℕ) → c < 32 → chan (obeyed .board .channels) c ≡ madeBy (sentences board s c) (codeOf s) (chan (board .channels) c)

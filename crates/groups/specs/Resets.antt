@@ -1,13 +1,11 @@
--- When a tick resets the machine, by what it tells: by a watchdog reset as its event, or by a command 0xAA that it accepted; and that this is so. Of every machine, reachable or
--- not, a tick that happens leaves the board in startup at age 0 exactly where it tells of a reset, and the board is then the one that document 01 says. A tick refused with 9
+-- When a tick resets the machine, by what it tells: by a watchdog reset as its event, or by a command 0xAA that it
+-- accepted; and that this is so. Of every machine, reachable or not, a tick that happens leaves the board in startup at
+-- age 0 exactly where it tells of a reset, and the board is then the one that document 01 says. A tick refused with 9
 -- resets nothing. `m` is the machine before the tick. Assumes nothing: these are definitions.
 use Prim.Native.Nat.{ℕ, _+_, _<_, min}
-use mathlib.Core.Path.{_≡_}
-use mathlib.Core.Bool.{Bool, true, false, _&&_, _||_}
-use mathlib.Core.List.{[]}
+use mathlib.Core.{Path._≡_, Bool.Bool, Bool.true, Bool.false, Bool._&&_, Bool._||_, List.[]}
 use mathlib.Core.Option.{Option, none, some}
-use lib.Dec.{eqb}
-use lib.ListN.{replicate}
+use lib.{Dec.eqb, ListN.replicate}
 use Rattle.wire.specs.Replies.{shown}
 use Rattle.wire.specs.declared.forms.Form.the-variants.{Raw}
 use Rattle.modes.specs.Table.{same, entered}
@@ -17,11 +15,9 @@ use Rattle.command.specs.Decode.{codeOf}
 use Rattle.watchdog.specs.declared.Event.{Event}
 use Rattle.watchdog.specs.declared.Event.the-variants.{NoEvent, PeripheralReset, WatchdogReset}
 use Rattle.memory.specs.Memory.{loadedFrom}
-use Rattle.state.specs.Start.{watchdogResetOf, commandResetOf}
-use Rattle.state.specs.declared.parts.Board.{Board}
+use Rattle.state.specs.{Start.watchdogResetOf, Start.commandResetOf, declared.parts.Board.Board}
 use Rattle.answers.specs.Answers.{toldNumber}
-use Rattle.unit.specs.declared.Machine.{Machine}
-use Rattle.unit.specs.Runs.{Sample, told, happens, afterStep3, afterStep4}
+use Rattle.unit.specs.{declared.Machine.Machine, Runs.Sample, Runs.told, Runs.happens, Runs.afterStep3, Runs.afterStep4}
 
 -- ---- what it tells
 abbrev pub isByWatchdog : Event → Bool

@@ -1,11 +1,10 @@
--- Demand 2, the channels that a board does not have: whatever was done with a machine since its accepted start, such a channel is neither on nor latched, and the two sets hold
--- no number above 31. The profile is then still the one that the machine was started with. Assumes nothing: these are definitions.
+-- Demand 2, the channels that a board does not have: whatever was done with a machine since its accepted start, such a
+-- channel is neither on nor latched, and the two sets hold no number above 31. The profile is then still the one that
+-- the machine was started with. Assumes nothing: these are definitions.
 use Prim.Native.Nat.{ℕ, _≤_, _<_}
-use mathlib.Core.Path.{_≡_}
-use mathlib.Core.Bool.{false}
+use mathlib.Core.{Path._≡_, Bool.false}
 use Rattle.channels.specs.Sets.{has}
-use Rattle.unit.specs.declared.Machine.{Machine}
-use Rattle.unit.specs.Runs.{Reached}
+use Rattle.unit.specs.{declared.Machine.Machine, Runs.Reached}
 
 pub record OffAndUnlatched (m : Machine) (c : ℕ) : Type 0 where
   pub off : has (m .board .channels .on) c ≡ false

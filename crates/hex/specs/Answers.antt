@@ -1,18 +1,13 @@
 -- Document 01's number for each answer of this crate; 0 is no refusal. Assumes nothing: these are definitions.
 use Prim.Native.Nat.{ℕ}
 use mathlib.Core.Bool.{Bool, true, false, cond, not, _&&_}
-use mathlib.Core.Option.{Option, none, some}
-use mathlib.Core.List.{List, [], _∷_}
-use lib.Dec.{eqb, ltb}
-use lib.ListN.{length}
-use Rattle.hex.specs.Hex.{digitOf, payloadOf}
-use Rattle.hex.specs.declared.Hex.{Hex}
-use Rattle.hex.specs.declared.Hex.the-variants.{Value, Bad}
-use Rattle.hex.specs.declared.Payload.{Payload}
-use Rattle.hex.specs.declared.Payload.the-variants.{Bytes, NotOfForm, TooShort}
-use Rattle.hex.specs.declared.Written.{Written}
-use Rattle.hex.specs.declared.Written.the-variants.{Length, NoRoom}
+use mathlib.Core.{Option.Option, Option.none, Option.some, List.List, List.[], List._∷_}
+use lib.{Dec.eqb, Dec.ltb, ListN.length}
+use Rattle.hex.specs.{Hex.digitOf, Hex.payloadOf, declared.Hex.Hex, declared.Payload.Payload, declared.Written.Written}
 use Rattle.hex.specs.declared.Word.{Word}
+use Rattle.hex.specs.declared.Hex.the-variants.{Value, Bad}
+use Rattle.hex.specs.declared.Payload.the-variants.{Bytes, NotOfForm, TooShort}
+use Rattle.hex.specs.declared.Written.the-variants.{Length, NoRoom}
 use Rattle.hex.specs.declared.Word.the-variants.{Number, NotEight}
 
 -- an ASCII payload that is not of the form is 12, a scratch buffer too short for its bytes 13

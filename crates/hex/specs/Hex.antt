@@ -1,18 +1,13 @@
 -- Bytes as text: pairs of hex digits. Characters are their ASCII codes; a text and a buffer are lists of bytes.
 -- Assumes nothing: these are definitions.
 use Prim.Native.Nat.{ℕ, _+_, _-_, _*_, _/_, _%_}
-use mathlib.Core.Bool.{Bool, cond, _&&_}
-use mathlib.Core.Option.{Option, none, some}
+use mathlib.Core.{Bool.Bool, Bool.cond, Bool._&&_, Option.Option, Option.none, Option.some}
 use mathlib.Core.List.{List, [], _∷_, _++_}
-use lib.Dec.{eqb, leb, ltb}
-use lib.ListN.{length, drop, getD}
-use Rattle.hex.specs.declared.Hex.{Hex}
+use lib.{Dec.eqb, Dec.leb, Dec.ltb, ListN.length, ListN.drop, ListN.getD}
+use Rattle.hex.specs.{declared.Hex.Hex, declared.Payload.Payload, declared.Written.Written, declared.Word.Word}
 use Rattle.hex.specs.declared.Hex.the-variants.{Value, Bad}
-use Rattle.hex.specs.declared.Payload.{Payload}
 use Rattle.hex.specs.declared.Payload.the-variants.{Bytes, NotOfForm, TooShort}
-use Rattle.hex.specs.declared.Written.{Written}
 use Rattle.hex.specs.declared.Written.the-variants.{Length, NoRoom}
-use Rattle.hex.specs.declared.Word.{Word}
 use Rattle.hex.specs.declared.Word.the-variants.{Number, NotEight}
 
 -- ---- reading
@@ -43,7 +38,8 @@ led (Value v) none = none
 led (Value v) (some vs) = some (v ∷ vs)
 led Bad o = none
 
--- pairs, at least one, and a space (32) between each and the next: the bytes that they spell; none where a text is not of this form
+-- pairs, at least one, and a space (32) between each and the next: the bytes that they spell; none where a text is not
+-- of this form
 unfoldable pub payloadOf : List ℕ → Option (List ℕ)
 payloadOf [] = none
 payloadOf (a ∷ []) = none
@@ -55,7 +51,8 @@ abbrev pub readOf : Option (List ℕ) → ℕ → Payload
 readOf none room = NotOfForm
 readOf (some bytes) room = cond (leb (length bytes) room) (Bytes (length bytes)) TooShort
 
--- what a buffer holds once bytes were laid at its front: those behind them stay; with no room for all of them it keeps what it held
+-- what a buffer holds once bytes were laid at its front: those behind them stay; with no room for all of them it keeps
+-- what it held
 abbrev pub laid : List ℕ → List ℕ → List ℕ
 laid bytes held = cond (leb (length bytes) (length held)) (bytes ++ drop (length bytes) held) held
 

@@ -1,14 +1,11 @@
--- What the two passes over a payload answer: the first tells whether it is of the form and how many bytes it spells, the second stores
--- what its pairs are worth. Callers cite `Hex` alone. Assumes nothing: these are definitions.
+-- What the two passes over a payload answer: the first tells whether it is of the form and how many bytes it spells,
+-- the second stores what its pairs are worth. Callers cite `Hex` alone. Assumes nothing: these are definitions.
 use Prim.Native.Nat.{ℕ, _+_}
-use mathlib.Core.Option.{Option, none, some}
-use mathlib.Core.List.{List, [], _∷_}
+use mathlib.Core.{Option.Option, Option.none, Option.some, List.List, List.[], List._∷_}
 use lib.ListN.{length}
-use Rattle.hex.specs.declared.Hex.{Hex}
+use Rattle.hex.specs.{declared.Hex.Hex, declared.Form.Form, Hex.pairOf}
 use Rattle.hex.specs.declared.Hex.the-variants.{Value, Bad}
-use Rattle.hex.specs.declared.Form.{Form}
 use Rattle.hex.specs.declared.Form.the-variants.{Pairs, Not}
-use Rattle.hex.specs.Hex.{pairOf}
 
 -- how many pairs, after k of them
 abbrev pub formOf : ℕ → Option (List ℕ) → Form

@@ -118,8 +118,8 @@ pub enum Payload {
     TooShort,
 }
 
-// The bytes that a payload spells, into the front of a lent buffer. Where a payload has another form, or the buffer cannot hold
-// its bytes, the buffer keeps what it held.
+// The bytes that a payload spells, into the front of a lent buffer. Where a payload has another form, or the buffer
+// cannot hold its bytes, the buffer keeps what it held.
 pub fn read(text: &[u8], out: &mut [u8]) -> Payload
     ensures answer { λ r. ⌜ r ≡ readOf (payloadOf (now (text .entry))) (length (now (out .entry))) ⌝ }
     ensures held { λ _. ⌜ now (out .exit) ≡ heldAfter (payloadOf (now (text .entry))) (now (out .entry)) ⌝ }
@@ -158,7 +158,8 @@ pub enum Written {
     NoRoom,
 }
 
-// The bytes as pairs of capital digits with one space between, into the front of a lent buffer, which keeps what it held where it is too short.
+// The bytes as pairs of capital digits with one space between, into the front of a lent buffer, which keeps what it
+// held where it is too short.
 pub fn write(bytes: &[u8], out: &mut [u8]) -> Written
     ensures answer { λ r. ⌜ r ≡ writtenOf (textOf (now (bytes .entry))) (length (now (out .entry))) ⌝ }
     ensures held { λ _. ⌜ now (out .exit) ≡ laid (textOf (now (bytes .entry))) (now (out .entry)) ⌝ }
@@ -249,7 +250,8 @@ fn four(x: u32, eight: u32, four: u32, two: u32, one: u32) -> u8
     8 * bit(x, eight) + 4 * bit(x, four) + 2 * bit(x, two) + bit(x, one)
 }
 
-// A 32-bit number as eight capital digits, the uppermost first: of a set, channel 31 stands first and channel c is bit c.
+// A 32-bit number as eight capital digits, the uppermost first: of a set, channel 31 stands first and channel c is bit
+// c.
 pub fn write_word(x: u32) -> [u8; 8]
     ensures { λ r. ⌜ r ≡ wordText x ⌝ }
 {

@@ -15,7 +15,7 @@ use borrow.Author.Tests.{leb-true}
 use Rattle.wire.specs.Numbers.{number, bytesOf, signed, pattern}
 use Rattle.wire.proofs.LittleEndian.{number-append, number-bytesOf, length-bytesOf}
 use Rattle.wire.proofs.TwosComplement.{signed-pattern, pattern-fits}
-use Rattle.value.specs.Types.{table, width, typeOf}
+use Rattle.value.specs.Types.{typeTable, width, typeOf}
 use Rattle.value.specs.Values.{wireBytes, spelt}
 use Rattle.settings.specs.Table.{readWriteRows, readOnlyRows, lies, find, rowOf, parameterOf, column, from}
 use Rattle.settings.specs.declared.Settings.{Settings}
@@ -30,7 +30,8 @@ use Rattle.settings.proofs.Walks.{ids-by-type}
 use Rattle.image.specs.Image.{gotBytes, parameterBytes, inRow, imageOf, itself, numbersOf, settingsOf}
 use Rattle.image.proofs.Writing.{row-append, length-row, widths, widthIn}
 
--- ---- the values of one type: f gives the bytes of an id, p the number that a value's bytes spell, and g the value back
+-- ---- the values of one type: f gives the bytes of an id, p the number that a value's bytes spell, and g the value
+-- back
 module _ {A : Type 0} (g : ℕ → A) (p : A → ℕ) (w : ℕ) (d : A) (f : ℕ → List ℕ) where
   pub block : (xs : List A) (first : ℕ) (rest : List ℕ)
       → ((k : ℕ) → k < length xs → f (first + k) ≡ bytesOf w (p (getD xs k d)))

@@ -10,14 +10,14 @@ use lib.IntN.{ℤ}
 use Rattle.laws.proofs.Lists.{drop-step, sets-turn}
 use Rattle.wire.proofs.LittleEndian.{length-bytesOf}
 use Rattle.wire.specs.Numbers.{bytesOf}
-use Rattle.value.specs.Types.{table, width, typeOf}
+use Rattle.value.specs.Types.{typeTable, width, typeOf}
 use Rattle.value.specs.declared.ValueType.{ValueType}
 use Rattle.value.specs.declared.ValueType.the-variants.{Int8, Uint8, Int16, Uint16, Int32, Uint32, Float, Int64, Uint64, Double}
 use Rattle.value.specs.Values.{wireBytes, valueBytes, spelt}
 use Rattle.value.specs.declared.ParamValue.{ParamValue}
 use Rattle.value.specs.declared.ValueBytes.{ValueBytes}
 use Rattle.settings.specs.Table.{readWriteRows, readOnlyRows, lies, find, rowOf, column, from, idsOf, ids, parameterOf}
-use Rattle.settings.specs.Values.{numberOf, gotAs, getOf}
+use Rattle.settings.specs.Values.{settingOf, gotAs, getOf}
 use Rattle.settings.specs.declared.Parameter.{Parameter}
 use Rattle.settings.specs.declared.Got.{Got}
 use Rattle.settings.specs.declared.Settings.{Settings}
@@ -78,7 +78,7 @@ all-widths = refl
 
 length-parameter : (s : Settings) (id : ℕ) → length (parameterBytes s id) ≡ widthIn (parameterOf id)
 unfolding parameterBytes getOf widthIn wireBytes width bytesOf
-length-parameter s id = go (parameterOf id) (numberOf s id)
+length-parameter s id = go (parameterOf id) (settingOf s id)
   where
     go : (p : Parameter) (z : ℤ) → length (gotBytes (gotAs p z)) ≡ widthIn p
     go (Parameter.ReadWrite Int8) z = refl

@@ -2,15 +2,11 @@
 -- Assumes nothing: these are definitions.
 use Prim.Native.Nat.{ℕ, zero, suc}
 use mathlib.Core.List.{List, [], _∷_, _++_}
-use lib.ListN.{drop}
-use lib.IntN.{ℤ}
+use lib.{ListN.drop, IntN.ℤ}
 use Rattle.wire.specs.Numbers.{number, signed}
 use Rattle.crc.specs.Division.{checksumOf}
 use Rattle.value.specs.Values.{wireBytes}
-use Rattle.settings.specs.Table.{ids}
-use Rattle.settings.specs.Values.{getOf}
-use Rattle.settings.specs.declared.Got.{Got}
-use Rattle.settings.specs.declared.Settings.{Settings}
+use Rattle.settings.specs.{Table.ids, Values.getOf, declared.Got.Got, declared.Settings.Settings}
 
 -- the bytes of one parameter's value, little endian, as many as its type has
 abbrev pub gotBytes : Got → List ℕ

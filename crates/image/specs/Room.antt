@@ -1,4 +1,5 @@
--- A value's bytes in a room of eight. Only private functions' contracts cite this. Assumes nothing: these are definitions.
+-- A value's bytes in a room of eight. Only private functions' contracts cite this. Assumes nothing: these are
+-- definitions.
 use Prim.Native.Nat.{ℕ, _-_}
 use mathlib.Core.List.{List, _++_}
 use lib.ListN.{length, replicate}

@@ -1,4 +1,5 @@
-// The settings as 268 bytes, from the lowest id to the highest: what the checksum is taken over, what is stored, and how it is read back.
+// The settings as 268 bytes, from the lowest id to the highest: what the checksum is taken over, what is stored, and
+// how it is read back.
 use settings::Got;
 use settings::Settings;
 use value::ValueBytes;
@@ -142,7 +143,8 @@ fn uint32s(image: &[u8]) -> [u32; 6]
     values
 }
 
-// The settings whose image some bytes are. Nothing is brought into range: whether all values lie in range is asked of the settings.
+// The settings whose image some bytes are. Nothing is brought into range: whether all values lie in range is asked of
+// the settings.
 pub fn read(image: &[u8]) -> Settings
     ensures { λ r. ⌜ r ≡ settingsOf (now (image .entry)) ⌝ }
 {

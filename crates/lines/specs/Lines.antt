@@ -1,20 +1,12 @@
--- The form of each line: its letter, its fields, which are numbers of fixed width at fixed places with one space (32) between them, and its tail.
--- A place past the end of a line holds no digit and no space, so that a line whose fields are there is as long as they are.
--- Assumes nothing: these are definitions.
+-- The form of each line: its letter, its fields, which are numbers of fixed width at fixed places with one space (32)
+-- between them, and its tail. A place past the end of a line holds no digit and no space, so that a line whose fields
+-- are there is as long as they are. Assumes nothing: these are definitions.
 use Prim.Native.Nat.{ℕ, _*_, _%_}
-use mathlib.Core.Bool.{Bool, true, false, cond, _&&_}
-use mathlib.Core.List.{List}
-use lib.Dec.{eqb, leb}
-use lib.ListN.{getD, drop}
-use Rattle.script.specs.Reading.{numberOf, sound}
-use Rattle.script.specs.declared.reading.Field.{Field}
-use Rattle.script.specs.declared.reading.Count.{Count}
-use Rattle.lines.specs.Tails.{tailOf, stringLength, sentBy}
-use Rattle.lines.specs.declared.tails.Tail.{Tail}
-use Rattle.lines.specs.declared.tails.Sent.{Sent}
-use Rattle.lines.specs.declared.fields.Named.{Named}
-use Rattle.lines.specs.declared.Asked.{Asked}
-use Rattle.lines.specs.declared.Look.{Look}
+use mathlib.Core.{Bool.Bool, Bool.true, Bool.false, Bool.cond, Bool._&&_, List.List}
+use lib.{Dec.eqb, Dec.leb, ListN.getD, ListN.drop}
+use Rattle.script.specs.{Reading.fieldOf, Reading.sound, declared.reading.Field.Field, declared.reading.Count.Count}
+use Rattle.lines.specs.{Tails.tailOf, Tails.stringLength, Tails.sentBy, declared.tails.Tail.Tail, declared.tails.Sent.Sent}
+use Rattle.lines.specs.{declared.fields.Named.Named, declared.Asked.Asked, declared.Look.Look}
 
 -- ---- fields
 
@@ -27,7 +19,7 @@ separated a b c line = spaceAt a line && spaceAt b line && spaceAt c line
 
 -- the number of k digits at a place
 abbrev pub numberAt : ℕ → ℕ → List ℕ → Field
-numberAt place k line = numberOf 0 k (drop place line)
+numberAt place k line = fieldOf 0 k (drop place line)
 
 -- a number up to a limit
 abbrev pub limited : ℕ → Field → Field

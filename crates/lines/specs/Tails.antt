@@ -1,14 +1,10 @@
 -- The tail of a line: what stands behind its fields. Characters are their ASCII codes: 45 is `-`, 46 is `.`.
 -- Assumes nothing: these are definitions.
 use Prim.Native.Nat.{ℕ}
-use mathlib.Core.Bool.{cond}
-use mathlib.Core.List.{List}
-use lib.Dec.{eqb, leb}
-use lib.ListN.{length, getD}
-use Rattle.script.specs.Reading.{countOf}
-use Rattle.script.specs.declared.reading.Count.{Count}
-use Rattle.lines.specs.declared.tails.Tail.{Tail}
-use Rattle.lines.specs.declared.tails.Sent.{Sent}
+use mathlib.Core.{Bool.cond, List.List}
+use lib.{Dec.eqb, Dec.leb, ListN.length, ListN.getD}
+use Rattle.script.specs.{Reading.countOf, declared.reading.Count.Count}
+use Rattle.lines.specs.{declared.tails.Tail.Tail, declared.tails.Sent.Sent}
 
 -- `-`, `.`, or no tail of a form
 abbrev pub signOf : ℕ → Tail

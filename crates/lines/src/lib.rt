@@ -1,4 +1,5 @@
-// What a line of a replay script asks for: its letter, the fields of fixed width behind it, and its tail. No board is looked at here.
+// What a line of a replay script asks for: its letter, the fields of fixed width behind it, and its tail. No board is
+// looked at here.
 mod fields;
 mod tails;
 
@@ -16,8 +17,8 @@ use script::reading::Field;
 use tails::Tail;
 use tails::tail_of;
 
-// What a line asks for. The bytes of its byte string are at the front of the buffer that it was read into, `count` of them; those of a start
-// are the stored settings.
+// What a line asks for. The bytes of its byte string are at the front of the buffer that it was read into, `count` of
+// them; those of a start are the stored settings.
 pub enum Asked {
     Start {
         bid: u8,

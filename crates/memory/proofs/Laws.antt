@@ -1,5 +1,5 @@
--- What a save stores and a load brings back, what the other commands on settings leave, what is shown, and that settings in range stay in range.
--- Assumes nothing.
+-- What a save stores and a load brings back, what the other commands on settings leave, what is shown, and that
+-- settings in range stay in range. Assumes nothing.
 use mathlib.Core.Path.{_≡_, refl, sym, ap, _∙_, subst}
 use mathlib.Core.Bool.{Bool, true, false, _||_}
 use mathlib.Core.Logic.{_⊎_, inl, inr}
@@ -14,7 +14,7 @@ use mir.Val.{toZ}
 use mir.ValLaws.{toZ-pos}
 use Rattle.value.specs.declared.ParamValue.{ParamValue}
 use Rattle.settings.specs.declared.Settings.{Settings}
-use Rattle.settings.specs.Values.{numberOf, defaultsOf, inRangeOf}
+use Rattle.settings.specs.Values.{settingOf, defaultsOf, inRangeOf}
 use Rattle.settings.proofs.Places.{uint16-number}
 use Rattle.settings.proofs.Stores.{Sized}
 use Rattle.settings.proofs.Laws as of-settings
@@ -29,7 +29,7 @@ use Rattle.memory.specs.Memory.{oneMore, emptyStore, showing, showingNot
 
 -- ---- what the mode table and the watchdog read
 -- the value of a 16-bit id
-pub uint16-value : (s : Settings) (i : ℕ) → i < 68 → natAbs (numberOf s (0x4000 + i)) ≡ getD (s .u16s) i 0
+pub uint16-value : (s : Settings) (i : ℕ) → i < 68 → natAbs (settingOf s (0x4000 + i)) ≡ getD (s .u16s) i 0
 uint16-value s i h = rw (uint16-number s i h)
 
 -- an unsigned number of 16 bits is the same number in a signed type of 32

@@ -1,18 +1,19 @@
--- What the mode table and the watchdog read of the settings. Safety low, safety high and the timeout are what 0x4042, 0x4043 and 0x4000 hold, as they
--- stand; the other four are values of Table 3-26. Assumes nothing: these are definitions.
+-- What the mode table and the watchdog read of the settings. Safety low, safety high and the timeout are what 0x4042,
+-- 0x4043 and 0x4000 hold, as they stand; the other four are values of Table 3-26. Assumes nothing: these are
+-- definitions.
 use Prim.Native.Nat.{ℕ}
 use lib.IntN.{pos, natAbs}
-use Rattle.settings.specs.Values.{numberOf}
+use Rattle.settings.specs.Values.{settingOf}
 use Rattle.modes.specs.declared.Limits.{Limits}
 use Rattle.watchdog.specs.Watchdog.{secondsInTicks}
 use Rattle.memory.specs.declared.Memory.{Memory}
 
 -- in millivolts
 unfoldable pub safetyLow : Memory → ℕ
-safetyLow m = natAbs (numberOf (m .current) 0x4042)
+safetyLow m = natAbs (settingOf (m .current) 0x4042)
 
 unfoldable pub safetyHigh : Memory → ℕ
-safetyHigh m = natAbs (numberOf (m .current) 0x4043)
+safetyHigh m = natAbs (settingOf (m .current) 0x4043)
 
 abbrev pub emergencyLow : ℕ
 emergencyLow = 12000
@@ -22,7 +23,7 @@ emergencyHigh = 12400
 
 -- in seconds
 unfoldable pub timeoutOf : Memory → ℕ
-timeoutOf m = natAbs (numberOf (m .current) 0x4000)
+timeoutOf m = natAbs (settingOf (m .current) 0x4000)
 
 abbrev pub emergencyPeriod : ℕ
 emergencyPeriod = 600

@@ -1,16 +1,13 @@
 -- What a board keeps of its settings: those in force, what it shows of the last save or load, and its store.
--- `cond b x y` is x where b holds, else y; a record with each field given is a whole value. Assumes nothing: these are definitions.
+-- `cond b x y` is x where b holds, else y; a record with each field given is a whole value. Assumes nothing: these are
+-- definitions.
 use Prim.Native.Nat.{ℕ, _+_, min}
 use mathlib.Core.Bool.{Bool, true, false, cond, _||_}
 use lib.Dec.{eqb}
 use Rattle.value.specs.declared.ParamValue.{ParamValue}
-use Rattle.settings.specs.declared.Settings.{Settings}
-use Rattle.settings.specs.Values.{defaultsOf, setOf, resetOf}
+use Rattle.settings.specs.{declared.Settings.Settings, Values.defaultsOf, Values.setOf, Values.resetOf}
 use Rattle.image.specs.Image.{settingsChecksum}
-use Rattle.memory.specs.declared.Shown.{Shown}
-use Rattle.memory.specs.declared.Store.{Store}
-use Rattle.memory.specs.declared.Memory.{Memory}
-use Rattle.memory.specs.declared.Saved.{Saved}
+use Rattle.memory.specs.{declared.Shown.Shown, declared.Store.Store, declared.Memory.Memory, declared.Saved.Saved}
 
 -- a count of 16 bits, one higher; it stays at its top
 unfoldable pub oneMore : ℕ → ℕ

@@ -1,5 +1,5 @@
--- Rows 5 to 12 of document 01's boundary table, and the signs and ends of the rail, as steps of the table: one list of cases, one claim. antt computes it.
--- Assumes nothing.
+-- Rows 5 to 12 of document 01's boundary table, and the signs and ends of the rail, as steps of the table: one list of
+-- cases, one claim. antt computes it. Assumes nothing.
 use mathlib.Core.Path.{_≡_, refl}
 use mathlib.Core.List.{List, [], _∷_, map}
 use Prim.Native.Nat.{ℕ}
@@ -8,8 +8,8 @@ use Rattle.modes.specs.declared.Mode.{Mode}
 use Rattle.modes.specs.declared.Mode.the-variants.{Startup, Nominal, Safety, Emergency}
 use Rattle.modes.specs.declared.ModeAge.{ModeAge}
 use Rattle.modes.specs.declared.Limits.{Limits}
-use Rattle.modes.specs.declared.Commanded.{Commanded}
-use Rattle.modes.specs.declared.Commanded.the-variants.{Accepted, Unavailable}
+use Rattle.modes.specs.declared.ModeAnswer.{ModeAnswer}
+use Rattle.modes.specs.declared.ModeAnswer.the-variants.{Accepted, Unavailable}
 use Rattle.modes.specs.Table.{stepOf}
 use Rattle.modes.specs.Commands.{toNominal}
 
@@ -99,10 +99,10 @@ unfolding expected stepped cases stepOf
 each-case = refl
 
 -- 0x30 in safety: at safety low, below it, and at a threshold that no rail reaches
-abbrev asked : ℤ → Limits → Commanded
+abbrev asked : ℤ → Limits → ModeAnswer
 asked z l = toNominal (record { mode = Safety; age = 7 }) z l
 
-abbrev nominal : Commanded
+abbrev nominal : ModeAnswer
 nominal = Accepted (record { mode = Nominal; age = 0 })
 
 pub asked-at-the-edge : (asked (+ 6500) usual ∷ asked (+ 6499) usual ∷ asked (− 1) usual ∷ asked (+ 32767) (at (+ 40000)) ∷ asked (− 32768) (at (− 32768)) ∷ [])

@@ -1,5 +1,5 @@
--- What follows from the table and the commands: by what each mode is left and for which, one change at most, and that the mode and its age change together.
--- Assumes nothing.
+-- What follows from the table and the commands: by what each mode is left and for which, one change at most, and that
+-- the mode and its age change together. Assumes nothing.
 use mathlib.Core.Path.{_≡_, refl, ap, _∙_}
 use mathlib.Core.Bool.{Bool, true, false, not, cond, _&&_, _||_, or-true}
 use mathlib.Core.List.{List, [], _∷_}
@@ -13,10 +13,10 @@ use Rattle.modes.specs.declared.Mode.{Mode}
 use Rattle.modes.specs.declared.Mode.the-variants.{Startup, Nominal, Safety, Emergency}
 use Rattle.modes.specs.declared.ModeAge.{ModeAge}
 use Rattle.modes.specs.declared.Limits.{Limits}
-use Rattle.modes.specs.declared.Commanded.{Commanded}
-use Rattle.modes.specs.declared.Commanded.the-variants.{Accepted, Unavailable}
-use Rattle.modes.specs.Table.{_reaches_, _exceeds_, _at-least_, _above_, _below_, _aged_, entered, Row, from_when_to_, _if_else_, table, number, same, first, stepOf, olderOf}
-use Rattle.modes.specs.Commands.{toSafetyFrom, toSafety, toNominalFrom, toNominal, answer, safetyUnavailable, nominalUnavailable, leaves}
+use Rattle.modes.specs.declared.ModeAnswer.{ModeAnswer}
+use Rattle.modes.specs.declared.ModeAnswer.the-variants.{Accepted, Unavailable}
+use Rattle.modes.specs.Table.{_reaches_, _exceeds_, _at-least_, _above_, _below_, _aged_, entered, Row, from_when_to_, _if_else_, modeTable, number, same, first, stepOf, olderOf}
+use Rattle.modes.specs.Commands.{toSafetyFrom, toSafety, toNominalFrom, toNominal, modeNumber, safetyUnavailable, nominalUnavailable, leaves}
 
 -- ---- what each mode is left by, and for which
 module _ (s : ModeAge) (rail : ℤ) (limits : Limits) where
@@ -132,7 +132,7 @@ by-rows ((from m when b to n) ∷ rows) s t =
 -- a step is one change, or none
 pub one-change : (s : ModeAge) (rail : ℤ) (limits : Limits) → Change s (stepOf s rail limits)
 unfolding Moves stepOf
-one-change s rail limits = by-rows (table (s .age) rail limits) s (cases (rail at-least limits .«safety_low») (λ a. rw a tt) (λ a. rw a tt), (tt, (tt, (tt, (tt, tt)))))
+one-change s rail limits = by-rows (modeTable (s .age) rail limits) s (cases (rail at-least limits .«safety_low») (λ a. rw a tt) (λ a. rw a tt), (tt, (tt, (tt, (tt, tt)))))
 
 -- a command, too, is one change or none
 to-safety-from : (m : Mode) (s : ModeAge) → s .mode ≡ m → Change s (leaves (toSafetyFrom m s) s)
@@ -159,40 +159,40 @@ unfolding toNominal
 to-nominal-change s rail limits = to-nominal-from (s .mode) s rail limits refl
 
 -- ---- answer 6 is given exactly where document 01 says
-to-safety-answers : (m : Mode) (s : ModeAge) → eqb (answer (toSafetyFrom m s)) 6 ≡ (same Startup m || same Emergency m)
+to-safety-answers : (m : Mode) (s : ModeAge) → eqb (modeNumber (toSafetyFrom m s)) 6 ≡ (same Startup m || same Emergency m)
 to-safety-answers Startup s = refl
 to-safety-answers Nominal s = refl
 to-safety-answers Safety s = refl
 to-safety-answers Emergency s = refl
 
-pub to-safety-unavailable : (s : ModeAge) → eqb (answer (toSafety s)) 6 ≡ (same Startup (s .mode) || same Emergency (s .mode))
+pub to-safety-unavailable : (s : ModeAge) → eqb (modeNumber (toSafety s)) 6 ≡ (same Startup (s .mode) || same Emergency (s .mode))
 unfolding toSafety
 to-safety-unavailable s = to-safety-answers (s .mode) s
 
 to-nominal-answers : (m : Mode) (s : ModeAge) (rail : ℤ) (limits : Limits)
-    → eqb (answer (toNominalFrom m s rail limits)) 6 ≡ (same Startup m || same Emergency m || (same Safety m && not (rail at-least limits .«safety_low»)))
+    → eqb (modeNumber (toNominalFrom m s rail limits)) 6 ≡ (same Startup m || same Emergency m || (same Safety m && not (rail at-least limits .«safety_low»)))
 to-nominal-answers Startup s rail limits = refl
 to-nominal-answers Nominal s rail limits = refl
 to-nominal-answers Safety s rail limits = cases (rail at-least limits .«safety_low») (λ a. simp a) (λ a. simp a)
 to-nominal-answers Emergency s rail limits = refl
 
 pub to-nominal-unavailable : (s : ModeAge) (rail : ℤ) (limits : Limits)
-    → eqb (answer (toNominal s rail limits)) 6 ≡ (same Startup (s .mode) || same Emergency (s .mode) || (same Safety (s .mode) && not (rail at-least limits .«safety_low»)))
+    → eqb (modeNumber (toNominal s rail limits)) 6 ≡ (same Startup (s .mode) || same Emergency (s .mode) || (same Safety (s .mode) && not (rail at-least limits .«safety_low»)))
 unfolding toNominal
 to-nominal-unavailable s rail limits = to-nominal-answers (s .mode) s rail limits
 
 -- and the answer of a command has that number
-six : (c : Commanded) → answer c ≡ cond (eqb (answer c) 6) 6 0
+six : (c : ModeAnswer) → modeNumber c ≡ cond (eqb (modeNumber c) 6) 6 0
 six (Accepted s) = refl
 six Unavailable = refl
 
-pub to-safety-number : {r : Commanded} (s : ModeAge) → r ≡ toSafety s → (r ≡ toSafety s) × (answer r ≡ cond (safetyUnavailable (s .mode)) 6 0)
-to-safety-number s e = (e, ap answer e ∙ six (toSafety s) ∙ ap (λ (b : Bool). cond b 6 0) (to-safety-unavailable s))
+pub to-safety-number : {r : ModeAnswer} (s : ModeAge) → r ≡ toSafety s → (r ≡ toSafety s) × (modeNumber r ≡ cond (safetyUnavailable (s .mode)) 6 0)
+to-safety-number s e = (e, ap modeNumber e ∙ six (toSafety s) ∙ ap (λ (b : Bool). cond b 6 0) (to-safety-unavailable s))
 
-pub to-nominal-number : {r : Commanded} (s : ModeAge) (rail : ℤ) (limits : Limits) → r ≡ toNominal s rail limits
-    → (r ≡ toNominal s rail limits) × (answer r ≡ cond (nominalUnavailable (s .mode) rail limits) 6 0)
+pub to-nominal-number : {r : ModeAnswer} (s : ModeAge) (rail : ℤ) (limits : Limits) → r ≡ toNominal s rail limits
+    → (r ≡ toNominal s rail limits) × (modeNumber r ≡ cond (nominalUnavailable (s .mode) rail limits) 6 0)
 to-nominal-number s rail limits e =
-    (e, ap answer e ∙ six (toNominal s rail limits) ∙ ap (λ (b : Bool). cond b 6 0) (to-nominal-unavailable s rail limits))
+    (e, ap modeNumber e ∙ six (toNominal s rail limits) ∙ ap (λ (b : Bool). cond b 6 0) (to-nominal-unavailable s rail limits))
 
 -- ---- the age rises by one below the top, where it stops
 pub older-rises : (s : ModeAge) → s .age < 2 ^ 64 - 1 → olderOf s .age ≡ s .age + 1

@@ -1,14 +1,9 @@
 -- Document 01's table of the modes, and the step that it makes. Assumes nothing.
 use Prim.Native.Nat.{ℕ, _+_, _-_, _^_, min}
-use mathlib.Core.Bool.{Bool, cond, _&&_, _||_}
-use mathlib.Core.List.{List, [], _∷_}
-use lib.IntN.{ℤ}
-use lib.Dec.{ltb, leb, eqb}
-use lib.Signed.{ltZ, leZ}
-use Rattle.modes.specs.declared.Mode.{Mode}
+use mathlib.Core.{Bool.Bool, Bool.cond, Bool._&&_, Bool._||_, List.List, List.[], List._∷_}
+use lib.{IntN.ℤ, Dec.ltb, Dec.leb, Dec.eqb, Signed.ltZ, Signed.leZ}
+use Rattle.modes.specs.{declared.Mode.Mode, declared.ModeAge.ModeAge, declared.Limits.Limits}
 use Rattle.modes.specs.declared.Mode.the-variants.{Startup, Nominal, Safety, Emergency}
-use Rattle.modes.specs.declared.ModeAge.{ModeAge}
-use Rattle.modes.specs.declared.Limits.{Limits}
 
 infix 50 _reaches_ _exceeds_ _at-least_ _above_ _below_
 -- ages, in ticks: ≥ and >
@@ -45,9 +40,10 @@ infix 40 from_when_to_
 pub data Row : Type 0 where
   from_when_to_ : Mode → Bool → Mode → Row
 
--- the rows are read from the top and the first that applies decides, whatever the order of the thresholds: a row holds only where none above it does
-abbrev pub table : ℕ → ℤ → Limits → List Row
-table age rail limits =
+-- the rows are read from the top and the first that applies decides, whatever the order of the thresholds: a row holds
+-- only where none above it does
+abbrev pub modeTable : ℕ → ℤ → Limits → List Row
+modeTable age rail limits =
     (from Startup when age reaches 50 to (Nominal if rail at-least limits .«safety_low» else Safety))
     ∷ (from Nominal when rail below limits .«safety_low» to Safety)
     ∷ (from Safety when age exceeds limits .linger && rail above limits .«safety_high» to Nominal)
@@ -72,7 +68,7 @@ first ((from m when b to n) ∷ rows) s = cond (same m (s .mode) && b) (entered 
 
 -- the automatic change of a tick: one at most
 unfoldable pub stepOf : ModeAge → ℤ → Limits → ModeAge
-stepOf s rail limits = first (table (s .age) rail limits) s
+stepOf s rail limits = first (modeTable (s .age) rail limits) s
 
 -- one tick older; the age has 64 bits and stays at its top
 unfoldable pub olderOf : ModeAge → ModeAge

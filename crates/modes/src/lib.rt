@@ -1,8 +1,9 @@
-// The modes of the board: how long it has been in one, the table by which it leaves, and the two commands that change it.
+// The modes of the board: how long it has been in one, the table by which it leaves, and the two commands that change
+// it.
 ghost use mathlib.Core.Path.{_≡_};
 ghost use Rattle.modes.specs.Table.{_at-least_, _above_, _below_, entered, olderOf, stepOf};
 ghost use mathlib.Core.Bool.{cond};
-ghost use Rattle.modes.specs.Commands.{toSafety, toNominal, answer, safetyUnavailable, nominalUnavailable};
+ghost use Rattle.modes.specs.Commands.{toSafety, toNominal, modeNumber, safetyUnavailable, nominalUnavailable};
 ghost use Rattle.modes.specs.declared.Mode.the-variants.{Startup};
 
 pub enum Mode {
@@ -12,13 +13,15 @@ pub enum Mode {
     Emergency,
 }
 
-// A mode, and the ticks since it was entered. The fields are private, so that the two change together, and only as this crate has it.
+// A mode, and the ticks since it was entered. The fields are private, so that the two change together, and only as this
+// crate has it.
 pub struct ModeAge {
     age: u64,
     mode: Mode,
 }
 
-// What the table compares with: times in ticks, thresholds in millivolts. A threshold is wider than the rail, so that an unsigned one counts by value.
+// What the table compares with: times in ticks, thresholds in millivolts. A threshold is wider than the rail, so that
+// an unsigned one counts by value.
 pub struct Limits {
     pub linger: u64,
     pub period: u64,
@@ -29,7 +32,7 @@ pub struct Limits {
 }
 
 // What a commanded change answers: the mode and age that it leaves, or that it is not available in this mode.
-pub enum Commanded {
+pub enum ModeAnswer {
     Accepted(ModeAge),
     Unavailable,
 }
@@ -86,7 +89,8 @@ impl ModeAge {
         self.age
     }
 
-    // The same mode and age. They are put together anew, since a copy of the whole would carry along the bytes that lie unused behind the mode, and that is slow.
+    // The same mode and age. They are put together anew, since a copy of the whole would carry along the bytes that lie
+    // unused behind the mode, and that is slow.
     pub fn kept(self) -> ModeAge
         ensures { λ r. ⌜ r ≡ self ⌝ }
     {
@@ -112,7 +116,8 @@ impl ModeAge {
         }
     }
 
-    // The mode after the tick's automatic change, of which there is one at most: what the first row of the table that applies says.
+    // The mode after the tick's automatic change, of which there is one at most: what the first row of the table that
+    // applies says.
     pub fn step(self, rail: i16, limits: Limits) -> ModeAge
         ensures { λ r. ⌜ r ≡ stepOf self rail limits ⌝ }
     {
@@ -157,35 +162,36 @@ impl ModeAge {
     }
 
     // 0x32: nominal is left for safety, safety stays as it is, and elsewhere the command is not available.
-    pub fn to_safety(self) -> Commanded
+    pub fn to_safety(self) -> ModeAnswer
         ensures { λ r. ⌜ r ≡ toSafety self ⌝ }
-        ensures number { λ r. ⌜ answer r ≡ cond (safetyUnavailable (self .mode)) 6 0 ⌝ }
+        ensures number { λ r. ⌜ modeNumber r ≡ cond (safetyUnavailable (self .mode)) 6 0 ⌝ }
     {
         let mode = self.mode;
         match mode {
-            Mode::Startup => Commanded::Unavailable,
-            Mode::Nominal => Commanded::Accepted(enter(Mode::Safety)),
-            Mode::Safety => Commanded::Accepted(self),
-            Mode::Emergency => Commanded::Unavailable,
+            Mode::Startup => ModeAnswer::Unavailable,
+            Mode::Nominal => ModeAnswer::Accepted(enter(Mode::Safety)),
+            Mode::Safety => ModeAnswer::Accepted(self),
+            Mode::Emergency => ModeAnswer::Unavailable,
         }
     }
 
-    // 0x30: nominal stays as it is, safety is left for nominal where the rail is not below safety low, and elsewhere the command is not available.
-    pub fn to_nominal(self, rail: i16, limits: Limits) -> Commanded
+    // 0x30: nominal stays as it is, safety is left for nominal where the rail is not below safety low, and elsewhere
+    // the command is not available.
+    pub fn to_nominal(self, rail: i16, limits: Limits) -> ModeAnswer
         ensures { λ r. ⌜ r ≡ toNominal self rail limits ⌝ }
-        ensures number { λ r. ⌜ answer r ≡ cond (nominalUnavailable (self .mode) rail limits) 6 0 ⌝ }
+        ensures number { λ r. ⌜ modeNumber r ≡ cond (nominalUnavailable (self .mode) rail limits) 6 0 ⌝ }
     {
         let mode = self.mode;
         match mode {
-            Mode::Startup => Commanded::Unavailable,
-            Mode::Nominal => Commanded::Accepted(self),
+            Mode::Startup => ModeAnswer::Unavailable,
+            Mode::Nominal => ModeAnswer::Accepted(self),
             Mode::Safety => {
                 if at_least(rail, limits.safety_low) {
-                    return Commanded::Accepted(enter(Mode::Nominal));
+                    return ModeAnswer::Accepted(enter(Mode::Nominal));
                 }
-                Commanded::Unavailable
+                ModeAnswer::Unavailable
             }
-            Mode::Emergency => Commanded::Unavailable,
+            Mode::Emergency => ModeAnswer::Unavailable,
         }
     }
 }

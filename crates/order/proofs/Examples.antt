@@ -14,7 +14,7 @@ use Rattle.modes.specs.declared.Mode.{Mode}
 use Rattle.modes.specs.declared.Mode.the-variants.{Nominal, Safety}
 use Rattle.memory.specs.Memory.{emptyStore}
 use Rattle.memory.specs.Limits.{limitsOf}
-use Rattle.command.specs.Table.{table, find}
+use Rattle.command.specs.Table.{commandTable, find}
 use Rattle.command.specs.Codes.{isIn, baseCodes}
 use Rattle.command.specs.Decode.{fewerThanFour, headerIs, getting, carried, listed, decodeBy, decodeOf}
 use Rattle.replies.specs.Layouts.{shortReply, parameterReply}
@@ -23,7 +23,7 @@ use Rattle.state.specs.Start.{freshOf, neverReset, commandResetOf, byCommand}
 use Rattle.state.specs.declared.parts.Board.{Board}
 use Rattle.answers.specs.Answers.{acceptedWith, acceptedOf, refusedOf, notThisBoardOf}
 use Rattle.answers.specs.Parameters.{valueRead, readOnlyNumber, numberIn}
-use Rattle.effects.specs.Effects.{isNominal, switchedOf, groupOnOf, channelOnOf, parameterOf, rememberedOf, restartedOf, runOf}
+use Rattle.effects.specs.Effects.{isNominal, switchedOf, groupOnOf, channelOnOf, parameterAnswered, rememberedOf, restartedOf, runOf}
 use Rattle.commands.specs.Step.{isStartup, turnedDown, decodedOf, transferredOf}
 
 -- board 1 with channels 0 to 3, of which 0 is forced, just come into a mode
@@ -63,10 +63,10 @@ inNominal =
     ∷ []
 
 pub nominal-replies : map (λ e. answered Nominal (sentIn e)) inNominal ≡ map replyIn inNominal
-unfolding shown written replyOf room laidOut replyCode bytesOf number table find isIn baseCodes fewerThanFour headerIs getting carried listed decodeBy decodeOf shortReply parameterReply freshOf commandResetOf acceptedWith acceptedOf refusedOf notThisBoardOf valueRead readOnlyNumber numberIn isNominal switchedOf groupOnOf channelOnOf parameterOf rememberedOf restartedOf runOf isStartup turnedDown decodedOf transferredOf width getOf tables.parameterOf tables.rowOf tables.find tables.readWriteRows tables.readOnlyRows tables.lies
+unfolding shown written replyOf room laidOut replyCode bytesOf number commandTable find isIn baseCodes fewerThanFour headerIs getting carried listed decodeBy decodeOf shortReply parameterReply freshOf commandResetOf acceptedWith acceptedOf refusedOf notThisBoardOf valueRead readOnlyNumber numberIn isNominal switchedOf groupOnOf channelOnOf parameterAnswered rememberedOf restartedOf runOf isStartup turnedDown decodedOf transferredOf width getOf tables.parameterOf tables.rowOf tables.find tables.readWriteRows tables.readOnlyRows tables.lies
 nominal-replies = refl
 
 -- a group command outside nominal
 pub safety-reply : answered Safety (0x11 ∷ 0x07 ∷ 0x10 ∷ 0x01 ∷ 0x01 ∷ 0x00 ∷ []) ≡ 0x11 ∷ 0x07 ∷ 0x11 ∷ 0x01 ∷ 0x05 ∷ []
-unfolding shown written replyOf room laidOut replyCode bytesOf number table find isIn baseCodes fewerThanFour headerIs getting carried listed decodeBy decodeOf shortReply parameterReply freshOf commandResetOf acceptedWith acceptedOf refusedOf notThisBoardOf valueRead readOnlyNumber numberIn isNominal switchedOf groupOnOf channelOnOf parameterOf rememberedOf restartedOf runOf isStartup turnedDown decodedOf transferredOf
+unfolding shown written replyOf room laidOut replyCode bytesOf number commandTable find isIn baseCodes fewerThanFour headerIs getting carried listed decodeBy decodeOf shortReply parameterReply freshOf commandResetOf acceptedWith acceptedOf refusedOf notThisBoardOf valueRead readOnlyNumber numberIn isNominal switchedOf groupOnOf channelOnOf parameterAnswered rememberedOf restartedOf runOf isStartup turnedDown decodedOf transferredOf
 safety-reply = refl

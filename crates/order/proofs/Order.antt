@@ -1,4 +1,5 @@
--- The command step answers the number of the first check of document 01's table that applies: the decoder's checks and the step's own are one list. Assumes nothing.
+-- The command step answers the number of the first check of document 01's table that applies: the decoder's checks and
+-- the step's own are one list. Assumes nothing.
 use Prim.Native.Nat.{ℕ, suc}
 use mathlib.Core.Path.{_≡_, refl, sym, ap, _∙_, subst}
 use mathlib.Core.Bool.{Bool, true, false, cond, not, _&&_, _||_}
@@ -23,11 +24,11 @@ use Rattle.modes.specs.declared.ModeAge.{ModeAge}
 use Rattle.modes.specs.declared.Limits.{Limits}
 use Rattle.channels.specs.Operations.{wrongToSwitchOn, wrongToSwitchOff}
 use Rattle.channels.specs.declared.Channels.{Channels}
-use Rattle.command.specs.Table.{table, find}
+use Rattle.command.specs.Table.{commandTable, find}
 use Rattle.command.specs.Codes.{isIn, baseCodes}
 use Rattle.command.specs.Decode.{fewerThanFour, headerIs, stidOf, ividOf, codeOf, bidOf, byteAfter, idOf, valuePart, getBy, getting, valued, setBy, setting, resetBy, resetting, carried, listed, decodeBy, decodeOf}
 use Rattle.command.specs.Answers as of-decoder
-use Rattle.command.specs.Checks.{first, headerDiffers, idWrong, isTooShort, isNaN, valueOf}
+use Rattle.command.specs.Checks.{first, headerDiffers, idWrong, isTooShort, isNaN, valueReads}
 use Rattle.command.specs.Checks as decoder
 use Rattle.command.specs.declared.Command.{Command}
 use Rattle.command.specs.declared.Header.{Header}
@@ -39,11 +40,11 @@ use Rattle.command.proofs.Laws.{Each, none, _and_, by-code, differs, first-chec
 use Rattle.memory.specs.Memory.{isRight, savedOf}
 use Rattle.state.specs.Parts.{modeOf}
 use Rattle.state.specs.declared.parts.Board.{Board}
-use Rattle.answers.specs.Answers.{numberOf, toldNumber, headerOf, silentOf, acceptedWith, acceptedOf, refusedOf, notThisBoardOf}
+use Rattle.answers.specs.Answers.{answerNumber, toldNumber, headerOf, silentOf, acceptedWith, acceptedOf, refusedOf, notThisBoardOf}
 use Rattle.answers.specs.declared.Answer.{Answer}
 use Rattle.answers.specs.declared.Outcome.the-variants.{Answered}
 use Rattle.answers.specs.declared.Commanded.{Commanded}
-use Rattle.effects.specs.Effects.{isNominal, switchedOf, groupOnOf, groupOffOf, groupStateOf, channelOnOf, channelOffOf, cancelledOf, switchedModeOf, faultsOf, housekeepingOf, parameterOf as parameterRun, rememberedOf, savedIn, restartedOf, runOf}
+use Rattle.effects.specs.Effects.{isNominal, switchedOf, groupOnOf, groupOffOf, groupStateOf, channelOnOf, channelOffOf, cancelledOf, switchedModeOf, faultsOf, housekeepingOf, parameterAnswered as parameterRun, rememberedOf, savedIn, restartedOf, runOf}
 use Rattle.commands.specs.Step.{isStartup, turnedDown, decodedOf, transferredOf}
 use Rattle.order.specs.Checks.{_is_, channelCodes, unavailable, channelWrong, checksumWrong, checksBy, checksOf}
 
@@ -105,7 +106,7 @@ module _ (rail : ℤ) (limits : Limits) (b : Board) where
   toldOf code d = told (decodedOf rail limits code d b)
 
   -- ---- the decoder's checks
-  refused : (code : ℕ) (r : Refusal) → toldOf code (Refused r) ≡ some (of-decoder.numberOf r)
+  refused : (code : ℕ) (r : Refusal) → toldOf code (Refused r) ≡ some (of-decoder.refusalNumber r)
   unfolding decodedOf turnedDown refusedOf notThisBoardOf
   refused code FewerThanFourBytes = refl
   refused code NotThisBoard = refl
@@ -115,12 +116,12 @@ module _ (rail : ℤ) (limits : Limits) (b : Board) where
   refused code WrongParameter = refl
   refused code NotANumber = refl
 
-  behind : (code : ℕ) (x : Bool) (r : Refusal) (d : Decoded) {rest : ℕ} → toldOf code d ≡ some rest → toldOf code (cond x (Refused r) d) ≡ some (cond x (of-decoder.numberOf r) rest)
+  behind : (code : ℕ) (x : Bool) (r : Refusal) (d : Decoded) {rest : ℕ} → toldOf code d ≡ some rest → toldOf code (cond x (Refused r) d) ≡ some (cond x (of-decoder.refusalNumber r) rest)
   behind code true r d e = refused code r
   behind code false r d e = e
 
   -- a number of the decoder's that is no 0 is told
-  decoder-tells : (code : ℕ) (d : Decoded) (n : ℕ) → of-decoder.answerOf d ≡ suc n → toldOf code d ≡ some (suc n)
+  decoder-tells : (code : ℕ) (d : Decoded) (n : ℕ) → of-decoder.decodedNumber d ≡ suc n → toldOf code d ≡ some (suc n)
   decoder-tells code (Run c) n e = absurd (omega arith)
   decoder-tells code (Refused r) n e = refused code r ∙ ap some e
 
@@ -153,17 +154,17 @@ module _ (rail : ℤ) (limits : Limits) (b : Board) where
     value-set code id Parsed.NotANumber = refl
 
     set : (code id : ℕ) (p : Parameter) (value : List ℕ)
-        → toldOf code (setBy id p value) ≡ some (cond (idWrong 0x84 p) 7 (cond (valueOf p value isTooShort) 5 (cond (valueOf p value isNaN) 7 0)))
+        → toldOf code (setBy id p value) ≡ some (cond (idWrong 0x84 p) 7 (cond (valueReads p value isTooShort) 5 (cond (valueReads p value isNaN) 7 0)))
     unfolding decodedOf turnedDown refusedOf idWrong
     set code id (ReadWrite t) value = value-set code id (readOf t value)
     set code id (ReadOnly t) value = refl
     set code id Unknown value = refl
 
     -- a command of the list
-    in-list : isStartup (modeOf b) ≡ false → (code : ℕ) → isIn code baseCodes ≡ true → toldOf code (listed (find table code) s) ≡ some (first (checksBy rail limits b code s))
-    unfolding listed find table first checksBy baseCodes isIn idWrong unavailable channelCodes channelWrong checksumWrong carried getting setting resetting decodedOf runOf acceptedOf acceptedWith groupOnOf groupOffOf groupStateOf channelOnOf channelOffOf cancelledOf faultsOf housekeepingOf rememberedOf restartedOf toSafety toNominal
+    in-list : isStartup (modeOf b) ≡ false → (code : ℕ) → isIn code baseCodes ≡ true → toldOf code (listed (find commandTable code) s) ≡ some (first (checksBy rail limits b code s))
+    unfolding listed find commandTable first checksBy baseCodes isIn idWrong unavailable channelCodes channelWrong checksumWrong carried getting setting resetting decodedOf runOf acceptedOf acceptedWith groupOnOf groupOffOf groupStateOf channelOnOf channelOffOf cancelledOf faultsOf housekeepingOf rememberedOf restartedOf toSafety toNominal
     in-list started code h =
-        at-code (λ k. toldOf k (listed (find table k) s) ≡ some (first (checksBy rail limits b k s))) code baseCodes h
+        at-code (λ k. toldOf k (listed (find commandTable k) s) ≡ some (first (checksBy rail limits b k s))) code baseCodes h
         (keyed 0xAA 5 0xA6 _ refl
         and plain 0x02 4 _ refl
         and plain 0x04 4 _ refl
@@ -205,7 +206,7 @@ module _ (rail : ℤ) (limits : Limits) (b : Board) where
         (λ none-such. decoder-tells (codeOf s) (decodeOf board s) 3 (first-check baseCodes board s ∙ rw (long, ours, none-such)) ∙ rw (ours, none-such)))
 
 -- ---- the whole table
-silent : (b : Board) (x : Bool) (a : Answer) (c : Commanded) {rest : ℕ} → (x ≡ false → told c ≡ some rest) → told (cond x (silentOf (Answered a) b) c) ≡ some (cond x (numberOf a) rest)
+silent : (b : Board) (x : Bool) (a : Answer) (c : Commanded) {rest : ℕ} → (x ≡ false → told c ≡ some rest) → told (cond x (silentOf (Answered a) b) c) ≡ some (cond x (answerNumber a) rest)
 silent b true a c e = refl
 silent b false a c e = e refl
 

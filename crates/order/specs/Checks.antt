@@ -1,33 +1,27 @@
--- Document 01's command table as one list of checks in its order: the first that applies answers, and where none does the number is 0.
--- `7 when b` is a check with the number 7 that applies where b holds. The checks read the transfer's bytes, mode and profile, rail and settings, and nothing
--- that a decoder makes of the bytes. Assumes nothing: these are definitions.
+-- Document 01's command table as one list of checks in its order: the first that applies answers, and where none does
+-- the number is 0. `7 when b` is a check with the number 7 that applies where b holds. The checks read the transfer's
+-- bytes, mode and profile, rail and settings, and nothing that a decoder makes of the bytes. Assumes nothing: these are
+-- definitions.
 use Prim.Native.Nat.{ℕ}
-use mathlib.Core.Bool.{Bool, false, cond, not, _&&_, _||_}
-use mathlib.Core.List.{List, [], _∷_}
-use lib.Dec.{eqb}
-use lib.IntN.{ℤ}
+use mathlib.Core.{Bool.Bool, Bool.false, Bool.cond, Bool.not, Bool._&&_, Bool._||_, List.List, List.[], List._∷_}
+use lib.{Dec.eqb, IntN.ℤ}
 use Rattle.settings.specs.Table.{parameterOf}
-use Rattle.modes.specs.Table.{_at-least_, same}
-use Rattle.modes.specs.declared.Mode.{Mode}
+use Rattle.modes.specs.{Table._at-least_, Table.same, declared.Mode.Mode, declared.Limits.Limits}
 use Rattle.modes.specs.declared.Mode.the-variants.{Startup, Nominal, Safety, Emergency}
-use Rattle.modes.specs.declared.Limits.{Limits}
 use Rattle.channels.specs.Operations.{wrongToSwitchOn, wrongToSwitchOff}
-use Rattle.command.specs.Table.{table, find}
-use Rattle.command.specs.Codes.{isIn, baseCodes}
+use Rattle.command.specs.{Table.commandTable, Table.find, Codes.isIn, Codes.baseCodes}
 use Rattle.command.specs.Decode.{fewerThanFour, codeOf, byteAfter, idOf, valuePart, checksumIn}
-use Rattle.command.specs.Checks.{Check, _when_, headerDiffers, shorter, keyWrong, idWrong, isTooShort, isNaN, valueOf}
-use Rattle.memory.specs.Memory.{isRight}
-use Rattle.memory.specs.declared.Memory.{Memory}
-use Rattle.state.specs.Parts.{modeOf}
-use Rattle.state.specs.declared.parts.Board.{Board}
-use Rattle.state.specs.declared.parts.Profile.{Profile}
+use Rattle.command.specs.Checks.{Check, _when_, headerDiffers, shorter, keyWrong, idWrong, isTooShort, isNaN, valueReads}
+use Rattle.memory.specs.{Memory.isRight, declared.Memory.Memory}
+use Rattle.state.specs.{Parts.modeOf, declared.parts.Board.Board, declared.parts.Profile.Profile}
 use Rattle.answers.specs.Answers.{headerOf}
 
 infix 70 _is_
 abbrev pub _is_ : Mode → Mode → Bool
 m is n = same m n
 
--- 6, not available in this mode: the five channel commands outside nominal, 0x32 in emergency, 0x30 in emergency and in safety unless the rail is at least safety low
+-- 6, not available in this mode: the five channel commands outside nominal, 0x32 in emergency, 0x30 in emergency and in
+-- safety unless the rail is at least safety low
 unfoldable pub channelCodes : List ℕ
 channelCodes = 0x10 ∷ 0x12 ∷ 0x14 ∷ 0x16 ∷ 0x18 ∷ []
 
@@ -53,12 +47,12 @@ checksumWrong code given m = eqb code 0x94 && not (isRight given m)
 unfoldable pub checksBy : ℤ → Limits → Board → ℕ → List ℕ → List Check
 checksBy rail limits b code s =
     4 when not (isIn code baseCodes)
-    ∷ 5 when shorter (find table code) s
+    ∷ 5 when shorter (find commandTable code) s
     ∷ 6 when unavailable code (modeOf b) rail limits
-    ∷ 7 when keyWrong (find table code) s
+    ∷ 7 when keyWrong (find commandTable code) s
     ∷ 7 when idWrong code (parameterOf (idOf s))
-    ∷ 5 when (eqb code 0x84 && valueOf (parameterOf (idOf s)) (valuePart s) isTooShort)
-    ∷ 7 when (eqb code 0x84 && valueOf (parameterOf (idOf s)) (valuePart s) isNaN)
+    ∷ 5 when (eqb code 0x84 && valueReads (parameterOf (idOf s)) (valuePart s) isTooShort)
+    ∷ 7 when (eqb code 0x84 && valueReads (parameterOf (idOf s)) (valuePart s) isNaN)
     ∷ 7 when channelWrong code (b .profile) (byteAfter s)
     ∷ 7 when checksumWrong code (checksumIn s) (b .memory)
     ∷ []

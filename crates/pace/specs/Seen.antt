@@ -1,12 +1,11 @@
--- What of a board the digest of the speed pattern takes in, as docs/SPEED.md gives it. Assumes nothing: these are definitions.
+-- What of a board the digest of the speed pattern takes in, as docs/SPEED.md gives it. Assumes nothing: these are
+-- definitions.
 use Prim.Native.Nat.{ℕ, _+_, _*_, _%_}
 use mathlib.Core.Bool.{Bool, cond}
-use Rattle.answers.specs.Answers.{numberOf}
-use Rattle.answers.specs.declared.Outcome.{Outcome}
+use Rattle.answers.specs.{Answers.answerNumber, declared.Outcome.Outcome}
 use Rattle.answers.specs.declared.Outcome.the-variants.{WrongWordCount, NoTransfer, Answered}
-use Rattle.modes.specs.declared.Mode.{Mode}
+use Rattle.modes.specs.{declared.Mode.Mode, declared.ModeAge.ModeAge}
 use Rattle.modes.specs.declared.Mode.the-variants.{Startup, Nominal, Safety, Emergency}
-use Rattle.modes.specs.declared.ModeAge.{ModeAge}
 use Rattle.watchdog.specs.declared.Event.{Event}
 use Rattle.watchdog.specs.declared.Event.the-variants.{NoEvent, PeripheralReset, WatchdogReset}
 
@@ -25,7 +24,7 @@ eventNumber WatchdogReset = 2
 abbrev pub outcomeNumber : Outcome → ℕ
 outcomeNumber WrongWordCount = 99
 outcomeNumber NoTransfer = 0
-outcomeNumber (Answered answer) = 1 + numberOf answer
+outcomeNumber (Answered answer) = 1 + answerNumber answer
 
 -- what a tick told, and the mode with the timer, in one number each
 abbrev pub toldBy : Outcome → Event → Bool → ℕ

@@ -1,6 +1,6 @@
 // What the digest takes in of a board and of what a tick told.
 ghost use mathlib.Core.Path.{_≡_};
-ghost use Rattle.answers.specs.Answers.{numberOf};
+ghost use Rattle.answers.specs.Answers.{answerNumber};
 ghost use Rattle.pace.specs.Seen.{modeNumber, eventNumber, outcomeNumber, toldBy, timesOf};
 use answers::Answer;
 use answers::Outcome;
@@ -35,7 +35,7 @@ fn event_number(event: Event) -> u8
 
 // An answer as the command table numbers it.
 fn answer_number(answer: Answer) -> u8
-    ensures { λ r. ⌜ r ≡ numberOf answer ⌝ }
+    ensures { λ r. ⌜ r ≡ answerNumber answer ⌝ }
 {
     match answer {
         Answer::Accepted => 0,
@@ -79,7 +79,8 @@ pub fn timed(phase: ModeAge, timer: u64) -> u64
     5 * (phase.age() % 65536) + 7 * (timer % 65536) + 11 * (mode as u64)
 }
 
-// What the digest takes in of the channels at tick i. The remainder of a count is the count: it tells the prover its bound, here and below.
+// What the digest takes in of the channels at tick i. The remainder of a count is the count: it tells the prover its
+// bound, here and below.
 // argued: an instrument; its digest is compared with the second program's
 pub fn switched(channels: Channels, i: u64) -> u64 {
     let counts = channels.counts();

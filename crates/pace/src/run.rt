@@ -93,7 +93,8 @@ fn closed(digest: u32, m: Machine) -> u32 {
     shown_taken(d, board.memory)
 }
 
-// The digest of a run of a kind. The ticks that wake the board run at the same place as the others: `unit::tick` is called once in the program, so that the compiler lays it into the loop.
+// The digest of a run of a kind. The ticks that wake the board run at the same place as the others: `unit::tick` is
+// called once in the program, so that the compiler lays it into the loop.
 // argued: an instrument; its digest is compared with the second program's
 pub fn digest_of(run: u8, count: u64) -> u32 {
     let mut m = started();

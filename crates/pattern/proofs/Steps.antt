@@ -12,7 +12,7 @@ use Rattle.laws.proofs.Lists.{drop-step, drop-end}
 use Rattle.pattern.specs.Pattern.{takenIn}
 use Rattle.pattern.specs.Digest.{allTaken}
 use Rattle.pattern.specs.Ticks.{numbersFrom}
-use Rattle.pattern.specs.Line.{numberOf}
+use Rattle.pattern.specs.Line.{countIn}
 use Rattle.pattern.specs.declared.line.Count.{Count}
 use borrow.Author.Tests.{lt-ltb, le-ltb}
 
@@ -46,18 +46,18 @@ rail-pos r = toZ-pos w16 (15000 + r % 1000) (omega arith)
 
 -- ---- the digits of a number
 module _ (n : ℕ) (s : List ℕ) (i : ℕ) (left : i < length s) where
-  pub number-low : getD s i 0 < 48 → numberOf n (drop i s) ≡ Count.Bad
-  unfolding numberOf
+  pub number-low : getD s i 0 < 48 → countIn n (drop i s) ≡ Count.Bad
+  unfolding countIn
   number-low h = rw (drop-step s i left, lt-ltb _ _ h)
 
-  pub number-high : 57 < getD s i 0 → numberOf n (drop i s) ≡ Count.Bad
-  unfolding numberOf
+  pub number-high : 57 < getD s i 0 → countIn n (drop i s) ≡ Count.Bad
+  unfolding countIn
   number-high h = let l : 48 ≤ getD s i 0 = omega arith in rw (drop-step s i left, le-ltb _ _ l, lt-ltb _ _ h)
 
-  pub number-turn : 48 ≤ getD s i 0 → getD s i 0 ≤ 57 → numberOf n (drop i s) ≡ numberOf (n % 100000000 * 10 + (getD s i 0 - 48)) (drop (i + 1) s)
-  unfolding numberOf
+  pub number-turn : 48 ≤ getD s i 0 → getD s i 0 ≤ 57 → countIn n (drop i s) ≡ countIn (n % 100000000 * 10 + (getD s i 0 - 48)) (drop (i + 1) s)
+  unfolding countIn
   number-turn l h = rw (drop-step s i left, le-ltb _ _ l, le-ltb _ _ h)
 
-pub number-end : (n : ℕ) (s : List ℕ) (i : ℕ) → length s ≤ i → numberOf n (drop i s) ≡ Count.Of n
-unfolding numberOf
+pub number-end : (n : ℕ) (s : List ℕ) (i : ℕ) → length s ≤ i → countIn n (drop i s) ≡ Count.Of n
+unfolding countIn
 number-end n s i h = rw (drop-end s i h)

@@ -1,11 +1,9 @@
--- The line that says which run is asked for, as docs/SPEED.md has it: a kind of tick, a space, one to nine digits, LF. Characters are their ASCII codes. Assumes nothing: these are definitions.
+-- The line that says which run is asked for, as docs/SPEED.md has it: a kind of tick, a space, one to nine digits, LF.
+-- Characters are their ASCII codes. Assumes nothing: these are definitions.
 use Prim.Native.Nat.{ℕ, _+_, _-_, _*_, _%_}
-use mathlib.Core.Bool.{Bool, true, false, cond}
-use mathlib.Core.List.{List, [], _∷_}
-use lib.Dec.{ltb, eqb}
-use lib.ListN.{length, getD, take, drop}
-use Rattle.pattern.specs.declared.line.Asked.{Asked}
-use Rattle.pattern.specs.declared.line.Count.{Count}
+use mathlib.Core.{Bool.Bool, Bool.true, Bool.false, Bool.cond, List.List, List.[], List._∷_}
+use lib.{Dec.ltb, Dec.eqb, ListN.length, ListN.getD, ListN.take, ListN.drop}
+use Rattle.pattern.specs.{declared.line.Asked.Asked, declared.line.Count.Count}
 
 -- the letters of the table: pnfhgsocwmz
 unfoldable pub kinds : List ℕ
@@ -19,16 +17,16 @@ abbrev pub isKind : ℕ → Bool
 isKind letter = isIn letter kinds
 
 -- the number that digits make behind the digits of n, where nothing but digits is there; the last nine digits count
-unfoldable pub numberOf : ℕ → List ℕ → Count
-numberOf n [] = Count.Of n
-numberOf n (c ∷ s) = cond (ltb c 48) Count.Bad (cond (ltb 57 c) Count.Bad (numberOf (n % 100000000 * 10 + (c - 48)) s))
+unfoldable pub countIn : ℕ → List ℕ → Count
+countIn n [] = Count.Of n
+countIn n (c ∷ s) = cond (ltb c 48) Count.Bad (cond (ltb 57 c) Count.Bad (countIn (n % 100000000 * 10 + (c - 48)) s))
 
 -- one to nine digits and LF
 abbrev pub countOf : List ℕ → Count
 countOf s =
     cond (ltb (length s) 2) Count.Bad
     (cond (ltb 10 (length s)) Count.Bad
-    (cond (eqb (getD s (length s - 1) 0) 10) (numberOf 0 (take (length s - 1) s)) Count.Bad))
+    (cond (eqb (getD s (length s - 1) 0) 10) (countIn 0 (take (length s - 1) s)) Count.Bad))
 
 -- a run of a kind with a count that is one
 abbrev pub runOf : ℕ → Count → Asked

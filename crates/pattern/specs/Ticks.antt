@@ -1,12 +1,9 @@
--- What a tick of each kind brings, as the table of docs/SPEED.md has it. A kind is the ASCII code of its letter, and r is what was drawn for the tick. Assumes nothing: these are definitions.
+-- What a tick of each kind brings, as the table of docs/SPEED.md has it. A kind is the ASCII code of its letter, and r
+-- is what was drawn for the tick. Assumes nothing: these are definitions.
 use Prim.Native.Nat.{ℕ, zero, suc, _+_, _-_, _*_, _/_, _%_}
-use mathlib.Core.Bool.{cond}
-use mathlib.Core.List.{List, [], _∷_, _++_}
-use lib.Dec.{ltb, eqb}
-use lib.IntN.{pos}
-use lib.ListN.{length, getD, drop, set}
-use Rattle.pattern.specs.Pattern.{waking, nextOf, drawOf}
-use Rattle.pattern.specs.declared.ticks.Transfer.{Transfer}
+use mathlib.Core.{Bool.cond, List.List, List.[], List._∷_, List._++_}
+use lib.{Dec.ltb, Dec.eqb, IntN.pos, ListN.length, ListN.getD, ListN.drop, ListN.set}
+use Rattle.pattern.specs.{Pattern.waking, Pattern.nextOf, Pattern.drawOf, declared.ticks.Transfer.Transfer}
 use Rattle.pattern.specs.declared.ticks.Brought.{Brought}
 
 -- the mix: pnpgpfpspopwphpc

@@ -1,4 +1,5 @@
-// The pattern of the speed measurement, as docs/SPEED.md describes it: which run a line asks for, what each tick brings, and how the digest takes numbers in. It needs no board.
+// The pattern of the speed measurement, as docs/SPEED.md describes it: which run a line asks for, what each tick
+// brings, and how the digest takes numbers in. It needs no board.
 mod digest;
 mod line;
 mod ticks;

@@ -1,6 +1,6 @@
 // The line that says which run is asked for.
 ghost use mathlib.Core.Path.{_≡_};
-ghost use Rattle.pattern.specs.Line.{isKind, numberOf, countOf, askedOf};
+ghost use Rattle.pattern.specs.Line.{isKind, countIn, countOf, askedOf};
 
 // The run that a line asks for, or that the line is not of the form.
 pub enum Asked {
@@ -36,7 +36,7 @@ fn is_kind(letter: u8) -> bool
 
 // The number that decimal digits make; of more than nine the last nine count.
 fn number(digits: &[u8]) -> Count
-    ensures { λ r. ⌜ r ≡ numberOf 0 (now (digits .entry)) ⌝ }
+    ensures { λ r. ⌜ r ≡ countIn 0 (now (digits .entry)) ⌝ }
 {
     let mut n: u64 = 0;
     let mut i = 0;

@@ -10,8 +10,9 @@ struct Transfer {
     bytes: [u8; 8],
 }
 
-// The kind of a turn's tick and what it brings besides its words, from what was drawn as number x of the row: the rail in millivolts, the channels that report overcurrent
-// and the bytes of a transfer, of which so many are sent; there is none where `length` is 0.
+// The kind of a turn's tick and what it brings besides its words, from what was drawn as number x of the row: the rail
+// in millivolts, the channels that report overcurrent and the bytes of a transfer, of which so many are sent; there is
+// none where `length` is 0.
 pub struct Brought {
     pub x: u64,
     pub length: usize,
@@ -49,7 +50,8 @@ pub fn place(turn: u64) -> u64
     turn - WAKING
 }
 
-// The number of a turn in the row that the draws come from, which follows x; a waking turn draws none. The first, 1, makes the draw 0 and so the lowest rail.
+// The number of a turn in the row that the draws come from, which follows x; a waking turn draws none. The first, 1,
+// makes the draw 0 and so the lowest rail.
 fn next(turn: u64, x: u64) -> u64
     ensures { λ r. ⌜ r ≡ nextOf turn x ⌝ }
 {

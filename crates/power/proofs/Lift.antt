@@ -1,5 +1,6 @@
--- From single ticks to runs, for any machine: a count of the ticks that the channel may still be off, which falls with each of them,
--- and a count of the ticks that it must still be on, which falls by at most one with each. Assumes nothing.
+-- From single ticks to runs, for any machine: a count of the ticks that the channel may still be off, which falls with
+-- each of them, and a count of the ticks that it must still be on, which falls by at most one with each. Assumes
+-- nothing.
 use mathlib.Core.Path.{_≡_, refl, ap}
 use mathlib.Core.Bool.{Bool, true, false}
 use mathlib.Core.List.{List, [], _∷_, _++_, append-assoc}

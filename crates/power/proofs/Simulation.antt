@@ -1,11 +1,13 @@
--- A larger machine inherits what is shown of a smaller one's channel: one equation for a tick, and one for a call that is none. Assumes nothing.
+-- A larger machine inherits what is shown of a smaller one's channel: one equation for a tick, and one for a call that
+-- is none. Assumes nothing.
 use mathlib.Core.Path.{_≡_, refl, sym, ap, subst}
 use mathlib.Core.Bool.{Bool, true, false, cond}
 use mathlib.Core.List.{List, [], _∷_}
 use Rattle.laws.proofs.Cases.{cases}
 use Rattle.power.specs.Runs.{ends, channel, Stretch}
 
--- `project` takes each allowed tick of the larger machine to a tick of the smaller, and every other call to nothing at all; `Inv` is what the larger one needs to know of its own state
+-- `project` takes each allowed tick of the larger machine to a tick of the smaller, and every other call to nothing at
+-- all; `Inv` is what the larger one needs to know of its own state
 pub record Simulates {S I S′ I′ : Type 0} (call : S → I → S) (isTick : I → Bool) (tick′ : S′ → I′ → S′) (Inv : S → Type 0) (Allowed : S → I → Type 0) (project : S → S′) (input : S → I → I′) : Type 0 where
   pub kept : (s : S) (i : I) → Inv s → Allowed s i → Inv (call s i)
   pub ticks : (s : S) (i : I) → Inv s → Allowed s i → isTick i ≡ true → project (call s i) ≡ tick′ (project s) (input s i)

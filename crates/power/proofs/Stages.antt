@@ -1,4 +1,5 @@
--- The run of a rail that is low for good, from the start, stage by stage and for any two times: 50 off, linger + 1 on, the emergency period off, linger + 1 on, off. Assumes nothing.
+-- The run of a rail that is low for good, from the start, stage by stage and for any two times: 50 off, linger + 1 on,
+-- the emergency period off, linger + 1 on, off. Assumes nothing.
 use mathlib.Core.Path.{_≡_, refl, sym, ap, _∙_}
 use mathlib.Core.Bool.{Bool, true, false}
 use mathlib.Core.List.{List, [], _∷_, _++_}

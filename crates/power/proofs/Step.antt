@@ -1,4 +1,5 @@
--- One tick of the small machine, as `Lift` asks it: by the mode, the rows of the table, and the command. Assumes nothing.
+-- One tick of the small machine, as `Lift` asks it: by the mode, the rows of the table, and the command. Assumes
+-- nothing.
 use mathlib.Core.Path.{_≡_, refl, sym, subst, _∙_}
 use mathlib.Core.Bool.{Bool, true, false, _||_, true≢false}
 use Prim.Native.Nat.{ℕ, suc, _+_, _-_, _^_, _≤_, _<_, max, min}

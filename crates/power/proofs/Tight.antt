@@ -1,4 +1,5 @@
--- Neither number of the claim can be bettered: the run of a low rail has both, for any two times, and two such runs are computed. Assumes nothing.
+-- Neither number of the claim can be bettered: the run of a low rail has both, for any two times, and two such runs are
+-- computed. Assumes nothing.
 use mathlib.Core.Path.{_≡_, refl, sym, ap, _∙_, subst}
 use mathlib.Core.Bool.{Bool, true, false, false≢true}
 use mathlib.Core.List.{List, [], _∷_, _++_, append-assoc, append-nil}

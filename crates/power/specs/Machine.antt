@@ -1,14 +1,11 @@
--- The small machine: the mode and its age, by the very table and commands of `modes`, and one force-enabled channel that no overcurrent names. Assumes nothing: these are definitions.
-use mathlib.Core.Path.{_≡_}
-use mathlib.Core.Bool.{Bool, true, false, cond, _||_}
+-- The small machine: the mode and its age, by the very table and commands of `modes`, and one force-enabled channel
+-- that no overcurrent names. Assumes nothing: these are definitions.
+use mathlib.Core.{Path._≡_, Bool.Bool, Bool.true, Bool.false, Bool.cond, Bool._||_}
 use Prim.Native.Nat.{ℕ}
 use lib.IntN.{ℤ}
-use Rattle.modes.specs.Table.{same, entered, stepOf, olderOf}
-use Rattle.modes.specs.Commands.{toSafety, toNominal, leaves}
-use Rattle.modes.specs.declared.Mode.{Mode}
+use Rattle.modes.specs.{Table.same, Table.entered, Table.stepOf, Table.olderOf, Commands.toSafety, Commands.toNominal, Commands.leaves}
+use Rattle.modes.specs.{declared.Mode.Mode, declared.ModeAge.ModeAge, declared.Limits.Limits}
 use Rattle.modes.specs.declared.Mode.the-variants.{Startup, Nominal, Safety, Emergency}
-use Rattle.modes.specs.declared.ModeAge.{ModeAge}
-use Rattle.modes.specs.declared.Limits.{Limits}
 
 pub record State : Type 0 where
   pub phase : ModeAge
@@ -19,7 +16,8 @@ pub record Times : Type 0 where
   pub linger : ℕ
   pub period : ℕ
 
--- what a command is to this machine: 0x30, 0x32, one of the five that switch channels, by which a force-enabled one can only come on, or any other, which alters neither the mode nor the channel
+-- what a command is to this machine: 0x30, 0x32, one of the five that switch channels, by which a force-enabled one can
+-- only come on, or any other, which alters neither the mode nor the channel
 pub data Command : Type 0 where
   switchToNominal switchToSafety switchOn other : Command
 

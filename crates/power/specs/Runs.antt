@@ -1,11 +1,11 @@
--- Runs of any machine, and what is said of a channel over a run. Nothing here knows what the machine does. Assumes nothing: these are definitions.
-use mathlib.Core.Path.{_≡_}
-use mathlib.Core.Bool.{Bool, true, false, cond}
-use mathlib.Core.List.{List, [], _∷_, _++_}
+-- Runs of any machine, and what is said of a channel over a run. Nothing here knows what the machine does. Assumes
+-- nothing: these are definitions.
+use mathlib.Core.{Path._≡_, Bool.Bool, Bool.true, Bool.false, Bool.cond, List.List, List.[], List._∷_, List._++_}
 use Prim.Native.Nat.{ℕ, _≤_}
 use lib.ListN.{length, take, replicate}
 
--- `call` is what the machine does with an input, `isTick` says which inputs are ticks, and `on` whether the channel is on
+-- `call` is what the machine does with an input, `isTick` says which inputs are ticks, and `on` whether the channel is
+-- on
 module _ {S I : Type 0} (call : S → I → S) (isTick : I → Bool) (on : S → Bool) where
   -- the channel at the end of each tick of a run from s
   abbrev pub ends : S → List I → List Bool
@@ -41,7 +41,8 @@ On b = b ≡ true
 pub record OffAtMost (n : ℕ) (channel : List Bool) : Type 0 where
   pub shown : (before during after : List Bool) → channel ≡ before ++ during ++ after → All Off during → length during ≤ n
 
--- on for at least n ticks each time that it comes on, or to the end of the run: where an on follows an off, the list is on for n places from there, or for all that are left
+-- on for at least n ticks each time that it comes on, or to the end of the run: where an on follows an off, the list is
+-- on for n places from there, or for all that are left
 pub record OnAtLeast (n : ℕ) (channel : List Bool) : Type 0 where
   pub shown : (before since : List Bool) → channel ≡ before ++ false ∷ true ∷ since → All On (take n (true ∷ since))
 

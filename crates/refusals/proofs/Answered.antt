@@ -1,4 +1,5 @@
--- A tick that happens is its command step and then the watchdog, so it tells what its transfer is given. Assumes nothing.
+-- A tick that happens is its command step and then the watchdog, so it tells what its transfer is given. Assumes
+-- nothing.
 use Prim.Native.Nat.{ℕ, _≤_}
 use mathlib.Core.Path.{_≡_, refl, sym, ap, _∙_}
 use mathlib.Core.Bool.{true, false}

@@ -31,7 +31,7 @@ use Rattle.order.specs.Checks.{unavailable, channelCodes, channelWrong, checksu
 use Rattle.order.proofs.Order.{at-code, in-order}
 use Rattle.commands.specs.Step.{commandedOf}
 use Rattle.refusals.specs.Conditions as claim
-use Rattle.refusals.specs.Conditions.{Sent, _at_, code, id, lengths, neededBy, codesIn, valueShort, keyWrong, isNaN, valueNaN, refusals, noneOf, table, condition, Given, answer}
+use Rattle.refusals.specs.Conditions.{Sent, _at_, code, id, lengths, neededBy, codesIn, valueShort, keyWrong, isNaN, valueNaN, refusals, noneOf, answerTable, condition, Given, answer}
 
 -- ---- rows numbered one after the other: the number of the first that applies is given, and it alone
 unfoldable numbered : ℕ → List Bool → List Check
@@ -181,16 +181,16 @@ module _ (t : Sent) where
   s = t .bytes
 
   -- the lengths and the keys are those of the commands
-  lengths-agree : (k : ℕ) → isIn k baseCodes ≡ true → checks.shorter (commandTable.find commandTable.table k) s ≡ ltb (length s) (neededBy lengths k)
-  unfolding baseCodes commandTable.find commandTable.table neededBy
+  lengths-agree : (k : ℕ) → isIn k baseCodes ≡ true → checks.shorter (commandTable.find commandTable.commandTable k) s ≡ ltb (length s) (neededBy lengths k)
+  unfolding baseCodes commandTable.find commandTable.commandTable neededBy
   lengths-agree k h =
-      at-code (λ c. checks.shorter (commandTable.find commandTable.table c) s ≡ ltb (length s) (neededBy lengths c)) k baseCodes h
+      at-code (λ c. checks.shorter (commandTable.find commandTable.commandTable c) s ≡ ltb (length s) (neededBy lengths c)) k baseCodes h
       (refl and refl and refl and refl and refl and refl and refl and refl and refl and refl and refl and refl and refl and refl and refl and refl and refl and refl and refl and none)
 
-  keys-agree : (k : ℕ) → isIn k baseCodes ≡ true → checks.keyWrong (commandTable.find commandTable.table k) s ≡ keyWrong k (t at 4)
-  unfolding isIn baseCodes commandTable.find commandTable.table keyWrong
+  keys-agree : (k : ℕ) → isIn k baseCodes ≡ true → checks.keyWrong (commandTable.find commandTable.commandTable k) s ≡ keyWrong k (t at 4)
+  unfolding isIn baseCodes commandTable.find commandTable.commandTable keyWrong
   keys-agree k h =
-      at-code (λ c. checks.keyWrong (commandTable.find commandTable.table c) s ≡ keyWrong c (t at 4)) k baseCodes h
+      at-code (λ c. checks.keyWrong (commandTable.find commandTable.commandTable c) s ≡ keyWrong c (t at 4)) k baseCodes h
       (or-false (not (eqb (t at 4) 0xA6)) and refl and refl and refl and refl and refl and refl and refl and refl and refl and refl and refl and refl and refl and refl and refl and refl and refl and refl and none)
 
   -- 0x84 behind its id, where that can be set: the value's bytes count from the sixth on
@@ -210,7 +210,7 @@ module _ (t : Sent) where
 
   -- 0x84 as a whole: its four checks are one 5 and one 7
   parameter-checked : (p : Parameter)
-      → first (5 when ltb (length s) 6 ∷ 7 when checks.idWrong 0x84 p ∷ 5 when checks.valueOf p (valuePart s) checks.isTooShort ∷ 7 when checks.valueOf p (valuePart s) checks.isNaN ∷ [])
+      → first (5 when ltb (length s) 6 ∷ 7 when checks.idWrong 0x84 p ∷ 5 when checks.valueReads p (valuePart s) checks.isTooShort ∷ 7 when checks.valueReads p (valuePart s) checks.isNaN ∷ [])
       ≡ first (5 when (ltb (length s) 6 || valueShort p t) ∷ 7 when ((checks.idWrong 0x84 p || valueNaN p t) || false) ∷ [])
   unfolding first checks.idWrong
   parameter-checked (ReadWrite type) =
@@ -225,7 +225,7 @@ module _ (t : Sent) where
   Agree = first (checksBy (t .rail) (t .limits) (t .board) (code t) s) ≡ first (drop 3 (refusals t))
 
   set-agrees : code t ≡ 0x84 → Agree
-  unfolding first checksBy baseCodes codesIn isIn commandTable.find commandTable.table neededBy unavailable channelCodes keyWrong channelWrong checksumWrong
+  unfolding first checksBy baseCodes codesIn isIn commandTable.find commandTable.commandTable neededBy unavailable channelCodes keyWrong channelWrong checksumWrong
   set-agrees e = rw e (parameter-checked (parameterOf (id t)))
 
   other-agrees : isIn (code t) baseCodes ≡ true → eqb (code t) 0x84 ≡ false → Agree

@@ -10,7 +10,7 @@ use Rattle.laws.proofs.Cases.{cases}
 use Rattle.wire.specs.Numbers.{bytesOf}
 use Rattle.wire.specs.Replies.{shown, replyOf, laidOut, replyCode}
 use Rattle.replies.specs.Layouts.{shortReply}
-use Rattle.answers.specs.Answers.{numberOf, statOf, headerOf, refusedOf, notThisBoardOf}
+use Rattle.answers.specs.Answers.{answerNumber, statOf, headerOf, refusedOf, notThisBoardOf}
 use Rattle.answers.specs.declared.Answer.{Answer}
 use Rattle.answers.specs.declared.Answer.the-variants.{Accepted, FewerThanFourBytes, InStartup, NotThisBoard, CodeNotListed, TooShort, NotAvailable, Wrong}
 use Rattle.answers.specs.declared.Commanded.{Commanded}
@@ -21,7 +21,7 @@ use Rattle.refusals.proofs.Results.{step, silent-is, elsewhere-is, refu
 
 -- ---- what each answer leaves
 -- STAT, of the answers 4 to 7
-stat-agrees : (a : Answer) → 4 ≤ numberOf a → statOf a ≡ statIn stats (numberOf a)
+stat-agrees : (a : Answer) → 4 ≤ answerNumber a → statOf a ≡ statIn stats (answerNumber a)
 unfolding statIn
 stat-agrees Accepted h = absurd (omega arith)
 stat-agrees FewerThanFourBytes h = absurd (omega arith)
@@ -34,7 +34,7 @@ stat-agrees Wrong h = refl
 
 module _ (t : Sent) where
   -- the reply of an answer from 4 on
-  pub refusal-of : (a : Answer) (n : ℕ) → 4 ≤ n → numberOf a ≡ n → replyOf (shortReply (headerOf (t .board .profile)) (code t) (statOf a)) ≡ refusal n t
+  pub refusal-of : (a : Answer) (n : ℕ) → 4 ≤ n → answerNumber a ≡ n → replyOf (shortReply (headerOf (t .board .profile)) (code t) (statOf a)) ≡ refusal n t
   refusal-of a n l e = ap (λ (stat : ℕ). replyOf (shortReply (headerOf (t .board .profile)) (code t) stat)) (stat-agrees a (omega (arith, e)) ∙ ap (statIn stats) e)
 
   nothing : (n : ℕ) → 1 ≤ n → n ≤ 2 → answer t ≡ some n → (obeyed t .board ≡ t .board) × (obeyed t .replied ≡ false)
@@ -49,7 +49,7 @@ module _ (t : Sent) where
       (ap (λ (c : Commanded). c .board) w, ap (λ (c : Commanded). c .replied) w)
 
   -- a refusal from 4 on is its reply and a timer of 0
-  refused-leaves : (a : Answer) (n : ℕ) → 4 ≤ n → numberOf a ≡ n → refusedOf a (code t) (t .board) .board ≡ answeredAndFed n t
+  refused-leaves : (a : Answer) (n : ℕ) → 4 ≤ n → answerNumber a ≡ n → refusedOf a (code t) (t .board) .board ≡ answeredAndFed n t
   unfolding refusedOf
   refused-leaves a n l e = rw (refusal-of a n l e)
 

@@ -13,7 +13,7 @@ use Rattle.watchdog.proofs.Laws.{disabled, early}
 use Rattle.memory.specs.Limits.{timeoutOf, limitsOf}
 use Rattle.state.specs.Parts.{withReply}
 use Rattle.state.specs.Start.{watchdogResetOf}
-use Rattle.answers.specs.Answers.{numberOf, silentOf, refusedOf, notThisBoardOf}
+use Rattle.answers.specs.Answers.{answerNumber, silentOf, refusedOf, notThisBoardOf}
 use Rattle.answers.specs.declared.Answer.{Answer}
 use Rattle.answers.specs.declared.Outcome.the-variants.{NoTransfer, Answered}
 use Rattle.answers.specs.declared.Commanded.{Commanded}
@@ -60,7 +60,8 @@ module _ (t : Sent) (due : Due) where
       go PeripheralReset = (refl, refl)
       go WatchdogReset = (refl, refl)
 
-  -- a step that answers another board's transfer: it leaves timer and settings, so the watchdog does what it would have done
+  -- a step that answers another board's transfer: it leaves timer and settings, so the watchdog does what it would have
+  -- done
   abbrev elsewhere : Commanded
   elsewhere = notThisBoardOf (code t) (t .board)
 
@@ -94,7 +95,7 @@ module _ (t : Sent) (due : Due) where
       go WatchdogReset r = refl
 
   -- a step that refuses a transfer of the board's own
-  refused-alone : (a : Answer) (n : ℕ) → 4 ≤ n → numberOf a ≡ n
+  refused-alone : (a : Answer) (n : ℕ) → 4 ≤ n → answerNumber a ≡ n
       → (watched due (refusedOf a (code t) (t .board)) .event ≡ NoEvent) × (watched due (refusedOf a (code t) (t .board)) .machine ≡ replying (answeredAndFed n t))
   unfolding refusedOf
   refused-alone a n l e = rw (quiet-at-0 (dog.secondsInTicks (timeoutOf (t .board .memory)))) (refl, rw (refusal-of t a n l e))

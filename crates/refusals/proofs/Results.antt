@@ -1,4 +1,5 @@
--- What the command step makes of every transfer: it accepts it and the timer is 0, or it hands the board on as it was, or it only answers, with the timer or without it. Assumes nothing.
+-- What the command step makes of every transfer: it accepts it and the timer is 0, or it hands the board on as it was,
+-- or it only answers, with the timer or without it. Assumes nothing.
 use Prim.Native.Nat.{ℕ, _≤_}
 use mathlib.Core.Path.{_≡_, refl, sym, ap, _∙_}
 use mathlib.Core.Bool.{Bool, true, false, cond, not}
@@ -8,7 +9,7 @@ use native.Mathlib.Omega.{arith}
 use lib.IntN.{ℤ}
 use Rattle.modes.specs.Commands.{toSafety, toNominal}
 use Rattle.modes.specs.declared.Limits.{Limits}
-use Rattle.modes.specs.declared.Commanded as change
+use Rattle.modes.specs.declared.ModeAnswer as change
 use Rattle.channels.specs.declared.Channels.{Channels}
 use Rattle.command.specs.Decode.{fewerThanFour, codeOf, decodeOf}
 use Rattle.command.specs.declared.Command.{Command}
@@ -19,12 +20,12 @@ use Rattle.memory.specs.Memory.{savedOf}
 use Rattle.state.specs.Parts.{modeOf}
 use Rattle.state.specs.Start.{freshOf, commandResetOf}
 use Rattle.state.specs.declared.parts.Board.{Board}
-use Rattle.answers.specs.Answers.{numberOf, toldNumber, headerOf, silentOf, acceptedWith, acceptedOf, refusedOf, notThisBoardOf}
+use Rattle.answers.specs.Answers.{answerNumber, toldNumber, headerOf, silentOf, acceptedWith, acceptedOf, refusedOf, notThisBoardOf}
 use Rattle.answers.specs.declared.Answer.{Answer}
 use Rattle.answers.specs.declared.Answer.the-variants.{Accepted, FewerThanFourBytes, InStartup, CodeNotListed, TooShort, NotAvailable, Wrong}
 use Rattle.answers.specs.declared.Outcome.the-variants.{Answered}
 use Rattle.answers.specs.declared.Commanded.{Commanded}
-use Rattle.effects.specs.Effects.{isNominal, switchedOf, groupOnOf, groupOffOf, groupStateOf, channelOnOf, channelOffOf, cancelledOf, switchedModeOf, faultsOf, housekeepingOf, parameterOf, rememberedOf, savedIn, restartedOf, runOf}
+use Rattle.effects.specs.Effects.{isNominal, switchedOf, groupOnOf, groupOffOf, groupStateOf, channelOnOf, channelOffOf, cancelledOf, switchedModeOf, faultsOf, housekeepingOf, parameterAnswered, rememberedOf, savedIn, restartedOf, runOf}
 use Rattle.commands.specs.Step.{isStartup, turnedDown, decodedOf, transferredOf, commandedOf}
 use Rattle.refusals.specs.Conditions as claim
 use Rattle.refusals.specs.Conditions.{Sent, obeyed}
@@ -35,7 +36,7 @@ pub data Result (code : ℕ) (b : Board) : Commanded → Type 0 where
   short : Result code b (silentOf (Answered FewerThanFourBytes) b)
   starting : Result code b (silentOf (Answered InStartup) b)
   elsewhere : Result code b (notThisBoardOf code b)
-  refused : (answer : Answer) → 4 ≤ numberOf answer → Result code b (refusedOf answer code b)
+  refused : (answer : Answer) → 4 ≤ answerNumber answer → Result code b (refusedOf answer code b)
 
 module _ (code : ℕ) (b : Board) where
   either : (x : Bool) {p q : Commanded} → Result code b p → Result code b q → Result code b (cond x p q)
@@ -59,13 +60,13 @@ module _ (code : ℕ) (b : Board) where
   unfolding switchedOf acceptedOf acceptedWith
   switched right channels = either (not (isNominal (modeOf b))) not-available (either (not right) wrong (accepted refl refl))
 
-  switched-mode : (c : change.Commanded) → Result code b (switchedModeOf code c b)
+  switched-mode : (c : change.ModeAnswer) → Result code b (switchedModeOf code c b)
   unfolding switchedModeOf acceptedOf acceptedWith
-  switched-mode (change.Commanded.Accepted phase) = accepted refl refl
-  switched-mode change.Commanded.Unavailable = not-available
+  switched-mode (change.ModeAnswer.Accepted phase) = accepted refl refl
+  switched-mode change.ModeAnswer.Unavailable = not-available
 
   run : (rail : ℤ) (limits : Limits) (c : Command) → Result code b (runOf rail limits code c b)
-  unfolding runOf groupOnOf groupOffOf groupStateOf channelOnOf channelOffOf cancelledOf faultsOf housekeepingOf parameterOf rememberedOf savedIn restartedOf acceptedOf acceptedWith commandResetOf freshOf
+  unfolding runOf groupOnOf groupOffOf groupStateOf channelOnOf channelOffOf cancelledOf faultsOf housekeepingOf parameterAnswered rememberedOf savedIn restartedOf acceptedOf acceptedWith commandResetOf freshOf
   run rail limits (Command.GroupOn g) = switched _ _
   run rail limits (Command.GroupOff g) = switched _ _
   run rail limits (Command.GroupState g) = switched _ _
@@ -123,7 +124,7 @@ module _ {code : ℕ} {b : Board} where
   accepted-is c short q = absurd (omega (arith, same-number 1 0 q))
   accepted-is c starting q = absurd (omega (arith, same-number 2 0 q))
   accepted-is c elsewhere q = absurd (omega (arith, same-number 3 0 q))
-  accepted-is c (refused a k) q = absurd (omega (arith, k, same-number (numberOf a) 0 q))
+  accepted-is c (refused a k) q = absurd (omega (arith, k, same-number (answerNumber a) 0 q))
 
   pub silent-is : (c : Commanded) → Result code b c → (n : ℕ) → 1 ≤ n → n ≤ 2 → toldNumber (c .outcome) ≡ some n → (a : Answer) × (c ≡ silentOf (Answered a) b)
   unfolding notThisBoardOf refusedOf
@@ -131,7 +132,7 @@ module _ {code : ℕ} {b : Board} where
   silent-is c short n l h q = (FewerThanFourBytes, refl)
   silent-is c starting n l h q = (InStartup, refl)
   silent-is c elsewhere n l h q = absurd (omega (arith, same-number 3 n q))
-  silent-is c (refused a k) n l h q = absurd (omega (arith, k, same-number (numberOf a) n q))
+  silent-is c (refused a k) n l h q = absurd (omega (arith, k, same-number (answerNumber a) n q))
 
   pub elsewhere-is : (c : Commanded) → Result code b c → toldNumber (c .outcome) ≡ some 3 → c ≡ notThisBoardOf code b
   unfolding notThisBoardOf refusedOf
@@ -139,12 +140,12 @@ module _ {code : ℕ} {b : Board} where
   elsewhere-is c short q = absurd (omega (arith, same-number 1 3 q))
   elsewhere-is c starting q = absurd (omega (arith, same-number 2 3 q))
   elsewhere-is c elsewhere q = refl
-  elsewhere-is c (refused a k) q = absurd (omega (arith, k, same-number (numberOf a) 3 q))
+  elsewhere-is c (refused a k) q = absurd (omega (arith, k, same-number (answerNumber a) 3 q))
 
-  pub refused-is : (c : Commanded) → Result code b c → (n : ℕ) → 4 ≤ n → toldNumber (c .outcome) ≡ some n → (a : Answer) × (numberOf a ≡ n) × (c ≡ refusedOf a code b)
+  pub refused-is : (c : Commanded) → Result code b c → (n : ℕ) → 4 ≤ n → toldNumber (c .outcome) ≡ some n → (a : Answer) × (answerNumber a ≡ n) × (c ≡ refusedOf a code b)
   unfolding notThisBoardOf refusedOf
   refused-is c (accepted e z) n l q = absurd (omega (arith, told-0 c n e q))
   refused-is c short n l q = absurd (omega (arith, same-number 1 n q))
   refused-is c starting n l q = absurd (omega (arith, same-number 2 n q))
   refused-is c elsewhere n l q = absurd (omega (arith, same-number 3 n q))
-  refused-is c (refused a k) n l q = (a, same-number (numberOf a) n q, refl)
+  refused-is c (refused a k) n l q = (a, same-number (answerNumber a) n q, refl)

@@ -14,7 +14,7 @@ use Rattle.laws.proofs.Cases.{cases}
 use Rattle.laws.proofs.Lists.{lt-or-le}
 use Rattle.value.specs.declared.ValueType.{ValueType}
 use Rattle.settings.specs.Table.{Range, Entry, readWrite, readOnly, missing, rowOf, parameterIn, parameterOf, lowEnd, highEnd, lowOf, highOf, insideOf}
-use Rattle.settings.specs.Values.{numberOf, inRangeOf}
+use Rattle.settings.specs.Values.{settingOf, inRangeOf}
 use Rattle.settings.specs.declared.Parameter.{Parameter}
 use Rattle.settings.proofs.Laws.{in-range-each, each-in-range}
 use Rattle.channels.specs.Sets.{has, allBelow, isWithin}
@@ -64,7 +64,7 @@ to-test false t = absurd t
 each-row : (store : Store) → inRangeOf (store .settings) ≡ true → InRange store
 unfolding parameterOf insideOf lowOf highOf
 each-row store h id type range default row =
-    let z = numberOf (store .settings) id in
+    let z = settingOf (store .settings) id in
     let ends = both (leZ (lowEnd type range) z) (leZ z (highEnd type range)) (rw row at (in-range-each (store .settings) h id type (rw row))) in
     (leZ-yes (from-test (leZ (lowEnd type range) z) (ends .0)), leZ-yes (from-test (leZ z (highEnd type range)) (ends .1)))
 
@@ -72,9 +72,9 @@ rows-each : (store : Store) → InRange store → inRangeOf (store .settings) �
 unfolding parameterOf insideOf lowOf highOf
 rows-each store h = each-in-range (store .settings) (λ id type p. go id type (rowOf id) refl p)
   where
-    go : (id : ℕ) (type : ValueType) (entry : Entry) → rowOf id ≡ entry → parameterIn entry ≡ Parameter.ReadWrite type → insideOf id (numberOf (store .settings) id) ≡ true
+    go : (id : ℕ) (type : ValueType) (entry : Entry) → rowOf id ≡ entry → parameterIn entry ≡ Parameter.ReadWrite type → insideOf id (settingOf (store .settings) id) ≡ true
     go id type (readWrite t range default) row p =
-        let z = numberOf (store .settings) id in
+        let z = settingOf (store .settings) id in
         let ends = h id t range default row in
         rw (row, to-test (leZ (lowEnd t range) z) (ends .0 .le)) (to-test (leZ z (highEnd t range)) (ends .1 .le))
     go id type (readOnly t) row p = let z : _≡_ {A = ℕ} 0 1 = cc in absurd (omega arith)

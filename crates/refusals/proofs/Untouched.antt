@@ -31,7 +31,7 @@ use Rattle.unit.proofs.Laws as unit
 use Rattle.grammar.specs.Grammar.{Read, fails, reads}
 use Rattle.sheet.specs.Form.{Sheet, sheetIn}
 use Rattle.script.specs.Printing.{page}
-use Rattle.session.specs.Sessions.{profileIn, opens, noSession, openedOf, startedOf, answerFrom, answerNumber}
+use Rattle.session.specs.Sessions.{profileIn, opens, noSession, openedOf, startedOf, answerFrom, openedNumber}
 use Rattle.session.specs.declared.running.Answer.{Answer}
 use Rattle.session.specs.declared.running.Answer.the-variants.{Running, ProfileBreaksARule, NotOfForm}
 use Rattle.session.proofs.Steps as session
@@ -110,7 +110,7 @@ framing =
     }
 
 -- the number of a sheet, by what was read
-sheet-number : (held s : List ℕ) → sheetTold held s ≡ answerNumber (answerFrom (sheetIn s))
+sheet-number : (held s : List ℕ) → sheetTold held s ≡ openedNumber (answerFrom (sheetIn s))
 sheet-number held s = ap numberIn (session.open-is held s)
 
 not-read : (held s : List ℕ) → sheetTold held s ≡ 14 → sheetIn s ≡ fails
@@ -159,14 +159,14 @@ sheets =
         by fails q = refl
         by (reads w i) q = absurd (none (read-form s w i q))
 
-    go : (held s : List ℕ) (r : Read Sheet) → sheetIn s ≡ r → answerNumber (answerFrom (sheetIn s)) ≡ 8 → openedOf held s ≡ opens noSession ProfileBreaksARule (page held 0)
+    go : (held s : List ℕ) (r : Read Sheet) → sheetIn s ≡ r → openedNumber (answerFrom (sheetIn s)) ≡ 8 → openedOf held s ≡ opens noSession ProfileBreaksARule (page held 0)
     go held s fails q e = let z = sym (session.number-14 s q) ∙ e in absurd (omega arith)
     go held s (reads w i) q e =
         cases (keepsTheRules (profileIn (w .top)) emptyStore)
         (λ k. let z = sym (session.only-8 s w i q k) ∙ e in absurd (omega arith))
         (λ k. rw (q, k))
 
-    any : (held s : List ℕ) (a : Answer) → sheetTold held s ≡ answerNumber a → (sheetTold held s ≡ 0) ⊎ (sheetTold held s ≡ 8) ⊎ (sheetTold held s ≡ 14)
+    any : (held s : List ℕ) (a : Answer) → sheetTold held s ≡ openedNumber a → (sheetTold held s ≡ 0) ⊎ (sheetTold held s ≡ 8) ⊎ (sheetTold held s ≡ 14)
     any held s Running e = inl e
     any held s ProfileBreaksARule e = inr (inl e)
     any held s NotOfForm e = inr (inr e)

@@ -1,40 +1,31 @@
--- Demand 1, when a command is refused: to every transfer exactly one of the eight answers of document 01's command table is given, and it is the one that the machine tells. The table
--- stands below, row by row, as conditions on the bytes of the transfer and on mode, profile, rail and settings; no decoder stands between, and a place in the bytes is a number.
--- All boards and all bytes are meant, not only boards that can be reached. `7 when b` is a row with the number 7 and the condition b; `a ∷ b ∷ []` is a list of two; || is or, && is and.
--- Assumes nothing: these are definitions and the statement of the claim.
+-- Demand 1, when a command is refused: to every transfer exactly one of the eight answers of document 01's command
+-- table is given, and it is the one that the machine tells. The table stands below, row by row, as conditions on the
+-- bytes of the transfer and on mode, profile, rail and settings; no decoder stands between, and a place in the bytes is
+-- a number. All boards and all bytes are meant, not only boards that can be reached. `7 when b` is a row with the
+-- number 7 and the condition b; `a ∷ b ∷ []` is a list of two; || is or, && is and. Assumes nothing: these are
+-- definitions and the statement of the claim.
 use Prim.Native.Nat.{ℕ, _+_, _≤_, _<_}
-use mathlib.Core.Path.{_≡_}
-use mathlib.Core.Bool.{Bool, true, false, cond, not, _&&_, _||_}
-use mathlib.Core.List.{List, [], _∷_}
-use mathlib.Core.Option.{Option, none, some}
-use lib.Dec.{eqb, ltb}
-use lib.Ieee.{binary32, binary64}
-use lib.IntN.{ℤ}
-use lib.ListN.{length, drop, getD}
-use Rattle.wire.specs.Numbers.{number}
-use Rattle.wire.specs.Floats.{nanPattern}
-use Rattle.value.specs.Types.{width}
-use Rattle.value.specs.declared.ValueType.{ValueType}
+use mathlib.Core.{Path._≡_, Bool.Bool, Bool.true, Bool.false, Bool.cond, Bool.not, Bool._&&_, Bool._||_}
+use mathlib.Core.{List.List, List.[], List._∷_, Option.Option, Option.none, Option.some}
+use lib.{Dec.eqb, Dec.ltb, Ieee.binary32, Ieee.binary64, IntN.ℤ, ListN.length, ListN.drop, ListN.getD}
+use Rattle.wire.specs.{Numbers.number, Floats.nanPattern}
+use Rattle.value.specs.{Types.width, declared.ValueType.ValueType}
 use Rattle.value.specs.declared.ValueType.the-variants.{Int8, Uint8, Int16, Uint16, Int32, Uint32, Float, Int64, Uint64, Double}
-use Rattle.settings.specs.Table.{parameterOf}
-use Rattle.settings.specs.declared.Parameter.{Parameter}
+use Rattle.settings.specs.{Table.parameterOf, declared.Parameter.Parameter}
 use Rattle.settings.specs.declared.Parameter.the-variants.{ReadWrite, ReadOnly, Unknown}
 use Rattle.modes.specs.declared.Mode.the-variants.{Startup}
 use Rattle.modes.specs.declared.Limits.{Limits}
-use Rattle.command.specs.Codes.{isIn}
-use Rattle.command.specs.Checks.{Check, _when_, idWrong}
+use Rattle.command.specs.{Codes.isIn, Checks.Check, Checks._when_, Checks.idWrong}
 use Rattle.memory.specs.Limits.{limitsOf}
-use Rattle.state.specs.Parts.{modeOf}
-use Rattle.state.specs.declared.parts.Board.{Board}
-use Rattle.answers.specs.Answers.{toldNumber}
-use Rattle.answers.specs.declared.Commanded.{Commanded}
+use Rattle.state.specs.{Parts.modeOf, declared.parts.Board.Board}
+use Rattle.answers.specs.{Answers.toldNumber, declared.Commanded.Commanded}
 use Rattle.commands.specs.Step.{commandedOf}
 use Rattle.order.specs.Checks as order
 use Rattle.order.specs.Checks.{_is_}
-use Rattle.unit.specs.declared.Machine.{Machine}
-use Rattle.unit.specs.Runs.{Sample, told, happens, afterStep3}
+use Rattle.unit.specs.{declared.Machine.Machine, Runs.Sample, Runs.told, Runs.happens, Runs.afterStep3}
 
--- ---- a transfer, and what it meets: the board as the command step finds it, the rail of the tick and the limits in force
+-- ---- a transfer, and what it meets: the board as the command step finds it, the rail of the tick and the limits in
+-- force
 pub record Sent : Type 0 where
   pub rail : ℤ
   pub limits : Limits
@@ -68,7 +59,8 @@ t has-fewer-than n bytes = ltb (length (t .bytes)) n
 abbrev pub notTheBoards : Sent → Bool
 notTheBoards t = (t at 0) differs-from 0x11 || (t at 1) differs-from 7 || (t at 3) differs-from (t .board .profile .bid)
 
--- ---- 4 and 5: the codes, and the bytes that each command needs, its header included, as the ICD's command pages give them
+-- ---- 4 and 5: the codes, and the bytes that each command needs, its header included, as the ICD's command pages give
+-- them
 infix 70 _needs_
 pub data Need : Type 0 where
   _needs_ : ℕ → ℕ → Need
@@ -91,8 +83,9 @@ unfoldable pub neededBy : List Need → ℕ → ℕ
 neededBy [] c = 0
 neededBy ((k needs n) ∷ more) c = cond (eqb c k) n (neededBy more c)
 
--- 0x84 needs its value too, as many bytes as the id's type has. A value is looked for only where the id can be set: so one 5 and one 7 are document 01's four checks
--- of 0x84, which are 5 for the id, 7 for the id, 5 for the value and 7 for the value.
+-- 0x84 needs its value too, as many bytes as the id's type has. A value is looked for only where the id can be set: so
+-- one 5 and one 7 are document 01's four checks of 0x84, which are 5 for the id, 7 for the id, 5 for the value and 7
+-- for the value.
 abbrev pub valueShort : Parameter → Sent → Bool
 valueShort (ReadWrite type) t = t has-fewer-than 6 + width type bytes
 valueShort (ReadOnly type) t = false
@@ -101,7 +94,8 @@ valueShort Unknown t = false
 abbrev pub shorterThanNeeded : Sent → Bool
 shorterThanNeeded t = t has-fewer-than neededBy lengths (code t) bytes || eqb (code t) 0x84 && valueShort (parameterOf (id t)) t
 
--- ---- 6: the channel commands outside nominal, 0x32 in emergency, 0x30 in emergency, or in safety with the rail below safety low: `order` spells it out
+-- ---- 6: the channel commands outside nominal, 0x32 in emergency, 0x30 in emergency, or in safety with the rail below
+-- safety low: `order` spells it out
 abbrev pub notAvailable : Sent → Bool
 notAvailable t = order.unavailable (code t) (modeOf (t .board)) (t .rail) (t .limits)
 
@@ -155,8 +149,8 @@ unfoldable pub noneOf : List Check → Bool
 noneOf [] = true
 noneOf (k when b ∷ rows) = not b && noneOf rows
 
-abbrev pub table : Sent → List Check
-table t = 0 when noneOf (refusals t) ∷ refusals t
+abbrev pub answerTable : Sent → List Check
+answerTable t = 0 when noneOf (refusals t) ∷ refusals t
 
 -- the condition in the row of a number
 unfoldable pub condition : ℕ → List Check → Bool
@@ -165,8 +159,8 @@ condition n (k when b ∷ rows) = cond (eqb n k) b (condition n rows)
 
 -- an answer is given: the condition of its row holds, and that of no refusal before it
 pub record Given (t : Sent) (n : ℕ) : Type 0 where
-  pub holds : condition n (table t) ≡ true
-  pub none-before : (k : ℕ) → 1 ≤ k → k < n → condition k (table t) ≡ false
+  pub holds : condition n (answerTable t) ≡ true
+  pub none-before : (k : ℕ) → 1 ≤ k → k < n → condition k (answerTable t) ≡ false
 
 -- ---- what is told
 -- by the command step

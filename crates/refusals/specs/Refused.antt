@@ -1,17 +1,13 @@
--- Demand 1, what a refused command leaves. After 1 and 2 the board is the one that the step was given, whole. After 3 only its waiting reply is another. After 4 to 7 its timer is 0
--- besides. This holds of all boards and all bytes. `withReply r b` is the board b with r waiting on it and all else as it was, `withTimer` likewise.
--- Assumes nothing: these are definitions and the statement of the claim.
+-- Demand 1, what a refused command leaves. After 1 and 2 the board is the one that the step was given, whole. After 3
+-- only its waiting reply is another. After 4 to 7 its timer is 0 besides. This holds of all boards and all bytes.
+-- `withReply r b` is the board b with r waiting on it and all else as it was, `withTimer` likewise. Assumes nothing:
+-- these are definitions and the statement of the claim.
 use Prim.Native.Nat.{ℕ, _≤_, _<_}
-use mathlib.Core.Path.{_≡_}
-use mathlib.Core.Bool.{true, false, cond}
-use mathlib.Core.List.{List, [], _∷_}
-use mathlib.Core.Option.{some}
+use mathlib.Core.{Path._≡_, Bool.true, Bool.false, Bool.cond, List.List, List.[], List._∷_, Option.some}
 use lib.Dec.{eqb}
-use Rattle.wire.specs.declared.reply.Reply.{Reply}
-use Rattle.wire.specs.Replies.{shown, replyOf, replyCode}
+use Rattle.wire.specs.{declared.reply.Reply.Reply, Replies.shown, Replies.replyOf, Replies.replyCode}
 use Rattle.replies.specs.Layouts.{shortReply}
-use Rattle.state.specs.Parts.{withReply, withTimer}
-use Rattle.state.specs.declared.parts.Board.{Board}
+use Rattle.state.specs.{Parts.withReply, Parts.withTimer, declared.parts.Board.Board}
 use Rattle.answers.specs.Answers.{headerOf}
 use Rattle.refusals.specs.Conditions.{Sent, code, obeyed, answer}
 
@@ -28,7 +24,8 @@ unfoldable pub statIn : List Stat → ℕ → ℕ
 statIn [] n = 0
 statIn ((k has-stat stat) ∷ more) n = cond (eqb n k) stat (statIn more n)
 
--- in front of it stand what the board is called by (STID, IVID, BID) and the command's code, of which `shortReply` sets the lowest bit
+-- in front of it stand what the board is called by (STID, IVID, BID) and the command's code, of which `shortReply` sets
+-- the lowest bit
 abbrev pub refusal : ℕ → Sent → Reply
 refusal n t = replyOf (shortReply (headerOf (t .board .profile)) (code t) (statIn stats n))
 

@@ -1,19 +1,15 @@
--- Demand 1, what a tick leaves whose command is refused. 1 and 2: machine and event are what they would be had nothing been sent. 3: so are they, apart from the reply that now waits; a
--- reset by the watchdog takes even that away. 4 to 7: the reply and a timer of 0 are put on what step 3 left, and the watchdog stays quiet; quiet it stays after an accepted command too.
--- This holds of all machines and all ticks. Assumes nothing: these are definitions and the statement of the claim.
+-- Demand 1, what a tick leaves whose command is refused. 1 and 2: machine and event are what they would be had nothing
+-- been sent. 3: so are they, apart from the reply that now waits; a reset by the watchdog takes even that away. 4 to 7:
+-- the reply and a timer of 0 are put on what step 3 left, and the watchdog stays quiet; quiet it stays after an
+-- accepted command too. This holds of all machines and all ticks. Assumes nothing: these are definitions and the
+-- statement of the claim.
 use Prim.Native.Nat.{ℕ, _≤_}
-use mathlib.Core.Path.{_≡_}
-use mathlib.Core.Bool.{false}
-use mathlib.Core.List.{[]}
-use mathlib.Core.Option.{some}
+use mathlib.Core.{Path._≡_, Bool.false, List.[], Option.some}
 use Rattle.watchdog.specs.declared.Event.the-variants.{NoEvent, WatchdogReset}
-use Rattle.state.specs.Parts.{withReply, withTimer}
-use Rattle.state.specs.declared.parts.Board.{Board}
+use Rattle.state.specs.{Parts.withReply, Parts.withTimer, declared.parts.Board.Board}
 use Rattle.text.specs.declared.framing.Due.the-variants.{Reply}
-use Rattle.unit.specs.declared.Machine.{Machine}
-use Rattle.unit.specs.Runs.{Sample, told, afterStep3}
-use Rattle.refusals.specs.Conditions.{metIn, tickAnswer}
-use Rattle.refusals.specs.Refused.{refusal}
+use Rattle.unit.specs.{declared.Machine.Machine, Runs.Sample, Runs.told, Runs.afterStep3}
+use Rattle.refusals.specs.{Conditions.metIn, Conditions.tickAnswer, Refused.refusal}
 
 -- the same tick without its transfer
 abbrev pub quiet : Sample → Sample

@@ -1,14 +1,10 @@
 -- The rules of a profile and the form of a session sheet, written out as document 01 gives them: refusals 8 and 14 are
 -- told by these. `(c : ℕ) × B` is some number c of which B holds. Assumes nothing: these are definitions.
 use Prim.Native.Nat.{ℕ, _≤_, _<_}
-use mathlib.Core.Path.{_≡_}
-use mathlib.Core.Bool.{true}
-use mathlib.Core.List.{List}
-use lib.ListN.{length}
-use lib.Signed.{_≤ℤ_}
+use mathlib.Core.{Path._≡_, Bool.true, List.List}
+use lib.{ListN.length, Signed._≤ℤ_}
 use Rattle.value.specs.declared.ValueType.{ValueType}
-use Rattle.settings.specs.Table.{Range, readWrite, rowOf, lowEnd, highEnd}
-use Rattle.settings.specs.Values.{numberOf}
+use Rattle.settings.specs.{Table.Range, Table.readWrite, Table.rowOf, Table.lowEnd, Table.highEnd, Values.settingOf}
 use Rattle.channels.specs.Sets.{has}
 use Rattle.memory.specs.declared.Store.{Store}
 use Rattle.state.specs.declared.parts.Profile.{Profile}
@@ -21,7 +17,7 @@ use Rattle.sheet.specs.Form.{Top, head, Tick, tickLine}
 abbrev pub InRange : Store → Type 0
 InRange store =
     (id : ℕ) (type : ValueType) (range : Range) (default : ℕ) → rowOf id ≡ readWrite type range default
-    → (lowEnd type range ≤ℤ numberOf (store .settings) id) × (numberOf (store .settings) id ≤ℤ highEnd type range)
+    → (lowEnd type range ≤ℤ settingOf (store .settings) id) × (settingOf (store .settings) id ≤ℤ highEnd type range)
 
 -- BID 1 to 8; the fitted channels, at least one; the force-enabled ones, all fitted; stored values in range, where any
 -- are stored. The channels are 0 to 31

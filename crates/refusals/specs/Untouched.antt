@@ -4,30 +4,19 @@
 -- an output buffer can. What a refused sheet prints is laid into a buffer by a call of its own. Assumes nothing: these
 -- are definitions and the statement of the claim.
 use Prim.Native.Nat.{ℕ, _<_}
-use mathlib.Core.Path.{_≡_}
-use mathlib.Core.Logic.{_⊎_}
-use mathlib.Core.List.{List}
-use mathlib.Core.Option.{some}
+use mathlib.Core.{Path._≡_, Logic._⊎_, List.List, Option.some}
 use lib.ListN.{length}
 use Rattle.hex.specs.Hex.{laid}
 use Rattle.watchdog.specs.declared.Event.the-variants.{NoEvent}
-use Rattle.memory.specs.Memory.{emptyStore}
-use Rattle.memory.specs.declared.Store.{Store}
-use Rattle.state.specs.Start.{startNumber}
-use Rattle.state.specs.declared.parts.Profile.{Profile}
-use Rattle.text.specs.Answers.{lineNumber, framedNumber}
-use Rattle.text.specs.Framing.{framedOf}
-use Rattle.text.specs.Given.{GivenWhen}
-use Rattle.text.specs.Lines.{lineHeld}
+use Rattle.memory.specs.{Memory.emptyStore, declared.Store.Store}
+use Rattle.state.specs.{Start.startNumber, declared.parts.Profile.Profile}
+use Rattle.text.specs.{Answers.lineNumber, Answers.framedNumber, Framing.framedOf, Given.GivenWhen, Lines.lineHeld}
 use Rattle.text.specs.declared.reading.Line.{Line}
-use Rattle.unit.specs.Machine.{begunOf, heardOf, dueOf}
-use Rattle.unit.specs.declared.Machine.{Machine}
+use Rattle.unit.specs.{Machine.begunOf, Machine.heardOf, Machine.dueOf, declared.Machine.Machine, Runs.Sample, Runs.told}
 use Rattle.script.specs.Printing.{page}
-use Rattle.session.specs.Sessions.{profileIn, Open, opens, noSession, answerNumber, openedOf}
+use Rattle.session.specs.Sessions.{profileIn, Open, opens, noSession, openedNumber, openedOf}
 use Rattle.session.specs.declared.running.Answer.the-variants.{ProfileBreaksARule, NotOfForm}
-use Rattle.unit.specs.Runs.{Sample, told}
-use Rattle.refusals.specs.Conditions.{tickAnswer}
-use Rattle.refusals.specs.Rules.{KeepsAllRules, OfTheForm}
+use Rattle.refusals.specs.{Conditions.tickAnswer, Rules.KeepsAllRules, Rules.OfTheForm}
 
 -- 8, of a start: a profile that breaks a rule; the machine that was there stays
 abbrev pub startTold : Machine → Profile → Store → ℕ
@@ -48,7 +37,8 @@ pub record Nine : Type 0 where
   pub only : (m : Machine) (i : Sample) → tickAnswer m i ≡ some 9 → NeitherNoneNor122 i
   pub leaves : (m : Machine) (i : Sample) → tickAnswer m i ≡ some 9 → (told m i .machine ≡ m) × (told m i .event ≡ NoEvent)
 
--- 10 to 13, of a read of the text line: each answer is given where `GivenWhen` says, and a refused read leaves the machine and the scratch buffer
+-- 10 to 13, of a read of the text line: each answer is given where `GivenWhen` says, and a refused read leaves the
+-- machine and the scratch buffer
 pub record Reads : Type 0 where
   pub given : (m : Machine) (received scratch : List ℕ) → GivenWhen (m .board .form) received (length scratch) (heardOf received (length scratch) m .line)
   pub only : (m : Machine) (received scratch : List ℕ) (line : Line) → GivenWhen (m .board .form) received (length scratch) line → heardOf received (length scratch) m .line ≡ line
@@ -64,7 +54,7 @@ pub record Frames : Type 0 where
 -- 14 and 8, of a sheet: one that is over 65,536 bytes or not of its form, and else a bad profile, with which nothing is
 -- stored; no machine is started, and the output buffer stays
 abbrev pub numberIn : Open → ℕ
-numberIn (opens session answer printed) = answerNumber answer
+numberIn (opens session answer printed) = openedNumber answer
 
 abbrev pub sheetTold : List ℕ → List ℕ → ℕ
 sheetTold held s = numberIn (openedOf held s)

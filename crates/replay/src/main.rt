@@ -71,7 +71,8 @@ fn finish(filled: usize) {
     }
 }
 
-// Runs the script to its end. A proved loop has to end, and nothing says that an input does: the count of turns is one that no run uses up.
+// Runs the script to its end. A proved loop has to end, and nothing says that an input does: the count of turns is one
+// that no run uses up.
 fn main() {
     let mut line = io::buffer();
     let mut turn = Turn {

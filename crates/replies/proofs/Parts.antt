@@ -1,4 +1,5 @@
--- A long reply is the six bytes that each of them starts with, and then one row of words, or the id and a value. Assumes nothing.
+-- A long reply is the six bytes that each of them starts with, and then one row of words, or the id and a value.
+-- Assumes nothing.
 use Prim.Native.Nat.{ℕ, _≤_}
 use mathlib.Core.List.{List, _∷_, _++_, append-assoc}
 use mathlib.Core.Path.{_≡_, refl, sym, ap, _∙_}

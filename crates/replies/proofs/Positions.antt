@@ -1,5 +1,6 @@
--- Where the fields of the replies stand, at the places that document 01 and the ICD's pages 43, 44, 47 to 50 and 65 to 68 give.
--- `getD bytes p 0` is the byte at p, and `number 2 (drop p bytes)` the word whose first byte stands at p. Assumes nothing.
+-- Where the fields of the replies stand, at the places that document 01 and the ICD's pages 43, 44, 47 to 50 and 65 to
+-- 68 give. `getD bytes p 0` is the byte at p, and `number 2 (drop p bytes)` the word whose first byte stands at p.
+-- Assumes nothing.
 use Prim.Native.Nat.{ℕ, zero, suc, _+_, _*_, _/_, _%_, _^_, _≤_, _<_}
 use mathlib.Core.List.{List, [], _∷_, _++_, append-nil}
 use mathlib.Core.Path.{_≡_, refl, _∙_}
@@ -41,7 +42,8 @@ pub record StartsLonger (board : Header) (code stat : ℕ) (bytes : List ℕ) : 
   pub starts : Starts board code stat bytes
   pub at-5 : getD bytes 5 0 ≡ 0
 
--- STAT_CH_ON, STAT_CH_EXT_ON, STAT_CH_OCF and STAT_CH_EXT_OCF from a place p on: of a set, channels 0 to 15 and channels 16 to 31
+-- STAT_CH_ON, STAT_CH_EXT_ON, STAT_CH_OCF and STAT_CH_EXT_OCF from a place p on: of a set, channels 0 to 15 and
+-- channels 16 to 31
 pub record ChannelWords (p on latched : ℕ) (bytes : List ℕ) : Type 0 where
   pub on-low : number 2 (drop p bytes) ≡ on % 2 ^ 16
   pub on-high : number 2 (drop (p + 2) bytes) ≡ on / 2 ^ 16

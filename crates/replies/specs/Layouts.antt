@@ -1,13 +1,14 @@
--- The replies, as the ICD's pages lay them out: a list of fields, of which `2 bytes x` is x in two bytes, and `laidOut` is their bytes in a row.
--- xs ++ ys is xs and then ys, `take n` are the first n of a list and `drop n` what follows them. A set of channels is a number whose bit c is channel c.
--- Assumes nothing: these are definitions.
+-- The replies, as the ICD's pages lay them out: a list of fields, of which `2 bytes x` is x in two bytes, and `laidOut`
+-- is their bytes in a row. xs ++ ys is xs and then ys, `take n` are the first n of a list and `drop n` what follows
+-- them. A set of channels is a number whose bit c is channel c. Assumes nothing: these are definitions.
 use Prim.Native.Nat.{ℕ, _/_, _%_, _^_}
 use mathlib.Core.List.{List, [], _∷_, _++_, map}
 use lib.ListN.{take, drop}
 use Rattle.wire.specs.Replies.{Field, _bytes_, laidOut, replyCode}
 use Rattle.command.specs.declared.Header.{Header}
 
--- STID, IVID, RC, BID, STAT: RC is the command's code with the lowest bit set, the other identifiers are the board's own
+-- STID, IVID, RC, BID, STAT: RC is the command's code with the lowest bit set, the other identifiers are the board's
+-- own
 abbrev pub head : Header → ℕ → ℕ → List Field
 head board code stat = (1 bytes board .stid) ∷ (1 bytes board .ivid) ∷ (1 bytes replyCode code) ∷ (1 bytes board .bid) ∷ (1 bytes stat) ∷ []
 
@@ -19,7 +20,8 @@ reserved = (1 bytes 0) ∷ []
 abbrev pub wordFields : List ℕ → List Field
 wordFields ws = map (λ w. 2 bytes w) ws
 
--- STAT_CH_ON, STAT_CH_EXT_ON, STAT_CH_OCF, STAT_CH_EXT_OCF: of the channels on and then of those latched, channels 0 to 15 and channels 16 to 31
+-- STAT_CH_ON, STAT_CH_EXT_ON, STAT_CH_OCF, STAT_CH_EXT_OCF: of the channels on and then of those latched, channels 0 to
+-- 15 and channels 16 to 31
 unfoldable pub channelWords : ℕ → ℕ → List ℕ
 channelWords on latched = on % 2 ^ 16 ∷ on / 2 ^ 16 ∷ latched % 2 ^ 16 ∷ latched / 2 ^ 16 ∷ []
 

@@ -1,4 +1,5 @@
--- One turn of a loop is one step of a definition: what is left to print or to read, taken apart at its front. Assumes nothing.
+-- One turn of a loop is one step of a definition: what is left to print or to read, taken apart at its front. Assumes
+-- nothing.
 use Prim.Native.Nat.{ℕ, zero, suc, _+_, _-_, _*_, _/_, _%_, _≤_, _<_}
 use mathlib.Core.Path.{_≡_, refl, sym, ap, _∙_}
 use mathlib.Core.List.{List, [], _∷_, _++_}
@@ -14,7 +15,7 @@ use Rattle.hex.specs.Hex.{capitalOf, digitOf, pairOf}
 use Rattle.hex.specs.Passes.{worth}
 use Rattle.hex.specs.declared.Hex.{Hex}
 use Rattle.script.specs.Printing.{Page, page, and, typed, over, digitsOf, row, hexOf}
-use Rattle.script.specs.Reading.{whereOne, numberOf, countOf, sound, wordsOf}
+use Rattle.script.specs.Reading.{whereOne, fieldOf, countOf, sound, wordsOf}
 use Rattle.script.specs.declared.reading.Field.{Field}
 use Rattle.script.specs.declared.reading.Count.{Count}
 
@@ -60,8 +61,8 @@ hex-some (x ∷ s) h = refl
 -- ---- reading
 
 number-turn : (n k : ℕ) (text : List ℕ) (i : ℕ) → 0 < k
-    → numberOf n k (drop i text) ≡ whereOne (digitOf (getD text i 0)) (numberOf (n % 268435456 * 16 + worth (digitOf (getD text i 0))) (k - 1) (drop (i + 1) text)) Field.Bad
-unfolding numberOf
+    → fieldOf n k (drop i text) ≡ whereOne (digitOf (getD text i 0)) (fieldOf (n % 268435456 * 16 + worth (digitOf (getD text i 0))) (k - 1) (drop (i + 1) text)) Field.Bad
+unfolding fieldOf
 number-turn n zero text i h = absurd (omega arith)
 number-turn n (suc k) text i h =
     let e : suc k - 1 ≡ k = omega arith in
@@ -69,14 +70,14 @@ number-turn n (suc k) text i h =
     rw (e, getD-drop i text 0 0, z, drop-drop 1 i text)
 
 module _ (n k : ℕ) (text : List ℕ) (i : ℕ) (left : 0 < k) where
-  pub number-bad : digitOf (getD text i 0) ≡ Hex.Bad → numberOf n k (drop i text) ≡ Field.Bad
+  pub number-bad : digitOf (getD text i 0) ≡ Hex.Bad → fieldOf n k (drop i text) ≡ Field.Bad
   number-bad w = number-turn n k text i left ∙ rw w
 
-  pub number-good : (d : ℕ) → digitOf (getD text i 0) ≡ Hex.Value d → numberOf n k (drop i text) ≡ numberOf (n % 268435456 * 16 + d) (k - 1) (drop (i + 1) text)
+  pub number-good : (d : ℕ) → digitOf (getD text i 0) ≡ Hex.Value d → fieldOf n k (drop i text) ≡ fieldOf (n % 268435456 * 16 + d) (k - 1) (drop (i + 1) text)
   number-good d w = number-turn n k text i left ∙ rw w
 
-pub number-end : (n k : ℕ) (text : List ℕ) → k ≡ 0 → numberOf n k text ≡ Field.Number n
-unfolding numberOf
+pub number-end : (n k : ℕ) (text : List ℕ) → k ≡ 0 → fieldOf n k text ≡ Field.Number n
+unfolding fieldOf
 number-end n k text e = rw e
 
 count-turn : (k room : ℕ) (text : List ℕ) (i : ℕ) → i + 1 < length text

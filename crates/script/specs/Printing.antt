@@ -2,10 +2,8 @@
 -- A legend for the signs: [] is no character, c ∷ cs the character c and then cs, xs ++ ys is xs and then ys.
 -- Assumes nothing: these are definitions.
 use Prim.Native.Nat.{ℕ, zero, suc, _+_, _/_, _%_}
-use mathlib.Core.Bool.{cond}
-use mathlib.Core.List.{List, [], _∷_, _++_}
-use lib.Dec.{ltb}
-use lib.ListN.{length, set}
+use mathlib.Core.{Bool.cond, List.List, List.[], List._∷_, List._++_}
+use lib.{Dec.ltb, ListN.length, ListN.set}
 use Rattle.hex.specs.Hex.{capitalOf}
 
 pub data Page : Type 0 where

@@ -1,16 +1,11 @@
--- The fields of a script line. Characters are their ASCII codes; a place past the end of a text counts as the character 0, which is no digit.
--- Assumes nothing: these are definitions.
+-- The fields of a script line. Characters are their ASCII codes; a place past the end of a text counts as the character
+-- 0, which is no digit. Assumes nothing: these are definitions.
 use Prim.Native.Nat.{ℕ, zero, suc, _+_, _*_, _%_}
-use mathlib.Core.Bool.{cond}
-use mathlib.Core.List.{List, [], _∷_}
-use lib.Dec.{ltb}
-use lib.ListN.{getD, drop}
-use Rattle.hex.specs.Hex.{digitOf, pairOf}
-use Rattle.hex.specs.Passes.{worth}
-use Rattle.hex.specs.declared.Hex.{Hex}
+use mathlib.Core.{Bool.cond, List.List, List.[], List._∷_}
+use lib.{Dec.ltb, ListN.getD, ListN.drop}
+use Rattle.hex.specs.{Hex.digitOf, Hex.pairOf, Passes.worth, declared.Hex.Hex}
 use Rattle.hex.specs.declared.Hex.the-variants.{Value, Bad}
-use Rattle.script.specs.declared.reading.Field.{Field}
-use Rattle.script.specs.declared.reading.Count.{Count}
+use Rattle.script.specs.{declared.reading.Field.Field, declared.reading.Count.Count}
 
 -- what holds where a digit is one
 abbrev pub whereOne : {A : Type 0} → Hex → A → A → A
@@ -18,11 +13,12 @@ whereOne (Value d) a bad = a
 whereOne Bad a bad = bad
 
 -- the number of k digits in front of a text, behind the digits of n; of more than eight digits the lowest eight count
-unfoldable pub numberOf : ℕ → ℕ → List ℕ → Field
-numberOf n zero text = Field.Number n
-numberOf n (suc k) text = whereOne (digitOf (getD text 0 0)) (numberOf (n % 268435456 * 16 + worth (digitOf (getD text 0 0))) k (drop 1 text)) Field.Bad
+unfoldable pub fieldOf : ℕ → ℕ → List ℕ → Field
+fieldOf n zero text = Field.Number n
+fieldOf n (suc k) text = whereOne (digitOf (getD text 0 0)) (fieldOf (n % 268435456 * 16 + worth (digitOf (getD text 0 0))) k (drop 1 text)) Field.Bad
 
--- how many bytes a text spells behind k that it spelt, in a buffer of so much room: pairs of digits with nothing between and nothing left over
+-- how many bytes a text spells behind k that it spelt, in a buffer of so much room: pairs of digits with nothing
+-- between and nothing left over
 unfoldable pub countOf : ℕ → ℕ → List ℕ → Count
 countOf k room [] = Count.Bytes k
 countOf k room (a ∷ []) = Count.Bad

@@ -6,7 +6,7 @@ ghost use mathlib.Core.Bool.{cond};
 ghost use lib.Dec.{eqb};
 ghost use lib.ListN.{length, getD, take, drop};
 ghost use lib.Seq.{sets};
-ghost use Rattle.script.specs.Reading.{numberOf, countOf, sound, wordsOf};
+ghost use Rattle.script.specs.Reading.{fieldOf, countOf, sound, wordsOf};
 
 // What a field is.
 pub enum Field {
@@ -39,7 +39,7 @@ pub fn is_at(line: &[u8], at: usize, c: u8) -> bool
 
 // The number of some digits that stands at a place; of more than eight digits the lowest eight count.
 pub fn number(line: &[u8], at: usize, digits: usize) -> Field
-    ensures { λ r. ⌜ r ≡ numberOf 0 digits (drop at (now (line .entry))) ⌝ }
+    ensures { λ r. ⌜ r ≡ fieldOf 0 digits (drop at (now (line .entry))) ⌝ }
 {
     let text = wire::rest(line, at);
     let mut n: u32 = 0;

@@ -1,4 +1,5 @@
--- A text that has the room stands whole at the front of a buffer, and no line of a transcript is longer than 1,024 characters. Assumes nothing.
+-- A text that has the room stands whole at the front of a buffer, and no line of a transcript is longer than 1,024
+-- characters. Assumes nothing.
 use Prim.Native.Nat.{ℕ, zero, suc, _+_, _/_, _%_, _^_, _≤_}
 use mathlib.Core.Path.{_≡_, refl, ap, _∙_}
 use mathlib.Core.Bool.{Bool, true, false, cond}

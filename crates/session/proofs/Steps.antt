@@ -21,7 +21,7 @@ use Rattle.sheet.proofs.Behind.{times-turn, times-none}
 use Rattle.sheet.proofs.Sheets.{Accepted, accepted}
 use Rattle.script.specs.Printing.{page, typed}
 use Rattle.session.specs.Transcript.{ticksText}
-use Rattle.session.specs.Sessions.{tickOn, lineOf, linesFrom, profileIn, beginning, begunText, sheetText, transcriptOf, Open, opens, opened, steps, noSession, startedBy, startedOf, openedBy, openedOf, after, numberOf, tickedOf, isOver, steppedBy, steppedOf, sessionBy, firstBy, answerBy, sessionFrom, firstFrom, answerFrom, refusalText, nextBy, printedBy, stepsFrom, answerNumber, formRefusal, sheetRefusal}
+use Rattle.session.specs.Sessions.{tickOn, lineOf, linesFrom, profileIn, beginning, begunText, sheetText, transcriptOf, Open, opens, opened, steps, noSession, startedBy, startedOf, openedBy, openedOf, after, numberOfNext, tickedOf, isOver, steppedBy, steppedOf, sessionBy, firstBy, answerBy, sessionFrom, firstFrom, answerFrom, refusalText, nextBy, printedBy, stepsFrom, openedNumber, formRefusal, sheetRefusal}
 use Rattle.session.specs.declared.running.Session.{Session}
 use Rattle.session.specs.declared.running.Answer.{Answer}
 use Rattle.session.specs.declared.running.Opened.{Opened}
@@ -48,8 +48,8 @@ step-is held s session = go (tickLine 256 s (session .at))
     go fails = refl
     go (reads t next) = over (isOver session)
       where
-        over : (b : Bool) → cond b (steps noSession (page held 0)) (steps (after session next (tickOn (session .machine) t)) (typed (page held 0) (lineOf (numberOf session) (tickOn (session .machine) t))))
-            ≡ steps (cond b noSession (after session next (tickOn (session .machine) t))) (typed (page held 0) (cond b [] (lineOf (numberOf session) (tickOn (session .machine) t))))
+        over : (b : Bool) → cond b (steps noSession (page held 0)) (steps (after session next (tickOn (session .machine) t)) (typed (page held 0) (lineOf (numberOfNext session) (tickOn (session .machine) t))))
+            ≡ steps (cond b noSession (after session next (tickOn (session .machine) t))) (typed (page held 0) (cond b [] (lineOf (numberOfNext session) (tickOn (session .machine) t))))
         over true = refl
         over false = refl
 
@@ -99,40 +99,40 @@ transcript s = go (sheetIn s) refl
         (a .lines ∙ ap (λ (w : Sheet). reads (w .ticks) (length s)) same)
 
 -- ---- 14 exactly where a sheet is not of the form, and 8 exactly where it is and its profile breaks a rule
-pub number-14 : (s : List ℕ) → sheetIn s ≡ fails → answerNumber (answerFrom (sheetIn s)) ≡ 14
+pub number-14 : (s : List ℕ) → sheetIn s ≡ fails → openedNumber (answerFrom (sheetIn s)) ≡ 14
 number-14 s e = rw e
 
-pub only-14 : (s : List ℕ) → answerNumber (answerFrom (sheetIn s)) ≡ 14 → sheetIn s ≡ fails
+pub only-14 : (s : List ℕ) → openedNumber (answerFrom (sheetIn s)) ≡ 14 → sheetIn s ≡ fails
 only-14 s e = go (sheetIn s) e
   where
-    begun : (a : start.StartAnswer) → answerNumber (answerBy a) ≡ 14 → ⊥
+    begun : (a : start.StartAnswer) → openedNumber (answerBy a) ≡ 14 → ⊥
     begun start.StartAnswer.Accepted e = absurd (omega arith)
     begun start.StartAnswer.ProfileBreaksARule e = absurd (omega arith)
 
-    go : (r : Read Sheet) → answerNumber (answerFrom r) ≡ 14 → r ≡ fails
+    go : (r : Read Sheet) → openedNumber (answerFrom r) ≡ 14 → r ≡ fails
     go fails e = refl
     go (reads sheet i) e = absurd (begun (beginning (profileIn (sheet .top)) .answer) e)
 
 module _ (s : List ℕ) (sheet : Sheet) (i : ℕ) (read : sheetIn s ≡ reads sheet i) where
-  pub number-8 : keepsTheRules (profileIn (sheet .top)) emptyStore ≡ false → answerNumber (answerFrom (sheetIn s)) ≡ 8
+  pub number-8 : keepsTheRules (profileIn (sheet .top)) emptyStore ≡ false → openedNumber (answerFrom (sheetIn s)) ≡ 8
   unfolding begunOf startOf
   number-8 broken = rw (read, broken)
 
-  pub only-8 : keepsTheRules (profileIn (sheet .top)) emptyStore ≡ true → answerNumber (answerFrom (sheetIn s)) ≡ 0
+  pub only-8 : keepsTheRules (profileIn (sheet .top)) emptyStore ≡ true → openedNumber (answerFrom (sheetIn s)) ≡ 0
   unfolding begunOf startOf
   only-8 kept = rw (read, kept)
 
 -- both at once, by the length of the sheet and the form
-by-form : (r : Read Sheet) → answerNumber (answerFrom r) ≡ formRefusal r
+by-form : (r : Read Sheet) → openedNumber (answerFrom r) ≡ formRefusal r
 unfolding begunOf startOf
 by-form fails = refl
 by-form (reads w i) = go (keepsTheRules (profileIn (w .top)) emptyStore) refl
   where
-    go : (kept : Bool) → keepsTheRules (profileIn (w .top)) emptyStore ≡ kept → answerNumber (answerFrom (reads w i)) ≡ cond kept 0 8
+    go : (kept : Bool) → keepsTheRules (profileIn (w .top)) emptyStore ≡ kept → openedNumber (answerFrom (reads w i)) ≡ cond kept 0 8
     go true e = rw e
     go false e = rw e
 
-pub number-is : (s : List ℕ) → answerNumber (answerFrom (sheetIn s)) ≡ sheetRefusal s
+pub number-is : (s : List ℕ) → openedNumber (answerFrom (sheetIn s)) ≡ sheetRefusal s
 unfolding sheetRefusal sheetIn
 number-is s =
     ⊎-elim
@@ -144,5 +144,5 @@ number-is s =
 abbrev answerIn : Open → Answer
 answerIn (opens session answer p) = answer
 
-pub with-number : (r : Opened) (held after s : List ℕ) → opened r after ≡ openedOf held s → (opened r after ≡ openedOf held s) × (answerNumber (r .answer) ≡ sheetRefusal s)
-with-number r held after s e = (e, ap (λ (o : Open). answerNumber (answerIn o)) (e ∙ open-is held s) ∙ number-is s)
+pub with-number : (r : Opened) (held after s : List ℕ) → opened r after ≡ openedOf held s → (opened r after ≡ openedOf held s) × (openedNumber (r .answer) ≡ sheetRefusal s)
+with-number r held after s e = (e, ap (λ (o : Open). openedNumber (answerIn o)) (e ∙ open-is held s) ∙ number-is s)

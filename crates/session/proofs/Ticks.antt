@@ -1,4 +1,5 @@
--- What the reader of a tick line answers, taken back to the line: its tick, and the bytes of its transfer at the front of the buffer. Assumes nothing.
+-- What the reader of a tick line answers, taken back to the line: its tick, and the bytes of its transfer at the front
+-- of the buffer. Assumes nothing.
 use Prim.Native.Nat.{ℕ, _≤_}
 use mathlib.Core.Path.{_≡_, refl, ap}
 use mathlib.Core.Bool.{Bool, true, false, cond}

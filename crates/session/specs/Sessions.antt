@@ -1,28 +1,20 @@
--- The whole output for a sheet as one text, and the same by steps: opening it, and then a tick at a time. Assumes nothing: these are definitions.
+-- The whole output for a sheet as one text, and the same by steps: opening it, and then a tick at a time. Assumes
+-- nothing: these are definitions.
 use Prim.Native.Nat.{ℕ, zero, suc, _+_, _-_}
-use mathlib.Core.Bool.{Bool, cond, _||_}
-use mathlib.Core.List.{List, [], _∷_, _++_}
-use lib.Dec.{eqb, ltb}
-use lib.IntN.{ℤ}
-use lib.ListN.{length}
+use mathlib.Core.{Bool.Bool, Bool.cond, Bool._||_, List.List, List.[], List._∷_, List._++_}
+use lib.{Dec.eqb, Dec.ltb, IntN.ℤ, ListN.length}
 use Rattle.memory.specs.Memory.{emptyStore}
-use Rattle.state.specs.Start.{keepsTheRules}
-use Rattle.state.specs.declared.parts.Profile.{Profile}
+use Rattle.state.specs.{Start.keepsTheRules, declared.parts.Profile.Profile}
 use Rattle.state.specs.declared.starting.StartAnswer as start
-use Rattle.unit.specs.Machine.{noMachine, begunOf, toldOf}
-use Rattle.unit.specs.declared.Machine.{Machine}
-use Rattle.unit.specs.declared.Begun.{Begun}
+use Rattle.unit.specs.{Machine.noMachine, Machine.begunOf, Machine.toldOf, declared.Machine.Machine, declared.Begun.Begun}
 use Rattle.unit.specs.declared.Told.{Told}
 use Rattle.grammar.specs.Grammar.{Read, fails, reads}
-use Rattle.sheet.specs.Form.{Top, bytesOf, Tick, tickLine, Sheet, sheet, sheetIn}
-use Rattle.sheet.specs.Answers.{isSent}
+use Rattle.sheet.specs.{Form.Top, Form.bytesOf, Form.Tick, Form.tickLine, Form.Sheet, Form.sheet, Form.sheetIn, Answers.isSent}
 use Rattle.script.specs.Printing.{Page, page, typed}
 use Rattle.session.specs.Transcript.{tickText, ticksText, refused8, refused14}
-use Rattle.session.specs.declared.running.Session.{Session}
-use Rattle.session.specs.declared.running.Answer.{Answer}
-use Rattle.session.specs.declared.running.Answer.the-variants.{Running, ProfileBreaksARule, NotOfForm}
-use Rattle.session.specs.declared.running.Opened.{Opened}
+use Rattle.session.specs.{declared.running.Session.Session, declared.running.Answer.Answer, declared.running.Opened.Opened}
 use Rattle.session.specs.declared.running.Stepped.{Stepped}
+use Rattle.session.specs.declared.running.Answer.the-variants.{Running, ProfileBreaksARule, NotOfForm}
 
 -- ---- the whole output
 
@@ -100,13 +92,13 @@ openedOf held s = openedBy (sheetIn s) held
 abbrev pub after : Session → ℕ → Told → Session
 after session next told = record { machine = told .machine; count = session .count; left = session .left - 1; at = next }
 
-abbrev pub numberOf : Session → ℕ
-numberOf session = session .count - (session .left - 1)
+abbrev pub numberOfNext : Session → ℕ
+numberOfNext session = session .count - (session .left - 1)
 
 unfoldable pub tickedOf : List ℕ → Session → ℤ → ℕ → Bool → List ℕ → ℕ → Step
 tickedOf held session rail overcurrent sent transfer next =
     let told = toldOf rail overcurrent [] sent transfer (session .machine) in
-    steps (after session next told) (typed (page held 0) (lineOf (numberOf session) told))
+    steps (after session next told) (typed (page held 0) (lineOf (numberOfNext session) told))
 
 -- none is left, or more than there are
 abbrev pub isOver : Session → Bool
@@ -164,7 +156,7 @@ nextBy (reads t next) session = cond (isOver session) noSession (after session n
 
 abbrev pub printedBy : Read Tick → Session → List ℕ
 printedBy fails session = []
-printedBy (reads t next) session = cond (isOver session) [] (lineOf (numberOf session) (tickOn (session .machine) t))
+printedBy (reads t next) session = cond (isOver session) [] (lineOf (numberOfNext session) (tickOn (session .machine) t))
 
 -- so many steps
 unfoldable pub stepsFrom : ℕ → List ℕ → Session → List ℕ
@@ -172,10 +164,10 @@ stepsFrom zero s session = []
 stepsFrom (suc n) s session = printedBy (tickLine 256 s (session .at)) session ++ stepsFrom n s (nextBy (tickLine 256 s (session .at)) session)
 
 -- document 01's number of an answer; 0 stands for none
-abbrev pub answerNumber : Answer → ℕ
-answerNumber Running = 0
-answerNumber ProfileBreaksARule = 8
-answerNumber NotOfForm = 14
+abbrev pub openedNumber : Answer → ℕ
+openedNumber Running = 0
+openedNumber ProfileBreaksARule = 8
+openedNumber NotOfForm = 14
 
 -- the number for a sheet: 14 where it has over 65,536 bytes or is not of the form, else 8 where its profile breaks a
 -- rule, else none

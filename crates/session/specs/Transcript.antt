@@ -1,13 +1,11 @@
--- The lines of a transcript. Characters are their ASCII codes: 32 is a space, 45 is `-`, 10 ends a line, 48 to 57 are the digits. Assumes nothing: these are definitions.
+-- The lines of a transcript. Characters are their ASCII codes: 32 is a space, 45 is `-`, 10 ends a line, 48 to 57 are
+-- the digits. Assumes nothing: these are definitions.
 use Prim.Native.Nat.{ℕ, zero, suc, _+_, _/_, _%_, _^_}
-use mathlib.Core.Bool.{Bool, cond}
-use mathlib.Core.List.{List, [], _∷_, _++_}
+use mathlib.Core.{Bool.Bool, Bool.cond, List.List, List.[], List._∷_, List._++_}
 use lib.Dec.{ltb}
 use Rattle.hex.specs.Hex.{textOf, wordText}
-use Rattle.wire.specs.Replies.{shown}
-use Rattle.wire.specs.declared.reply.Reply.{Reply}
-use Rattle.state.specs.Parts.{modeOf}
-use Rattle.state.specs.declared.parts.Board.{Board}
+use Rattle.wire.specs.{Replies.shown, declared.reply.Reply.Reply}
+use Rattle.state.specs.{Parts.modeOf, declared.parts.Board.Board}
 use Rattle.naming.specs.Naming.{modeLetter}
 use Rattle.sheet.specs.Form.{ticksWord}
 

@@ -1,4 +1,5 @@
-// A session: the board of a sheet is started, and its ticks run one after another, each with its line of the transcript.
+// A session: the board of a sheet is started, and its ticks run one after another, each with its line of the
+// transcript.
 mod running;
 mod transcript;
 

@@ -2,7 +2,7 @@
 ghost use mathlib.Core.Path.{_≡_};
 ghost use Prim.Native.Nat.{_<_, _≤_};
 ghost use Rattle.script.specs.Printing.{page, typed};
-ghost use Rattle.session.specs.Sessions.{noSession, endedStep, opened, stepped, startedOf, openedOf, refusalText, steppedOf, tickedOf, answerNumber, sheetRefusal};
+ghost use Rattle.session.specs.Sessions.{noSession, endedStep, opened, stepped, startedOf, openedOf, refusalText, steppedOf, tickedOf, openedNumber, sheetRefusal};
 use crate::transcript::tick_line;
 use crate::transcript::ticks_line;
 use memory::Store;
@@ -84,7 +84,7 @@ fn started(profile: Profile, ticks: u32, first: usize, out: &mut [u8]) -> Opened
 // sheet is refused, the buffer keeps what it held.
 pub fn open(s: &[u8], out: &mut [u8]) -> Opened
     ensures leaves { λ r. ⌜ opened r (now (out .exit)) ≡ openedOf (now (out .entry)) (now (s .entry)) ⌝ }
-    ensures number { λ r. ⌜ answerNumber (r .answer) ≡ sheetRefusal (now (s .entry)) ⌝ }
+    ensures number { λ r. ⌜ openedNumber (r .answer) ≡ sheetRefusal (now (s .entry)) ⌝ }
 {
     let Head::Is {
         bid,
@@ -150,8 +150,10 @@ fn ticked(
     }
 }
 
-// Runs the next tick of a session, and prints its line into the front of the lent buffer; no line of a board is longer than 1,024 characters, and a buffer that is too short is filled with
-// its front. A session that has no tick left, or more left than it has, or no tick line where the next should be, prints nothing and ends: a sheet that was opened has its lines.
+// Runs the next tick of a session, and prints its line into the front of the lent buffer; no line of a board is longer
+// than 1,024 characters, and a buffer that is too short is filled with its front. A session that has no tick left, or
+// more left than it has, or no tick line where the next should be, prints nothing and ends: a sheet that was opened has
+// its lines.
 pub fn step(session: Session, s: &[u8], out: &mut [u8]) -> Stepped
     ensures { λ r. ⌜ stepped r (now (out .exit)) ≡ steppedOf (now (out .entry)) (now (s .entry)) session ⌝ }
 {

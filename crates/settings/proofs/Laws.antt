@@ -15,7 +15,7 @@ use Rattle.settings.specs.declared.Parameter.{Parameter}
 use Rattle.settings.specs.declared.Got.{Got}
 use Rattle.settings.specs.declared.Settings.{Settings}
 use Rattle.settings.specs.Table.{same, readWriteRows, readOnlyRows, find, lies, rowOf, column, from, idsOf, ids, parameterOf, lowOf, highOf, insideOf, atLeast, atMost, clampOf, givenIn, defaultOf}
-use Rattle.settings.specs.Values.{numberIn, valueOf, numberOf, stored, storedN, withNumber, gotAs, getOf, setOf, resetOf, defaultsOf, allInside, inRangeOf}
+use Rattle.settings.specs.Values.{numberIn, gotValue, settingOf, stored, storedN, withNumber, gotAs, getOf, setOf, resetOf, defaultsOf, allInside, inRangeOf}
 use Rattle.settings.proofs.Rows.{countOf, and-true, held, int8s, uint8s, int16s, uint16s, uint32s}
 use Rattle.settings.proofs.Places.{at, none, gets}
 use Rattle.settings.proofs.Ranges.{Fit, in-kept, clamp-in, in-fits}
@@ -25,17 +25,17 @@ use Rattle.settings.proofs.Resets.{default-inside, default-fits, defaul
 
 -- ---- what is set is read back, at the nearer end of its range
 module _ (s : Settings) (id : ℕ) (v : ParamValue) (z : Sized s) (e : parameterOf id ≡ Parameter.ReadWrite (typeOf v)) where
-  pub set-get : getOf (setOf s id v) id ≡ valueOf (typeOf v) (clampOf id (numberIn v))
+  pub set-get : getOf (setOf s id v) id ≡ gotValue (typeOf v) (clampOf id (numberIn v))
   set-get =
       let f = in-fits id (typeOf v) (clampOf id (numberIn v)) e (clamp-in id (numberIn v)) in
       ap (λ (x : Settings). getOf x id) (set-at s v (at id (typeOf v) e) refl) ∙ gets _ id (typeOf v) e
-      ∙ ap (valueOf (typeOf v)) (number-same s id (typeOf v) (clampOf id (numberIn v)) z e f)
+      ∙ ap (gotValue (typeOf v)) (number-same s id (typeOf v) (clampOf id (numberIn v)) z e f)
 
   -- and unchanged where it lies in its range
   pub set-get-inside : insideOf id (numberIn v) ≡ true → getOf (setOf s id v) id ≡ Got.Value v
-  set-get-inside h = set-get ∙ ap (valueOf (typeOf v)) (in-kept id (numberIn v) h) ∙ value-of v e
+  set-get-inside h = set-get ∙ ap (gotValue (typeOf v)) (in-kept id (numberIn v) h) ∙ value-of v e
     where
-      value-of : (v : ParamValue) → parameterOf id ≡ Parameter.ReadWrite (typeOf v) → valueOf (typeOf v) (numberIn v) ≡ Got.Value v
+      value-of : (v : ParamValue) → parameterOf id ≡ Parameter.ReadWrite (typeOf v) → gotValue (typeOf v) (numberIn v) ≡ Got.Value v
       value-of (ParamValue.Int8 x) e = refl
       value-of (ParamValue.Uint8 x) e = refl
       value-of (ParamValue.Int16 x) e = refl
@@ -48,15 +48,15 @@ module _ (s : Settings) (id : ℕ) (v : ParamValue) (z : Sized s) (e : parameter
       value-of (ParamValue.Double x) e = none id Double refl e
 
 -- ---- a reset parameter reads its default
-pub reset-get : (s : Settings) (id : ℕ) (t : ValueType) → Sized s → parameterOf id ≡ Parameter.ReadWrite t → getOf (resetOf s id) id ≡ valueOf t (defaultOf id)
+pub reset-get : (s : Settings) (id : ℕ) (t : ValueType) → Sized s → parameterOf id ≡ Parameter.ReadWrite t → getOf (resetOf s id) id ≡ gotValue t (defaultOf id)
 unfolding resetOf
-reset-get s id t z e = rw e (gets _ id t e ∙ ap (valueOf t) (number-same s id t (defaultOf id) z e (default-fits id t e)))
+reset-get s id t z e = rw e (gets _ id t e ∙ ap (gotValue t) (number-same s id t (defaultOf id) z e (default-fits id t e)))
 
 pub reset-get-default : (s : Settings) (id : ℕ) (t : ValueType) → Sized s → parameterOf id ≡ Parameter.ReadWrite t → getOf (resetOf s id) id ≡ getOf defaultsOf id
 reset-get-default s id t z e = reset-get s id t z e ∙ sym (default-get id t e)
 
 -- ---- every other id reads as before
-wrote-other : (s r : Settings) (id other : ℕ) → Wrote s id r → (other ≡ id → ⊥) → numberOf r other ≡ numberOf s other
+wrote-other : (s r : Settings) (id other : ℕ) → Wrote s id r → (other ≡ id → ⊥) → settingOf r other ≡ settingOf s other
 wrote-other s r id other nothing n = refl
 wrote-other s r id other (one t z e h) n = number-other s id other t z n e (in-fits id t z e h)
 
@@ -123,7 +123,7 @@ unfolding defaultsOf column
 defaults-sized = record { u32-size = refl; u16-size = refl; i16-size = refl; i8-size = refl; u8-size = refl }
 
 -- ---- in range: each read/write parameter is
-pub in-range-each : (s : Settings) → inRangeOf s ≡ true → (id : ℕ) (t : ValueType) → parameterOf id ≡ Parameter.ReadWrite t → insideOf id (numberOf s id) ≡ true
+pub in-range-each : (s : Settings) → inRangeOf s ≡ true → (id : ℕ) (t : ValueType) → parameterOf id ≡ Parameter.ReadWrite t → insideOf id (settingOf s id) ≡ true
 unfolding inRangeOf
 in-range-each s h id t e =
     let u = rw (ids-by-type, inside-append s (ids-of-type Int8), inside-append s (ids-of-type Uint8), inside-append s (ids-of-type Int16), inside-append s (ids-of-type Uint16)) at h in
@@ -135,7 +135,7 @@ in-range-each s h id t e =
   where
     go : (t : ValueType) → allInside s (ids-of-type Int8) ≡ true → allInside s (ids-of-type Uint8) ≡ true → allInside s (ids-of-type Int16) ≡ true
         → allInside s (ids-of-type Uint16) ≡ true → allInside s (ids-of-type Uint32) ≡ true → codeOf t ≤ id → id < codeOf t + countOf t
-        → parameterOf id ≡ Parameter.ReadWrite t → insideOf id (numberOf s id) ≡ true
+        → parameterOf id ≡ Parameter.ReadWrite t → insideOf id (settingOf s id) ≡ true
     go Int8 a b c d f p q e = inside-each s 0x1000 21 a id p q
     go Uint8 a b c d f p q e = inside-each s 0x2000 3 b id p q
     go Int16 a b c d f p q e = inside-each s 0x3000 42 c id p q
@@ -147,7 +147,7 @@ in-range-each s h id t e =
     go Uint64 a b c d f p q e = none id Uint64 refl e
     go Double a b c d f p q e = none id Double refl e
 
-pub each-in-range : (s : Settings) → ((id : ℕ) (t : ValueType) → parameterOf id ≡ Parameter.ReadWrite t → insideOf id (numberOf s id) ≡ true) → inRangeOf s ≡ true
+pub each-in-range : (s : Settings) → ((id : ℕ) (t : ValueType) → parameterOf id ≡ Parameter.ReadWrite t → insideOf id (settingOf s id) ≡ true) → inRangeOf s ≡ true
 unfolding inRangeOf
 each-in-range s h =
     rw (
@@ -165,10 +165,10 @@ each-in-range s h =
 
 -- what holds of each parameter's number, and of any number in an id's range, holds of each after one was stored
 wrote-each : (P : ℕ → ℤ → Type 0) (s r : Settings) (id : ℕ) → Sized s → Wrote s id r → ((t : ValueType) (z : ℤ) → parameterOf id ≡ Parameter.ReadWrite t → insideOf id z ≡ true → P id z)
-    → (j : ℕ) → P j (numberOf s j) → P j (numberOf r j)
+    → (j : ℕ) → P j (settingOf s j) → P j (settingOf r j)
 wrote-each P s r id k nothing f j h = h
 wrote-each P s r id k (one t z e i) f j h = elim (ℕ-discrete j id) [
-  | yes q ↦ subst (λ (a : ℕ). P a (numberOf r a)) (sym q) (subst (P id) (sym (number-same s id t z k e (in-fits id t z e i))) (f t z e i))
+  | yes q ↦ subst (λ (a : ℕ). P a (settingOf r a)) (sym q) (subst (P id) (sym (number-same s id t z k e (in-fits id t z e i))) (f t z e i))
   | no n ↦ subst (P j) (sym (number-other s id j t z n e (in-fits id t z e i))) h
 ]
 
@@ -187,10 +187,10 @@ defaults-in-range = each-in-range defaultsOf (λ id t e. subst (λ (z : ℤ). in
 
 -- ---- each number fits its type, in range or not
 abbrev pub Fitting : Settings → Type 0
-Fitting s = (id : ℕ) (t : ValueType) → parameterOf id ≡ Parameter.ReadWrite t → Fit t (numberOf s id)
+Fitting s = (id : ℕ) (t : ValueType) → parameterOf id ≡ Parameter.ReadWrite t → Fit t (settingOf s id)
 
 pub in-range-fitting : (s : Settings) → inRangeOf s ≡ true → Fitting s
-in-range-fitting s h id t e = in-fits id t (numberOf s id) e (in-range-each s h id t e)
+in-range-fitting s h id t e = in-fits id t (settingOf s id) e (in-range-each s h id t e)
 
 wrote-fitting : (s r : Settings) (id : ℕ) → Sized s → Wrote s id r → Fitting s → Fitting r
 wrote-fitting s r id k w f j t e =

@@ -11,7 +11,7 @@ use Rattle.settings.specs.declared.Parameter.{Parameter}
 use Rattle.settings.specs.declared.Got.{Got}
 use Rattle.settings.specs.declared.Settings.{Settings}
 use Rattle.settings.specs.Table.{Row, _to_are_with_default_, _to_are-read_, readWriteRows, readOnlyRows, lies, Entry, readWrite, readOnly, missing, find, rowOf, parameterIn, parameterOf}
-use Rattle.settings.specs.Values.{numberOf, gotAs, getOf}
+use Rattle.settings.specs.Values.{settingOf, gotAs, getOf}
 use Rattle.settings.specs.Answers.{setNumber, getNumber, has, settableNumber, knownNumber}
 use Rattle.settings.proofs.Places.{none}
 
@@ -65,7 +65,7 @@ module _ (id : ℕ) where
 
   got-as : (s : Settings) → getNumber (getOf s id) ≡ unknownNumber (parameterOf id)
   unfolding getOf
-  got-as s = go (parameterOf id) (numberOf s id) refl
+  got-as s = go (parameterOf id) (settingOf s id) refl
     where
       go : (p : Parameter) (z : ℤ) → parameterOf id ≡ p → getNumber (gotAs p z) ≡ unknownNumber p
       go (Parameter.ReadWrite Int8) z e = refl

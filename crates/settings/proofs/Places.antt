@@ -15,7 +15,7 @@ use Rattle.settings.specs.Table.{parameterOf}
 use Rattle.settings.specs.Places.{placeAs, placeOf}
 use Rattle.settings.specs.declared.Got.{Got}
 use Rattle.settings.specs.declared.Settings.{Settings}
-use Rattle.settings.specs.Values.{numbers, numberOf, valueOf, getOf}
+use Rattle.settings.specs.Values.{numbers, settingOf, gotValue, getOf}
 use Rattle.settings.proofs.Rows.{countOf, held, shown, int8s, uint8s, int16s, uint16s, uint32s}
 
 -- the id is a parameter of the type, and the place is within the type's array
@@ -88,7 +88,7 @@ nowhere id a b c d e f g h i j = go (placeOf id) (stands id)
     go Place.Unknown w = refl
 
 -- ---- what is read of an id by what it is
-pub gets : (s : Settings) (id : ℕ) (t : ValueType) → parameterOf id ≡ Parameter.ReadWrite t → getOf s id ≡ valueOf t (numberOf s id)
+pub gets : (s : Settings) (id : ℕ) (t : ValueType) → parameterOf id ≡ Parameter.ReadWrite t → getOf s id ≡ gotValue t (settingOf s id)
 unfolding getOf
 gets s id t e = rw e
 
@@ -101,12 +101,12 @@ unfolding getOf
 gets-unknown s id e = rw e
 
 -- ---- what is read of an id is what stands at its place
-pub number-at : (s : Settings) {id i : ℕ} {t : ValueType} → At id i t → numberOf s id ≡ getD (numbers s t) i (pos 0)
-unfolding numberOf
+pub number-at : (s : Settings) {id i : ℕ} {t : ValueType} → At id i t → settingOf s id ≡ getD (numbers s t) i (pos 0)
+unfolding settingOf
 number-at s {id} {i} {t} a = let e : id - codeOf t ≡ i = omega (arith, a .id-is) in rw (a .is) (ap (λ (j : ℕ). getD (numbers s t) j (pos 0)) e)
 
-pub reads : (s : Settings) {id i : ℕ} {t : ValueType} → At id i t → getOf s id ≡ valueOf t (getD (numbers s t) i (pos 0))
-reads s {id} {i} {t} a = gets s id t (a .is) ∙ ap (valueOf t) (number-at s a)
+pub reads : (s : Settings) {id i : ℕ} {t : ValueType} → At id i t → getOf s id ≡ gotValue t (getD (numbers s t) i (pos 0))
+reads s {id} {i} {t} a = gets s id t (a .is) ∙ ap (gotValue t) (number-at s a)
 
 pub readsN : (xs : List ℕ) (i : ℕ) → natAbs (getD (map pos xs) i (pos 0)) ≡ getD xs i 0
 readsN xs i = rw (List·getD-map pos xs i 0)
@@ -116,32 +116,32 @@ module _ (s : Settings) (i : ℕ) where
   place : (t : ValueType) → i < countOf t → parameterOf (codeOf t + i) ≡ Parameter.ReadWrite t → At (codeOf t + i) i t
   place t h e = record { is = e; id-is = refl; below = h }
 
-  pub int8-number : i < 21 → numberOf s (0x1000 + i) ≡ getD (s .i8s) i (pos 0)
+  pub int8-number : i < 21 → settingOf s (0x1000 + i) ≡ getD (s .i8s) i (pos 0)
   int8-number h = number-at s (place Int8 h (int8s (0x1000 + i) (omega arith) (omega arith)))
 
   pub int8-get : i < 21 → getOf s (0x1000 + i) ≡ Got.Value (ParamValue.Int8 (getD (s .i8s) i (pos 0)))
-  int8-get h = gets s (0x1000 + i) Int8 (int8s (0x1000 + i) (omega arith) (omega arith)) ∙ ap (valueOf Int8) (int8-number h)
+  int8-get h = gets s (0x1000 + i) Int8 (int8s (0x1000 + i) (omega arith) (omega arith)) ∙ ap (gotValue Int8) (int8-number h)
 
-  pub uint8-number : i < 3 → numberOf s (0x2000 + i) ≡ pos (getD (s .u8s) i 0)
+  pub uint8-number : i < 3 → settingOf s (0x2000 + i) ≡ pos (getD (s .u8s) i 0)
   uint8-number h = number-at s (place Uint8 h (uint8s (0x2000 + i) (omega arith) (omega arith))) ∙ List·getD-map pos (s .u8s) i 0
 
   pub uint8-get : i < 3 → getOf s (0x2000 + i) ≡ Got.Value (ParamValue.Uint8 (getD (s .u8s) i 0))
-  uint8-get h = gets s (0x2000 + i) Uint8 (uint8s (0x2000 + i) (omega arith) (omega arith)) ∙ ap (valueOf Uint8) (uint8-number h)
+  uint8-get h = gets s (0x2000 + i) Uint8 (uint8s (0x2000 + i) (omega arith) (omega arith)) ∙ ap (gotValue Uint8) (uint8-number h)
 
-  pub int16-number : i < 42 → numberOf s (0x3000 + i) ≡ getD (s .i16s) i (pos 0)
+  pub int16-number : i < 42 → settingOf s (0x3000 + i) ≡ getD (s .i16s) i (pos 0)
   int16-number h = number-at s (place Int16 h (int16s (0x3000 + i) (omega arith) (omega arith)))
 
   pub int16-get : i < 42 → getOf s (0x3000 + i) ≡ Got.Value (ParamValue.Int16 (getD (s .i16s) i (pos 0)))
-  int16-get h = gets s (0x3000 + i) Int16 (int16s (0x3000 + i) (omega arith) (omega arith)) ∙ ap (valueOf Int16) (int16-number h)
+  int16-get h = gets s (0x3000 + i) Int16 (int16s (0x3000 + i) (omega arith) (omega arith)) ∙ ap (gotValue Int16) (int16-number h)
 
-  pub uint16-number : i < 68 → numberOf s (0x4000 + i) ≡ pos (getD (s .u16s) i 0)
+  pub uint16-number : i < 68 → settingOf s (0x4000 + i) ≡ pos (getD (s .u16s) i 0)
   uint16-number h = number-at s (place Uint16 h (uint16s (0x4000 + i) (omega arith) (omega arith))) ∙ List·getD-map pos (s .u16s) i 0
 
   pub uint16-get : i < 68 → getOf s (0x4000 + i) ≡ Got.Value (ParamValue.Uint16 (getD (s .u16s) i 0))
-  uint16-get h = gets s (0x4000 + i) Uint16 (uint16s (0x4000 + i) (omega arith) (omega arith)) ∙ ap (valueOf Uint16) (uint16-number h)
+  uint16-get h = gets s (0x4000 + i) Uint16 (uint16s (0x4000 + i) (omega arith) (omega arith)) ∙ ap (gotValue Uint16) (uint16-number h)
 
-  pub uint32-number : i < 6 → numberOf s (0x6000 + i) ≡ pos (getD (s .u32s) i 0)
+  pub uint32-number : i < 6 → settingOf s (0x6000 + i) ≡ pos (getD (s .u32s) i 0)
   uint32-number h = number-at s (place Uint32 h (uint32s (0x6000 + i) (omega arith) (omega arith))) ∙ List·getD-map pos (s .u32s) i 0
 
   pub uint32-get : i < 6 → getOf s (0x6000 + i) ≡ Got.Value (ParamValue.Uint32 (getD (s .u32s) i 0))
-  uint32-get h = gets s (0x6000 + i) Uint32 (uint32s (0x6000 + i) (omega arith) (omega arith)) ∙ ap (valueOf Uint32) (uint32-number h)
+  uint32-get h = gets s (0x6000 + i) Uint32 (uint32s (0x6000 + i) (omega arith) (omega arith)) ∙ ap (gotValue Uint32) (uint32-number h)

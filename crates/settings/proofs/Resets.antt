@@ -16,7 +16,7 @@ use Rattle.settings.specs.declared.Parameter.{Parameter}
 use Rattle.settings.specs.declared.Got.{Got}
 use Rattle.settings.specs.declared.Settings.{Settings}
 use Rattle.settings.specs.Table.{parameterOf, insideOf, clampOf, defaultOf, column}
-use Rattle.settings.specs.Values.{numberIn, valueOf, numbers, numberOf, withNumber, getOf, setOf, resetAs, resetOf, defaultN, defaultsOf}
+use Rattle.settings.specs.Values.{numberIn, gotValue, numbers, settingOf, withNumber, getOf, setOf, resetAs, resetOf, defaultN, defaultsOf}
 use Rattle.settings.proofs.Rows.{countOf, column-at}
 use Rattle.settings.proofs.Places.{at, none, number-at, gets, gets-read-only, gets-unknown}
 use Rattle.settings.proofs.Ranges.{Fit, clamp-in, in-kept, in-fits}
@@ -48,7 +48,7 @@ default-at Uint64 i h f = absurd (omega arith)
 default-at Double i h f = absurd (omega arith)
 
 -- among the defaults each parameter has its own
-pub default-number : (id : ℕ) (t : ValueType) → parameterOf id ≡ Parameter.ReadWrite t → numberOf defaultsOf id ≡ defaultOf id
+pub default-number : (id : ℕ) (t : ValueType) → parameterOf id ≡ Parameter.ReadWrite t → settingOf defaultsOf id ≡ defaultOf id
 default-number id t e =
     let a = at id t e in
     number-at defaultsOf a
@@ -65,7 +65,7 @@ signed-is t z v w e p q = let f : v ≡ w = cc in record { type = ap typeOf f �
 not-read : {A : Type 0} (v : ParamValue) → Got.Unknown ≡ Got.Value v → A
 not-read v e = let z : _≡_ {A = ℕ} 0 1 = cc in absurd (omega arith)
 
-pub value-is : (t : ValueType) (z : ℤ) (v : ParamValue) → valueOf t z ≡ Got.Value v → Fit t z → Is t z v
+pub value-is : (t : ValueType) (z : ℤ) (v : ParamValue) → gotValue t z ≡ Got.Value v → Fit t z → Is t z v
 value-is Int8 z v e f = signed-is Int8 z v _ e refl refl
 value-is Uint8 z v e f = signed-is Uint8 z v _ e refl (not-below z (f .low))
 value-is Int16 z v e f = signed-is Int16 z v _ e refl refl
@@ -78,8 +78,8 @@ value-is Uint64 z v e f = not-read v e
 value-is Double z v e f = not-read v e
 
 -- ---- a reset sets the value that the defaults have
-pub default-get : (id : ℕ) (t : ValueType) → parameterOf id ≡ Parameter.ReadWrite t → getOf defaultsOf id ≡ valueOf t (defaultOf id)
-default-get id t e = gets defaultsOf id t e ∙ ap (valueOf t) (default-number id t e)
+pub default-get : (id : ℕ) (t : ValueType) → parameterOf id ≡ Parameter.ReadWrite t → getOf defaultsOf id ≡ gotValue t (defaultOf id)
+default-get id t e = gets defaultsOf id t e ∙ ap (gotValue t) (default-number id t e)
 
 pub reset-sets : (s : Settings) (id : ℕ) (v : ParamValue) → getOf defaultsOf id ≡ Got.Value v → setOf s id v ≡ resetOf s id
 unfolding resetOf

@@ -75,7 +75,8 @@ readCountOf Int64 = 0
 readCountOf Uint64 = 0
 readCountOf Double = 0
 
--- the ids of a type start at its code, those that are only read 0x800 above it; the ends of a range lie in order within the type
+-- the ids of a type start at its code, those that are only read 0x800 above it; the ends of a range lie in order within
+-- the type
 fine : Row → Bool
 fine (a to b are t with r default d) =
     leb (codeOf t) a && (ltb b (codeOf t + countOf t) && (leZ (lowest t) (lowEnd t r) && (leZ (lowEnd t r) (highEnd t r) && leZ (highEnd t r) (highest t))))

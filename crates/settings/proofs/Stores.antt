@@ -17,7 +17,7 @@ use Rattle.value.specs.declared.ParamValue.{ParamValue}
 use Rattle.settings.specs.declared.Parameter.{Parameter}
 use Rattle.settings.specs.declared.Settings.{Settings}
 use Rattle.settings.specs.Table.{same, lowest, parameterOf, insideOf, clampOf, defaultOf}
-use Rattle.settings.specs.Values.{numberIn, numbers, numberAs, numberOf, stored, storedN, withNumber, storeAs, setOf, resetAs, resetOf}
+use Rattle.settings.specs.Values.{numberIn, numbers, numberAs, settingOf, stored, storedN, withNumber, storeAs, setOf, resetAs, resetOf}
 use Rattle.settings.proofs.Rows.{countOf, held}
 use Rattle.settings.proofs.Places.{At, at, number-at}
 use Rattle.settings.proofs.Ranges.{Fit, clamp-in}
@@ -161,7 +161,7 @@ reset-wrote s id = go (parameterOf id) refl
     go Parameter.Unknown e = nothing
 
 -- ---- its own number, and every other
-pub number-same : (s : Settings) (id : ℕ) (t : ValueType) (z : ℤ) → Sized s → parameterOf id ≡ Parameter.ReadWrite t → Fit t z → numberOf (withNumber s t (id - codeOf t) z) id ≡ z
+pub number-same : (s : Settings) (id : ℕ) (t : ValueType) (z : ℤ) → Sized s → parameterOf id ≡ Parameter.ReadWrite t → Fit t z → settingOf (withNumber s t (id - codeOf t) z) id ≡ z
 number-same s id t z k e f =
     let a = at id t e in
     let l = sized-at s k t in
@@ -169,8 +169,8 @@ number-same s id t z k e f =
     ∙ rw (same-itself t) (getD-set-same (numbers s t) (id - codeOf t) z (pos 0) (omega (arith, a .below)))
 
 pub number-other : (s : Settings) (id other : ℕ) (t : ValueType) (z : ℤ) → (other ≡ id → ⊥) → parameterOf id ≡ Parameter.ReadWrite t → Fit t z
-    → numberOf (withNumber s t (id - codeOf t) z) other ≡ numberOf s other
-unfolding numberOf
+    → settingOf (withNumber s t (id - codeOf t) z) other ≡ settingOf s other
+unfolding settingOf
 number-other s id other t z n e f = go (parameterOf other) refl
   where
     i : ℕ

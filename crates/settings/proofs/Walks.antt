@@ -16,7 +16,7 @@ use Rattle.value.specs.declared.ValueType.the-variants.{Int8, Uint8, Int16, Uin
 use Rattle.settings.specs.declared.Parameter.{Parameter}
 use Rattle.settings.specs.declared.Settings.{Settings}
 use Rattle.settings.specs.Table.{any, parameterOf, rangeOf, insideOf, column, from, ids, idsOf, readWriteRows}
-use Rattle.settings.specs.Values.{numbers, numberOf, allInside, inRangeOf}
+use Rattle.settings.specs.Values.{numbers, settingOf, allInside, inRangeOf}
 use Rattle.settings.proofs.Rows.{countOf, and-true, int8s, uint8s, uint32s, int8-any, uint8-any, uint32-any}
 use Rattle.settings.proofs.Places.{at, number-at}
 use Rattle.settings.proofs.Ranges.{Fit, any-in, int8-fits, uint8-fits, uint32-fits}
@@ -60,34 +60,34 @@ module _ (s : Settings) where
   pub inside-append : (xs ys : List ℕ) → allInside s (xs ++ ys) ≡ allInside s xs && allInside s ys
   unfolding allInside
   inside-append [] ys = refl
-  inside-append (id ∷ xs) ys = go (insideOf id (numberOf s id)) (inside-append xs ys)
+  inside-append (id ∷ xs) ys = go (insideOf id (settingOf s id)) (inside-append xs ys)
     where
       go : (b : Bool) → allInside s (xs ++ ys) ≡ allInside s xs && allInside s ys → b && allInside s (xs ++ ys) ≡ (b && allInside s xs) && allInside s ys
       go true e = e
       go false e = refl
 
   -- each of n ids in a row is inside, and then all are
-  pub inside-each : (lo n : ℕ) → allInside s (from lo n) ≡ true → (id : ℕ) → lo ≤ id → id < lo + n → insideOf id (numberOf s id) ≡ true
+  pub inside-each : (lo n : ℕ) → allInside s (from lo n) ≡ true → (id : ℕ) → lo ≤ id → id < lo + n → insideOf id (settingOf s id) ≡ true
   unfolding allInside from column
   inside-each lo zero h id p q = absurd (omega arith)
   inside-each lo (suc n) h id p q =
-      let u = and-true (insideOf lo (numberOf s lo)) (allInside s (from (suc lo) n)) h in
+      let u = and-true (insideOf lo (settingOf s lo)) (allInside s (from (suc lo) n)) h in
       ⊎-elim
-      (λ k. let e : lo ≡ id = omega arith in subst (λ (j : ℕ). insideOf j (numberOf s j) ≡ true) e (u .0))
+      (λ k. let e : lo ≡ id = omega arith in subst (λ (j : ℕ). insideOf j (settingOf s j) ≡ true) e (u .0))
       (λ k. inside-each (suc lo) n (u .1) id k (omega arith))
       (lt-or-le id (suc lo))
 
-  pub each-inside : (lo n : ℕ) → ((id : ℕ) → lo ≤ id → id < lo + n → insideOf id (numberOf s id) ≡ true) → allInside s (from lo n) ≡ true
+  pub each-inside : (lo n : ℕ) → ((id : ℕ) → lo ≤ id → id < lo + n → insideOf id (settingOf s id) ≡ true) → allInside s (from lo n) ≡ true
   unfolding allInside from column
   each-inside lo zero h = refl
   each-inside lo (suc n) h = rw (h lo (omega arith) (omega arith)) (each-inside (suc lo) n (λ id p q. h id (omega arith) (omega arith)))
 
   -- ---- one turn of a loop over the ids of a type
-  pub next-in : (lo n i : ℕ) → i < n → insideOf (lo + i) (numberOf s (lo + i)) ≡ true → allInside s (from (lo + (i + 1)) (n - (i + 1))) ≡ allInside s (from (lo + i) (n - i))
+  pub next-in : (lo n i : ℕ) → i < n → insideOf (lo + i) (settingOf s (lo + i)) ≡ true → allInside s (from (lo + (i + 1)) (n - (i + 1))) ≡ allInside s (from (lo + i) (n - i))
   unfolding allInside
   next-in lo n i h e = rw (from-step lo n i h, e)
 
-  pub next-out : (lo n i : ℕ) → i < n → insideOf (lo + i) (numberOf s (lo + i)) ≡ false → allInside s (from (lo + i) (n - i)) ≡ false
+  pub next-out : (lo n i : ℕ) → i < n → insideOf (lo + i) (settingOf s (lo + i)) ≡ false → allInside s (from (lo + i) (n - i)) ≡ false
   unfolding allInside
   next-out lo n i h e = rw (from-step lo n i h, e)
 
@@ -98,7 +98,7 @@ module _ (s : Settings) where
   -- ---- a type that has no ranges, and whose numbers all fit it
   pub any-inside : (t : ValueType) → ((id : ℕ) → codeOf t ≤ id → id < codeOf t + countOf t → (parameterOf id ≡ Parameter.ReadWrite t) × (rangeOf id ≡ any))
       → ((i : ℕ) → Fit t (getD (numbers s t) i (pos 0))) → allInside s (ids-of-type t) ≡ true
-  any-inside t k f = each-inside (codeOf t) (countOf t) (λ id p q. any-in id t (numberOf s id) (k id p q .0) (k id p q .1) (subst (Fit t) (sym (number-at s (at id t (k id p q .0)))) (f (id - codeOf t))))
+  any-inside t k f = each-inside (codeOf t) (countOf t) (λ id p q. any-in id t (settingOf s id) (k id p q .0) (k id p q .1) (subst (Fit t) (sym (number-at s (at id t (k id p q .0)))) (f (id - codeOf t))))
 
   -- so only two types are looked at
   pub in-range-of-two : ((i : ℕ) → SFits w8 (getD (s .i8s) i (pos 0))) → ((i : ℕ) → Fits w8 (getD (s .u8s) i 0)) → ((i : ℕ) → Fits w32 (getD (s .u32s) i 0))

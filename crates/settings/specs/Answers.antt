@@ -1,10 +1,8 @@
 -- Document 01's number for each answer of this crate; 0 is no refusal. Assumes nothing: these are definitions.
 use Prim.Native.Nat.{ℕ}
-use mathlib.Core.Bool.{Bool, false, cond, _||_}
-use mathlib.Core.List.{List, [], _∷_}
+use mathlib.Core.{Bool.Bool, Bool.false, Bool.cond, Bool._||_, List.List, List.[], List._∷_}
 use Rattle.settings.specs.Table.{Row, _to_are_with_default_, _to_are-read_, readWriteRows, readOnlyRows, lies}
-use Rattle.settings.specs.declared.Parameter.{Parameter}
-use Rattle.settings.specs.declared.Got.{Got}
+use Rattle.settings.specs.{declared.Parameter.Parameter, declared.Got.Got}
 
 -- 0x84 and 0x86: an id that is read-only or unknown is 7
 abbrev pub setNumber : Parameter → ℕ

@@ -1,11 +1,9 @@
--- Where the value of an id stands: in the array of its type, at the id less the type's code. Only private functions' contracts cite this. Assumes nothing.
+-- Where the value of an id stands: in the array of its type, at the id less the type's code. Only private functions'
+-- contracts cite this. Assumes nothing.
 use Prim.Native.Nat.{ℕ, _-_}
-use Rattle.value.specs.Types.{codeOf}
-use Rattle.value.specs.declared.ValueType.{ValueType}
+use Rattle.value.specs.{Types.codeOf, declared.ValueType.ValueType}
 use Rattle.value.specs.declared.ValueType.the-variants.{Int8, Uint8, Int16, Uint16, Int32, Uint32, Float, Int64, Uint64, Double}
-use Rattle.settings.specs.Table.{parameterOf}
-use Rattle.settings.specs.declared.Parameter.{Parameter}
-use Rattle.settings.specs.declared.Place.{Place}
+use Rattle.settings.specs.{Table.parameterOf, declared.Parameter.Parameter, declared.Place.Place}
 
 -- the settings hold an array of each of five types, and of no other
 abbrev pub placeIn : ValueType → ℕ → Place

@@ -1,22 +1,20 @@
 -- Tables 3-24, 3-25 and 3-26 of the ICD: which parameters there are, and the type, range and default of each.
--- Whatever is said of an id is read from its row. A number is an integer: `pos 5` is 5, `negsuc 5` is -6. `a ∷ b ∷ []` is a list of two,
--- and `cond b x y` is x where b holds, else y. Assumes nothing.
+-- Whatever is said of an id is read from its row. A number is an integer: `pos 5` is 5, `negsuc 5` is -6. `a ∷ b ∷ []`
+-- is a list of two, and `cond b x y` is x where b holds, else y. Assumes nothing.
 use Prim.Native.Nat.{ℕ, zero, suc, _-_, _/_, _^_}
-use mathlib.Core.Bool.{Bool, cond, _&&_}
-use mathlib.Core.List.{List, [], _∷_, _++_}
-use lib.Dec.{leb, eqb}
-use lib.IntN.{ℤ, pos, negsuc}
-use lib.Signed.{ltZ, leZ}
+use mathlib.Core.{Bool.Bool, Bool.cond, Bool._&&_, List.List, List.[], List._∷_, List._++_}
+use lib.{Dec.leb, Dec.eqb, IntN.ℤ, IntN.pos, IntN.negsuc, Signed.ltZ, Signed.leZ}
 use Rattle.value.specs.declared.ValueType.{ValueType}
 use Rattle.value.specs.declared.ValueType.the-variants.{Int8, Uint8, Int16, Uint16, Int32, Uint32, Float, Int64, Uint64, Double}
-use Rattle.value.specs.Types.{Sign, Signed, Unsigned, signIn, bytesIn, codeOf, table as types}
+use Rattle.value.specs.Types.{Sign, Signed, Unsigned, signIn, bytesIn, codeOf, typeTable as types}
 use Rattle.settings.specs.declared.Parameter.{Parameter}
 
 -- ---- the types of Table 3-24: two are one where their codes are
 unfoldable pub same : ValueType → ValueType → Bool
 same t u = eqb (codeOf t) (codeOf u)
 
--- the least and the greatest number of a type, by its sign and its bytes; no parameter is a float or a double, and what stands there is not used
+-- the least and the greatest number of a type, by its sign and its bytes; no parameter is a float or a double, and what
+-- stands there is not used
 abbrev pub lowestBy : Sign → ℕ → ℤ
 lowestBy Signed bytes = negsuc (256 ^ bytes / 2 - 1)
 lowestBy Unsigned bytes = pos 0

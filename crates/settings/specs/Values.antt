@@ -1,17 +1,11 @@
 -- What the read/write parameters hold, read, set and reset by id. Assumes nothing.
 use Prim.Native.Nat.{ℕ, _-_}
-use mathlib.Core.Bool.{Bool, true, cond, _&&_}
-use mathlib.Core.List.{List, [], _∷_, map}
-use lib.ListN.{getD, set}
-use lib.IntN.{ℤ, pos, natAbs}
-use Rattle.value.specs.Types.{codeOf, typeOf}
-use Rattle.value.specs.declared.ValueType.{ValueType}
+use mathlib.Core.{Bool.Bool, Bool.true, Bool.cond, Bool._&&_, List.List, List.[], List._∷_, List.map}
+use lib.{ListN.getD, ListN.set, IntN.ℤ, IntN.pos, IntN.natAbs}
+use Rattle.value.specs.{Types.codeOf, Types.typeOf, declared.ValueType.ValueType, declared.ParamValue.ParamValue}
 use Rattle.value.specs.declared.ValueType.the-variants.{Int8, Uint8, Int16, Uint16, Int32, Uint32, Float, Int64, Uint64, Double}
-use Rattle.value.specs.declared.ParamValue.{ParamValue}
 use Rattle.settings.specs.Table.{same, parameterOf, insideOf, clampOf, defaultOf, column, ids}
-use Rattle.settings.specs.declared.Parameter.{Parameter}
-use Rattle.settings.specs.declared.Got.{Got}
-use Rattle.settings.specs.declared.Settings.{Settings}
+use Rattle.settings.specs.{declared.Parameter.Parameter, declared.Got.Got, declared.Settings.Settings}
 
 -- ---- a value and its number
 -- a float or a double is stored nowhere, and what stands there is not used
@@ -28,17 +22,17 @@ numberIn (ParamValue.Uint64 x) = pos x
 numberIn (ParamValue.Double x) = pos 0
 
 -- the value of a type that a number is; the settings hold no other types
-abbrev pub valueOf : ValueType → ℤ → Got
-valueOf Int8 z = Got.Value (ParamValue.Int8 z)
-valueOf Uint8 z = Got.Value (ParamValue.Uint8 (natAbs z))
-valueOf Int16 z = Got.Value (ParamValue.Int16 z)
-valueOf Uint16 z = Got.Value (ParamValue.Uint16 (natAbs z))
-valueOf Int32 z = Got.Unknown
-valueOf Uint32 z = Got.Value (ParamValue.Uint32 (natAbs z))
-valueOf Float z = Got.Unknown
-valueOf Int64 z = Got.Unknown
-valueOf Uint64 z = Got.Unknown
-valueOf Double z = Got.Unknown
+abbrev pub gotValue : ValueType → ℤ → Got
+gotValue Int8 z = Got.Value (ParamValue.Int8 z)
+gotValue Uint8 z = Got.Value (ParamValue.Uint8 (natAbs z))
+gotValue Int16 z = Got.Value (ParamValue.Int16 z)
+gotValue Uint16 z = Got.Value (ParamValue.Uint16 (natAbs z))
+gotValue Int32 z = Got.Unknown
+gotValue Uint32 z = Got.Value (ParamValue.Uint32 (natAbs z))
+gotValue Float z = Got.Unknown
+gotValue Int64 z = Got.Unknown
+gotValue Uint64 z = Got.Unknown
+gotValue Double z = Got.Unknown
 
 -- ---- the numbers held
 -- those of a type, from the lowest id of the type on
@@ -60,10 +54,11 @@ numberAs s id (Parameter.ReadWrite t) = getD (numbers s t) (id - codeOf t) (pos 
 numberAs s id (Parameter.ReadOnly t) = pos 0
 numberAs s id Parameter.Unknown = pos 0
 
-unfoldable pub numberOf : Settings → ℕ → ℤ
-numberOf s id = numberAs s id (parameterOf id)
+unfoldable pub settingOf : Settings → ℕ → ℤ
+settingOf s id = numberAs s id (parameterOf id)
 
--- an array with z at the place i where it is the one that is meant, and as it was where it is not; `storedN` is for unsigned types
+-- an array with z at the place i where it is the one that is meant, and as it was where it is not; `storedN` is for
+-- unsigned types
 abbrev pub stored : Bool → List ℤ → ℕ → ℤ → List ℤ
 stored b xs i z = cond b (set xs i z) xs
 
@@ -83,12 +78,12 @@ withNumber s t i z = record {
 -- ---- get, set, reset of one, defaults
 -- an id reads its value where it is a read/write parameter
 abbrev pub gotAs : Parameter → ℤ → Got
-gotAs (Parameter.ReadWrite t) z = valueOf t z
+gotAs (Parameter.ReadWrite t) z = gotValue t z
 gotAs (Parameter.ReadOnly t) z = Got.ReadOnly t
 gotAs Parameter.Unknown z = Got.Unknown
 
 unfoldable pub getOf : Settings → ℕ → Got
-getOf s id = gotAs (parameterOf id) (numberOf s id)
+getOf s id = gotAs (parameterOf id) (settingOf s id)
 
 -- a number stored for an id, where it is a read/write parameter of that type
 abbrev pub storeAs : Settings → ℕ → Parameter → ValueType → ℤ → Settings
@@ -125,7 +120,7 @@ defaultsOf = record {
 -- ---- every read/write parameter's number lies in its range
 unfoldable pub allInside : Settings → List ℕ → Bool
 allInside s [] = true
-allInside s (id ∷ more) = insideOf id (numberOf s id) && allInside s more
+allInside s (id ∷ more) = insideOf id (settingOf s id) && allInside s more
 
 unfoldable pub inRangeOf : Settings → Bool
 inRangeOf s = allInside s ids

@@ -227,7 +227,8 @@ fn set_uint8(mut s: Settings, id: u16, x: u8) -> Settings
     s
 }
 
-// The settings with an int16 value stored for the id; as they were where the id is no read/write parameter of that type.
+// The settings with an int16 value stored for the id; as they were where the id is no read/write parameter of that
+// type.
 fn set_int16(mut s: Settings, id: u16, x: i16) -> Settings
     ensures { λ r. ⌜ r ≡ setOf s id (ParamValue.Int16 x) ⌝ }
 {
@@ -239,7 +240,8 @@ fn set_int16(mut s: Settings, id: u16, x: i16) -> Settings
     s
 }
 
-// The settings with a uint16 value stored for the id; as they were where the id is no read/write parameter of that type.
+// The settings with a uint16 value stored for the id; as they were where the id is no read/write parameter of that
+// type.
 fn set_uint16(mut s: Settings, id: u16, x: u16) -> Settings
     ensures { λ r. ⌜ r ≡ setOf s id (ParamValue.Uint16 x) ⌝ }
 {
@@ -251,7 +253,8 @@ fn set_uint16(mut s: Settings, id: u16, x: u16) -> Settings
     s
 }
 
-// The settings with a uint32 value stored for the id; as they were where the id is no read/write parameter of that type.
+// The settings with a uint32 value stored for the id; as they were where the id is no read/write parameter of that
+// type.
 fn set_uint32(mut s: Settings, id: u16, x: u32) -> Settings
     ensures { λ r. ⌜ r ≡ setOf s id (ParamValue.Uint32 x) ⌝ }
 {
@@ -263,8 +266,9 @@ fn set_uint32(mut s: Settings, id: u16, x: u32) -> Settings
     s
 }
 
-// The settings with a value stored for the id, at the nearer end of the id's range where it lies outside; a value of another type than
-// the id's, and an id that is read-only or unknown, change nothing: whether a set is refused is told by `parameter_of`, asked before.
+// The settings with a value stored for the id, at the nearer end of the id's range where it lies outside; a value of
+// another type than the id's, and an id that is read-only or unknown, change nothing: whether a set is refused is told
+// by `parameter_of`, asked before.
 pub fn set(s: Settings, id: u16, value: ParamValue) -> Settings
     ensures { λ r. ⌜ r ≡ setOf s id value ⌝ }
 {
@@ -282,7 +286,8 @@ pub fn set(s: Settings, id: u16, value: ParamValue) -> Settings
     }
 }
 
-// The settings with one parameter at its default, brought into range; an id that is read-only or unknown, which `parameter_of` tells, changes nothing.
+// The settings with one parameter at its default, brought into range; an id that is read-only or unknown, which
+// `parameter_of` tells, changes nothing.
 pub fn reset_one(s: Settings, id: u16) -> Settings
     ensures { λ r. ⌜ r ≡ resetOf s id ⌝ }
 {

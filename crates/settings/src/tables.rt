@@ -1,4 +1,5 @@
-// Table 3-25 in columns: an array for each type, from the lowest id of the type on. Where the page gives no end, the type's own end stands.
+// Table 3-25 in columns: an array for each type, from the lowest id of the type on. Where the page gives no end, the
+// type's own end stands.
 
 // Defaults of 0x6000 to 0x6005.
 pub const UINT32_DEFAULT: [u32; 6] = [0, 0, 0x00000111, 0x11111222, 0x00000111, 0x11111222];

@@ -1,4 +1,5 @@
--- What was read, taken apart again: a parser that reads after another one says what the first one read. Assumes nothing.
+-- What was read, taken apart again: a parser that reads after another one says what the first one read. Assumes
+-- nothing.
 use Prim.Native.Nat.{ℕ, zero, suc, _-_, _<_}
 use mathlib.Core.Path.{_≡_, refl, ap, _∙_}
 use mathlib.Core.List.{List, [], _∷_}

@@ -21,7 +21,8 @@ sample =
     45 ∷ 50 ∷ 48 ∷ 32 ∷ 48 ∷ 48 ∷ 48 ∷ 48 ∷ 48 ∷ 48 ∷ 48 ∷ 48 ∷ 32 ∷ 45 ∷ 10 ∷
     []
 
--- board 1, with channels 0 and 1 fitted and 0 forced; the rail is at -20 in both ticks, with no overcurrent, and only the first has a transfer
+-- board 1, with channels 0 and 1 fitted and 0 forced; the rail is at -20 in both ticks, with no overcurrent, and only
+-- the first has a transfer
 read-sample :
     sheetIn sample
     ≡ reads (record {

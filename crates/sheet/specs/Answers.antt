@@ -1,15 +1,12 @@
--- What the readers of a sheet answer and what a lent buffer then holds, by the form. Assumes nothing: these are definitions.
+-- What the readers of a sheet answer and what a lent buffer then holds, by the form. Assumes nothing: these are
+-- definitions.
 use Prim.Native.Nat.{ℕ}
-use mathlib.Core.Bool.{Bool, true, false, cond}
-use mathlib.Core.List.{List, []}
-use lib.Dec.{leb}
-use lib.ListN.{length}
+use mathlib.Core.{Bool.Bool, Bool.true, Bool.false, Bool.cond, List.List, List.[]}
+use lib.{Dec.leb, ListN.length}
 use Rattle.hex.specs.Hex.{laid}
 use Rattle.grammar.specs.Grammar.{Read, fails, reads, on, times, end}
 use Rattle.sheet.specs.Form.{Top, Transfer, silence, bytes, bytesOf, Tick, anyTickLine, within, tickLine, Sheet}
-use Rattle.sheet.specs.declared.head.Head.{Head}
-use Rattle.sheet.specs.declared.ticks.TickLine.{TickLine}
-use Rattle.sheet.specs.declared.ticks.Command.{Command}
+use Rattle.sheet.specs.{declared.head.Head.Head, declared.ticks.TickLine.TickLine, declared.ticks.Command.Command}
 
 -- ---- before the ticks
 abbrev pub headBy : Top → Head
@@ -19,7 +16,8 @@ abbrev pub headOf : Read Top → Head
 headOf fails = Head.Not
 headOf (reads top i) = headBy top
 
--- ---- a tick line: whether it has a transfer and how long that is are told, and its bytes then stand at the front of the buffer
+-- ---- a tick line: whether it has a transfer and how long that is are told, and its bytes then stand at the front of
+-- the buffer
 abbrev pub isSent : Transfer → Bool
 isSent silence = false
 isSent (bytes bs) = true

@@ -1,12 +1,9 @@
--- The session sheet's form, as document 01 gives it: each part reads a text from a place on, and goes on behind what it read. Characters are their ASCII codes: 10 ends a line,
--- 32 is a space, 45 is `-`. Assumes nothing: these are definitions.
+-- The session sheet's form, as document 01 gives it: each part reads a text from a place on, and goes on behind what it
+-- read. Characters are their ASCII codes: 10 ends a line, 32 is a space, 45 is `-`. Assumes nothing: these are
+-- definitions.
 use Prim.Native.Nat.{ℕ, zero, suc, _+_}
-use mathlib.Core.Bool.{Bool, cond}
-use mathlib.Core.List.{List, [], _∷_}
-use mathlib.Core.Option.{Option, none, some}
-use lib.Dec.{leb}
-use lib.IntN.{ℤ}
-use lib.ListN.{length}
+use mathlib.Core.{Bool.Bool, Bool.cond, List.List, List.[], List._∷_, Option.Option, Option.none, Option.some}
+use lib.{Dec.leb, IntN.ℤ, ListN.length}
 use Rattle.hex.specs.Hex.{payloadOf}
 use Rattle.channels.specs.Sets.{withChannel}
 use Rattle.grammar.specs.Grammar.{Read, fails, reads, Parser, _>>=_, _>>_, _<|>_, pure, byte, end, times, text, upTo}
@@ -31,7 +28,8 @@ unfoldable pub gap : ℕ → Parser (Unit {0})
 gap zero = byte 10
 gap (suc n) = byte 32
 
--- so many channels 0 to 31, each at least as high as `least`, put to those of the set, and behind the last the line's end: the next has to be higher
+-- so many channels 0 to 31, each at least as high as `least`, put to those of the set, and behind the last the line's
+-- end: the next has to be higher
 unfoldable pub channelsFrom : ℕ → ℕ → ℕ → Parser ℕ
 channelsFrom zero least set = pure set
 channelsFrom (suc n) least set = do

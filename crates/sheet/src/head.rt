@@ -47,7 +47,8 @@ fn read_gap(s: &[u8], at: usize, left: u32) -> Next
     literal(s, at, b" ")
 }
 
-// So many channels that rise, with the line's end behind the last, as a set. A count of 0 reads nothing: `empty_list` is for that.
+// So many channels that rise, with the line's end behind the last, as a set. A count of 0 reads nothing: `empty_list`
+// is for that.
 fn read_channels(s: &[u8], at: usize, count: u32) -> Word
     ensures { λ r. ⌜ seenWord r ≡ channelsFrom count 0 0 (now (s .entry)) at ⌝ }
 {

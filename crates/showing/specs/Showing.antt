@@ -1,20 +1,16 @@
--- The two long lines: what a tick prints, and the state. Characters are their ASCII codes: 32 is a space, 45 is `-`, 10 ends a line.
--- Assumes nothing: these are definitions.
+-- The two long lines: what a tick prints, and the state. Characters are their ASCII codes: 32 is a space, 45 is `-`, 10
+-- ends a line. Assumes nothing: these are definitions.
 use Prim.Native.Nat.{ℕ}
-use mathlib.Core.Bool.{Bool, cond}
-use mathlib.Core.List.{List, [], _∷_, _++_}
+use mathlib.Core.{Bool.Bool, Bool.cond, List.List, List.[], List._∷_, List._++_}
 use lib.ListN.{take}
 use Rattle.wire.specs.declared.reply.Reply.{Reply}
 use Rattle.image.specs.Image.{imageOf}
-use Rattle.memory.specs.declared.Store.{Store}
-use Rattle.memory.specs.declared.Memory.{Memory}
+use Rattle.memory.specs.{declared.Store.Store, declared.Memory.Memory}
 use Rattle.modes.specs.declared.ModeAge.{ModeAge}
 use Rattle.channels.specs.declared.Channels.{Channels}
 use Rattle.watchdog.specs.declared.Event.{Event}
 use Rattle.answers.specs.declared.Outcome.{Outcome}
-use Rattle.state.specs.Parts.{causeNumber}
-use Rattle.state.specs.declared.parts.Resets.{Resets}
-use Rattle.state.specs.declared.parts.Board.{Board}
+use Rattle.state.specs.{Parts.causeNumber, declared.parts.Resets.Resets, declared.parts.Board.Board}
 use Rattle.script.specs.Printing.{fieldOf, row, hexOf}
 use Rattle.naming.specs.Naming.{modeLetter, eventLetter, answerDigit, formLetter}
 

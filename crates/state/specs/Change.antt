@@ -1,15 +1,12 @@
--- What a change of mode brings with it, from the mode before it and the mode after it; where the mode stays the two are the same. Assumes nothing: these are definitions.
+-- What a change of mode brings with it, from the mode before it and the mode after it; where the mode stays the two are
+-- the same. Assumes nothing: these are definitions.
 use Prim.Native.Nat.{ℕ}
 use mathlib.Core.Bool.{Bool, true, false, cond, not, _&&_, _||_}
-use Rattle.modes.specs.Table.{same}
-use Rattle.modes.specs.declared.Mode.{Mode}
+use Rattle.modes.specs.{Table.same, declared.Mode.Mode}
 use Rattle.modes.specs.declared.Mode.the-variants.{Startup, Nominal, Safety, Emergency}
-use Rattle.channels.specs.Operations.{allOff, forcedOn, commandEnabledOff}
-use Rattle.channels.specs.declared.Channels.{Channels}
+use Rattle.channels.specs.{Operations.allOff, Operations.forcedOn, Operations.commandEnabledOff, declared.Channels.Channels}
 use Rattle.memory.specs.Memory.{oneMore}
-use Rattle.state.specs.declared.parts.Cause.{Cause}
-use Rattle.state.specs.declared.parts.Profile.{Profile}
-use Rattle.state.specs.declared.parts.Resets.{Resets}
+use Rattle.state.specs.{declared.parts.Cause.Cause, declared.parts.Profile.Profile, declared.parts.Resets.Resets}
 
 -- startup and emergency: the modes in which channels are off
 unfoldable pub isDark : Mode → Bool
@@ -24,8 +21,10 @@ fromNominalToSafety before after = same before Nominal && same after Safety
 unfoldable pub leavesEmergency : Mode → Mode → Bool
 leavesEmergency before after = same before Emergency && not (same after Emergency)
 
--- In startup and emergency every channel is off, with its latch as it was. When one of the two is left, the channels that are on afterwards are the force-enabled ones and no others, and no latch is left.
--- From nominal to safety the command-enabled ones go off and nothing else happens to a channel. From safety to nominal, and where the mode stays, nothing at all does.
+-- In startup and emergency every channel is off, with its latch as it was. When one of the two is left, the channels
+-- that are on afterwards are the force-enabled ones and no others, and no latch is left. From nominal to safety the
+-- command-enabled ones go off and nothing else happens to a channel. From safety to nominal, and where the mode stays,
+-- nothing at all does.
 unfoldable pub enteringOf : Mode → Mode → Profile → Channels → Channels
 enteringOf before after p ch =
     cond (isDark after) (allOff ch)

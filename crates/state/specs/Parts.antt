@@ -1,16 +1,13 @@
--- A board with one part changed and all others as they were: there is no shorter way to write this. Assumes nothing: these are definitions.
+-- A board with one part changed and all others as they were: there is no shorter way to write this. Assumes nothing:
+-- these are definitions.
 use Prim.Native.Nat.{ℕ}
-use Rattle.wire.specs.declared.reply.Reply.{Reply}
-use Rattle.wire.specs.declared.forms.Form.{Form}
+use Rattle.wire.specs.{declared.reply.Reply.Reply, declared.forms.Form.Form}
 use Rattle.channels.specs.declared.Channels.{Channels}
-use Rattle.modes.specs.declared.ModeAge.{ModeAge}
-use Rattle.modes.specs.declared.Mode.{Mode}
+use Rattle.modes.specs.{declared.ModeAge.ModeAge, declared.Mode.Mode}
 use Rattle.memory.specs.declared.Memory.{Memory}
-use Rattle.state.specs.declared.parts.Board.{Board}
-use Rattle.state.specs.declared.parts.Cause.{Cause}
-use Rattle.state.specs.declared.parts.Cause.the-variants.{PowerOn, Watchdog, Commanded, Emergency}
-use Rattle.state.specs.declared.parts.Measured.{Measured}
+use Rattle.state.specs.{declared.parts.Board.Board, declared.parts.Cause.Cause, declared.parts.Measured.Measured}
 use Rattle.state.specs.declared.parts.Resets.{Resets}
+use Rattle.state.specs.declared.parts.Cause.the-variants.{PowerOn, Watchdog, Commanded, Emergency}
 
 -- the mode that a board is in
 abbrev pub modeOf : Board → Mode

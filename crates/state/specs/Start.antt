@@ -1,34 +1,26 @@
 -- A profile's start, and a reset: what each part of the board then is. Assumes nothing: these are definitions.
 use Prim.Native.Nat.{ℕ}
-use mathlib.Core.Bool.{Bool, true, false, cond, not, _&&_}
-use mathlib.Core.List.{[]}
-use lib.Dec.{eqb, leb}
-use lib.ListN.{replicate}
+use mathlib.Core.{Bool.Bool, Bool.true, Bool.false, Bool.cond, Bool.not, Bool._&&_, List.[]}
+use lib.{Dec.eqb, Dec.leb, ListN.replicate}
 use Rattle.wire.specs.Replies.{replyOf}
 use Rattle.modes.specs.Table.{entered}
 use Rattle.modes.specs.declared.Mode.the-variants.{Startup}
-use Rattle.channels.specs.Sets.{isWithin}
-use Rattle.channels.specs.Operations.{cleared}
+use Rattle.channels.specs.{Sets.isWithin, Operations.cleared}
 use Rattle.settings.specs.Values.{inRangeOf}
-use Rattle.memory.specs.Memory.{oneMore, emptyStore, loadedFrom}
-use Rattle.memory.specs.declared.Store.{Store}
-use Rattle.state.specs.declared.parts.Board.{Board}
+use Rattle.memory.specs.{Memory.oneMore, Memory.emptyStore, Memory.loadedFrom, declared.Store.Store}
+use Rattle.state.specs.{declared.parts.Board.Board, declared.parts.Measured.Measured, declared.parts.Profile.Profile}
+use Rattle.state.specs.{declared.parts.Resets.Resets, declared.starting.StartAnswer.StartAnswer, declared.starting.Started.Started}
 use Rattle.state.specs.declared.parts.Cause.the-variants.{PowerOn, Watchdog, Commanded}
 use Rattle.wire.specs.declared.forms.Form.the-variants.{Raw}
-use Rattle.state.specs.declared.parts.Measured.{Measured}
-use Rattle.state.specs.declared.parts.Profile.{Profile}
-use Rattle.state.specs.declared.parts.Resets.{Resets}
-use Rattle.state.specs.declared.starting.StartAnswer.{StartAnswer}
 use Rattle.state.specs.declared.starting.StartAnswer.the-variants.{Accepted, ProfileBreaksARule}
-use Rattle.state.specs.declared.starting.Started.{Started}
 
 -- ---- what a start and a reset have in common
 -- measured words 0, and none of them new
 abbrev pub unmeasured : Measured
 unmeasured = record { words = replicate 122 0; fresh = false }
 
--- a board with nothing behind it: startup just entered, the timer at 0, no reply, what the store holds in force or else the defaults, channels that are off, unlatched and uncounted,
--- no words, the raw form
+-- a board with nothing behind it: startup just entered, the timer at 0, no reply, what the store holds in force or else
+-- the defaults, channels that are off, unlatched and uncounted, no words, the raw form
 unfoldable pub freshOf : Profile → Store → Resets → Board
 freshOf profile store resets =
     record {

@@ -50,7 +50,8 @@ pub struct Board {
     pub form: Form,
 }
 
-// A bus read: the lent buffer then holds the waiting reply from its first byte and after it 0xFF. The board stays as it is.
+// A bus read: the lent buffer then holds the waiting reply from its first byte and after it 0xFF. The board stays as it
+// is.
 pub fn read(b: Board, out: &mut [u8])
     ensures { λ _. ⌜ now (out .exit) ≡ found (b .reply) (length (now (out .entry))) ⌝ }
 {

@@ -1,4 +1,5 @@
--- What a bench can rely on in what framing writes: the reply reads back, 13 has its one cause, and no byte is touched that is not of the frame. Assumes nothing.
+-- What a bench can rely on in what framing writes: the reply reads back, 13 has its one cause, and no byte is touched
+-- that is not of the frame. Assumes nothing.
 use Prim.Native.Nat.{ℕ, _-_, _≤_, _<_}
 use mathlib.Core.Path.{_≡_, refl, ap, sym, _∙_}
 use mathlib.Core.Logic.{⊎-elim}

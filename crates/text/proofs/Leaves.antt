@@ -1,5 +1,5 @@
--- What a read leaves: the scratch buffer as it was, but for a command in ASCII form, whose bytes then stand at its front and are the payload handed on; and the numbers and
--- places that it tells. Assumes nothing.
+-- What a read leaves: the scratch buffer as it was, but for a command in ASCII form, whose bytes then stand at its
+-- front and are the payload handed on; and the numbers and places that it tells. Assumes nothing.
 use Prim.Native.Nat.{ℕ, _+_, _-_, _≤_}
 use mathlib.Core.Path.{_≡_, refl, ap, sym, subst}
 use mathlib.Core.Bool.{Bool, true, false, cond}

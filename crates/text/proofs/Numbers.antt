@@ -1,4 +1,5 @@
--- Which number is told when, and with which place: the answers' definitions in document 01's conditions. Assumes nothing.
+-- Which number is told when, and with which place: the answers' definitions in document 01's conditions. Assumes
+-- nothing.
 use Prim.Native.Nat.{ℕ, zero, suc, _+_, _-_, _≤_, _<_}
 use mathlib.Core.Path.{_≡_, refl, ap, sym, _∙_}
 use mathlib.Core.Bool.{Bool, true, false, cond, not, _&&_, _||_, or-true, false≢true}

@@ -1,4 +1,5 @@
--- The equations of a search, one for each way that a turn of its loops can go, and the three answers of a scan. Assumes nothing.
+-- The equations of a search, one for each way that a turn of its loops can go, and the three answers of a scan. Assumes
+-- nothing.
 use Prim.Native.Nat.{ℕ, _+_, _≤_, _<_}
 use mathlib.Core.Path.{_≡_, refl, ap, sym, _∙_}
 use mathlib.Core.Bool.{Bool, true, false, _&&_, and-false}

@@ -1,5 +1,5 @@
--- The search finds the first place and nothing else: what it finds is a frame as `First` says it, no other frame is there, and where it finds none there is no complete one.
--- Assumes nothing.
+-- The search finds the first place and nothing else: what it finds is a frame as `First` says it, no other frame is
+-- there, and where it finds none there is no complete one. Assumes nothing.
 use Prim.Native.Nat.{ℕ, zero, suc, _+_, _-_, _≤_, _<_}
 use mathlib.Core.Path.{_≡_, refl, ap, sym, _∙_}
 use mathlib.Core.Bool.{Bool, true, false, cond, false≢true}

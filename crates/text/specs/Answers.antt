@@ -1,21 +1,17 @@
--- Document 01's number for each answer and the place that it tells. 0 stands for an answer that is no refusal. Assumes nothing: these are definitions.
+-- Document 01's number for each answer and the place that it tells. 0 stands for an answer that is no refusal. Assumes
+-- nothing: these are definitions.
 use Prim.Native.Nat.{ℕ}
 use mathlib.Core.Bool.{Bool, true, false, cond, not, _&&_, _||_}
-use mathlib.Core.List.{List, [], _∷_}
-use lib.Dec.{ltb}
-use lib.ListN.{length, drop}
+use mathlib.Core.{List.List, List.[], List._∷_, Option.Option, Option.none, Option.some}
+use lib.{Dec.ltb, ListN.length, ListN.drop}
 use Rattle.wire.specs.declared.forms.Form.{Form}
 use Rattle.wire.specs.declared.forms.Form.the-variants.{Raw, Ascii}
-use Rattle.hex.specs.Hex.{payloadOf}
-use Rattle.hex.specs.Answers.{isOfForm, bytesIn}
+use Rattle.hex.specs.{Hex.payloadOf, Answers.isOfForm, Answers.bytesIn}
 use Rattle.text.specs.Frames.{startsWith, openingTag, closingTag, frameOf}
-use Rattle.text.specs.Lines.{part, switchText, same}
-use mathlib.Core.Option.{Option, none, some}
-use Rattle.text.specs.declared.frames.Frame.{Frame}
-use Rattle.text.specs.declared.frames.Frame.the-variants.{Found, NotThere}
-use Rattle.text.specs.declared.reading.Line.{Line}
-use Rattle.text.specs.declared.reading.Line.the-variants.{Command, Switch, NoFrame, TooLong, NotOfForm, ScratchTooShort}
+use Rattle.text.specs.{Lines.part, Lines.switchText, Lines.same, declared.frames.Frame.Frame, declared.reading.Line.Line}
 use Rattle.text.specs.declared.framing.Framed.{Framed}
+use Rattle.text.specs.declared.frames.Frame.the-variants.{Found, NotThere}
+use Rattle.text.specs.declared.reading.Line.the-variants.{Command, Switch, NoFrame, TooLong, NotOfForm, ScratchTooShort}
 use Rattle.text.specs.declared.framing.Framed.the-variants.{Written, OutputTooShort}
 
 -- a scan that finds nothing

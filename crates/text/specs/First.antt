@@ -1,8 +1,7 @@
--- What a frame is, said of every place and without a search: the laws in `Search` prove that the search of `Frames` finds just this. Assumes nothing: these are definitions.
+-- What a frame is, said of every place and without a search: the laws in `Search` prove that the search of `Frames`
+-- finds just this. Assumes nothing: these are definitions.
 use Prim.Native.Nat.{ℕ, _+_, _≤_, _<_}
-use mathlib.Core.Path.{_≡_}
-use mathlib.Core.Bool.{true}
-use mathlib.Core.List.{List}
+use mathlib.Core.{Path._≡_, Bool.true, List.List}
 use lib.ListN.{drop}
 use Rattle.text.specs.Frames.{startsWith, openingTag, closingTag}
 
@@ -16,7 +15,8 @@ pub record FirstFrom (tag s : List ℕ) (from place : ℕ) : Type 0 where
   pub here : StandsAt tag s place
   pub none-before : (m : ℕ) → from ≤ m → m < place → StandsAt tag s m → ⊥
 
--- the payload lies from start up to end: the first opening tag ends at start, the first closing tag after it begins at end and ends at behind
+-- the payload lies from start up to end: the first opening tag ends at start, the first closing tag after it begins at
+-- end and ends at behind
 pub record FrameAt (s : List ℕ) (start end behind : ℕ) : Type 0 where
   pub opening : ℕ
   pub opened : FirstFrom openingTag s 0 opening

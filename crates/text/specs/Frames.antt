@@ -1,13 +1,11 @@
--- Where a tag first stands, and the frame in what was received. Characters are their ASCII codes. Assumes nothing: these are definitions.
+-- Where a tag first stands, and the frame in what was received. Characters are their ASCII codes. Assumes nothing:
+-- these are definitions.
 use Prim.Native.Nat.{ℕ, _+_, _≤_}
-use mathlib.Core.Bool.{Bool, true, false, cond, _&&_}
-use mathlib.Core.Option.{Option, none, some}
+use mathlib.Core.{Bool.Bool, Bool.true, Bool.false, Bool.cond, Bool._&&_, Option.Option, Option.none, Option.some}
 use mathlib.Core.List.{List, [], _∷_}
-use lib.Dec.{eqb}
-use lib.ListN.{drop}
-use Rattle.text.specs.declared.frames.Place.{Place}
+use lib.{Dec.eqb, ListN.drop}
+use Rattle.text.specs.{declared.frames.Place.Place, declared.frames.Frame.Frame}
 use Rattle.text.specs.declared.frames.Place.the-variants.{At, Nowhere}
-use Rattle.text.specs.declared.frames.Frame.{Frame}
 use Rattle.text.specs.declared.frames.Frame.the-variants.{Found, NotThere}
 
 -- <cmd>

@@ -1,17 +1,12 @@
 -- The frame of a reply, and what framing answers and leaves. Assumes nothing: these are definitions.
 use Prim.Native.Nat.{ℕ, _+_, _-_, _≤_}
-use mathlib.Core.Bool.{cond}
-use mathlib.Core.List.{List, [], _∷_, _++_}
-use lib.Dec.{leb}
-use lib.ListN.{length}
-use lib.Seq.{sets}
+use mathlib.Core.{Bool.cond, List.List, List.[], List._∷_, List._++_}
+use lib.{Dec.leb, ListN.length, Seq.sets}
 use Rattle.wire.specs.declared.forms.Form.{Form}
 use Rattle.wire.specs.declared.forms.Form.the-variants.{Raw, Ascii}
 use Rattle.hex.specs.Hex.{textOf}
-use Rattle.text.specs.Lines.{part, switchText}
-use Rattle.text.specs.declared.framing.Due.{Due}
+use Rattle.text.specs.{Lines.part, Lines.switchText, declared.framing.Due.Due, declared.framing.Framed.Framed}
 use Rattle.text.specs.declared.framing.Due.the-variants.{Nothing, Reply, Echo}
-use Rattle.text.specs.declared.framing.Framed.{Framed}
 use Rattle.text.specs.declared.framing.Framed.the-variants.{Written, OutputTooShort}
 
 -- <rsp>
@@ -44,7 +39,8 @@ dueText (Echo to) form reply = replyFrame (switchText to)
 abbrev pub framedOf : List ℕ → ℕ → Framed
 framedOf text room = cond (leb (length text) room) (Written (length text)) OutputTooShort
 
--- ---- the tags around what was written from place 5 on: they are 13 characters, and nothing is touched where nothing was written
+-- ---- the tags around what was written from place 5 on: they are 13 characters, and nothing is touched where nothing
+-- was written
 abbrev pub Fits : Framed → ℕ → Type 0
 Fits (Written n) room = n + 13 ≤ room
 Fits OutputTooShort room = Unit {0}

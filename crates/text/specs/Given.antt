@@ -1,16 +1,12 @@
--- When each answer of a read is given, said of every answer: `Given` of the laws proves that a read gives the answer of which this holds, and no other.
--- Assumes nothing: these are definitions.
+-- When each answer of a read is given, said of every answer: `Given` of the laws proves that a read gives the answer of
+-- which this holds, and no other. Assumes nothing: these are definitions.
 use Prim.Native.Nat.{ℕ, _≤_, _<_}
-use mathlib.Core.Path.{_≡_}
-use mathlib.Core.Option.{none, some}
-use mathlib.Core.List.{List}
+use mathlib.Core.{Path._≡_, Option.none, Option.some, List.List}
 use lib.ListN.{length}
 use Rattle.wire.specs.declared.forms.Form.{Form}
 use Rattle.wire.specs.declared.forms.Form.the-variants.{Raw, Ascii}
 use Rattle.hex.specs.Hex.{payloadOf}
-use Rattle.text.specs.First.{FrameAt, Complete}
-use Rattle.text.specs.Lines.{part, switchText}
-use Rattle.text.specs.declared.reading.Line.{Line}
+use Rattle.text.specs.{First.FrameAt, First.Complete, Lines.part, Lines.switchText, declared.reading.Line.Line}
 use Rattle.text.specs.declared.reading.Line.the-variants.{Command, Switch, NoFrame, TooLong, NotOfForm, ScratchTooShort}
 
 -- a frame whose payload is no switch and has at most 256 bytes

@@ -1,19 +1,15 @@
--- What a read of the text line answers, what the scratch buffer then holds, and the payload handed on. Assumes nothing: these are definitions.
+-- What a read of the text line answers, what the scratch buffer then holds, and the payload handed on. Assumes nothing:
+-- these are definitions.
 use Prim.Native.Nat.{ℕ, _-_}
-use mathlib.Core.Bool.{Bool, cond, _&&_}
-use mathlib.Core.List.{List, [], _∷_}
-use lib.Dec.{eqb, ltb}
-use lib.ListN.{length, take, drop}
+use mathlib.Core.{Bool.Bool, Bool.cond, Bool._&&_, List.List, List.[], List._∷_}
+use lib.{Dec.eqb, Dec.ltb, ListN.length, ListN.take, ListN.drop}
 use Rattle.wire.specs.declared.forms.Form.{Form}
 use Rattle.wire.specs.declared.forms.Form.the-variants.{Raw, Ascii}
-use Rattle.hex.specs.Hex.{payloadOf, readOf, heldAfter}
-use Rattle.hex.specs.declared.Payload.{Payload}
-use Rattle.text.specs.Frames.{startsWith, frameOf}
-use Rattle.text.specs.declared.frames.Frame.{Frame}
-use Rattle.text.specs.declared.frames.Frame.the-variants.{Found, NotThere}
-use Rattle.text.specs.declared.reading.Line.{Line}
-use Rattle.text.specs.declared.reading.Line.the-variants.{Command, Switch, NoFrame, TooLong, NotOfForm, ScratchTooShort}
+use Rattle.hex.specs.{Hex.payloadOf, Hex.readOf, Hex.heldAfter, declared.Payload.Payload}
+use Rattle.text.specs.{Frames.startsWith, Frames.frameOf, declared.frames.Frame.Frame, declared.reading.Line.Line}
 use Rattle.text.specs.declared.reading.Switched.{Switched}
+use Rattle.text.specs.declared.frames.Frame.the-variants.{Found, NotThere}
+use Rattle.text.specs.declared.reading.Line.the-variants.{Command, Switch, NoFrame, TooLong, NotOfForm, ScratchTooShort}
 use Rattle.text.specs.declared.reading.Switched.the-variants.{To, No}
 
 -- the bytes from start up to end, as far as they are there
@@ -37,7 +33,8 @@ switchOf payload = cond (same payload (switchText Raw)) (To Raw) (cond (same pay
 
 -- ---- a payload that is no switch, in a frame whose end has the place behind
 
--- in ASCII form: the bytes that the pairs spell, from the front of the scratch buffer on; 12 where they are not of the form, 13 where there is no room
+-- in ASCII form: the bytes that the pairs spell, from the front of the scratch buffer on; 12 where they are not of the
+-- form, 13 where there is no room
 abbrev pub spelt : ℕ → Payload → Line
 spelt behind (Payload.Bytes n) = Command 0 n behind
 spelt behind Payload.NotOfForm = NotOfForm behind

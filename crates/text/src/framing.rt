@@ -123,7 +123,8 @@ fn echo_frame(form: Form, out: &mut [u8]) -> Framed
     enclose(inner, out)
 }
 
-// Writes what is due into the front of a lent buffer: a frame, or nothing. Where the buffer is too short for the frame it keeps what it held.
+// Writes what is due into the front of a lent buffer: a frame, or nothing. Where the buffer is too short for the frame
+// it keeps what it held.
 pub fn frame(due: Due, form: Form, reply: &[u8], out: &mut [u8]) -> Framed
     ensures answer { λ r. ⌜ r ≡ framedOf (dueText due form (now (reply .entry))) (length (now (out .entry))) ⌝ }
     ensures held { λ _. ⌜ now (out .exit) ≡ laid (dueText due form (now (reply .entry))) (now (out .entry)) ⌝ }

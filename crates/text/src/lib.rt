@@ -1,4 +1,5 @@
-// The text line: the frame in what was received, the form switch, the payload handed on, and the frame of a reply. Functions on slices and a form.
+// The text line: the frame in what was received, the form switch, the payload handed on, and the frame of a reply.
+// Functions on slices and a form.
 mod frames;
 mod framing;
 mod reading;

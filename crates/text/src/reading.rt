@@ -15,8 +15,8 @@ use wire::Form;
 // The most received bytes that a payload may have, in either form.
 const MOST: usize = 256;
 
-// What a read of the text line answers. A command's payload lies from start up to end, of what was received in raw form and of the scratch buffer in
-// ASCII form; behind is the place after the closing tag.
+// What a read of the text line answers. A command's payload lies from start up to end, of what was received in raw form
+// and of the scratch buffer in ASCII form; behind is the place after the closing tag.
 pub enum Line {
     Command {
         start: usize,
@@ -118,8 +118,8 @@ fn command_line(
     }
 }
 
-// Reads what was received: a command's payload, a switch of the form, or why there is neither. The scratch buffer is written only where a payload
-// in ASCII form is handed on.
+// Reads what was received: a command's payload, a switch of the form, or why there is neither. The scratch buffer is
+// written only where a payload in ASCII form is handed on.
 pub fn read(form: Form, received: &[u8], scratch: &mut [u8]) -> Line
     ensures answer { λ r. ⌜ r ≡ lineOf form (now (received .entry)) (length (now (scratch .entry))) ⌝ }
     ensures held { λ _. ⌜ now (scratch .exit) ≡ lineHeld form (now (received .entry)) (now (scratch .entry)) ⌝ }
@@ -145,7 +145,8 @@ fn part(s: &[u8], start: usize, end: usize) -> &[u8]
     wire::first(wire::rest(s, start), end - start)
 }
 
-// The payload handed on: in raw form a part of what was received, in ASCII form a part of the scratch buffer. Ends that do not fit are cut.
+// The payload handed on: in raw form a part of what was received, in ASCII form a part of the scratch buffer. Ends that
+// do not fit are cut.
 pub fn payload<'a>(
     form: Form,
     received: &'a [u8],

@@ -1,4 +1,5 @@
--- The front of an untouched buffer, lent to a call: what the call leaves there is what its first bytes then are. Assumes nothing.
+-- The front of an untouched buffer, lent to a call: what the call leaves there is what its first bytes then are.
+-- Assumes nothing.
 use Prim.Native.Nat.{ℕ, _≤_, _<_, min}
 use mathlib.Core.Path.{_≡_, sym, ap, _∙_}
 use mathlib.Core.List.{List, _++_}

@@ -1,35 +1,21 @@
 -- What a line does: the bench after it, and what it prints. Characters are their ASCII codes: 10 ends a line.
 -- Assumes nothing: these are definitions.
 use Prim.Native.Nat.{ℕ, min}
-use mathlib.Core.Bool.{Bool, true, false, cond}
-use mathlib.Core.List.{List, [], _∷_, _++_}
+use mathlib.Core.{Bool.Bool, Bool.true, Bool.false, Bool.cond, List.List, List.[], List._∷_, List._++_}
 use lib.ListN.{length, take, replicate}
-use Rattle.wire.specs.Numbers.{signed}
-use Rattle.wire.specs.Replies.{found}
-use Rattle.wire.specs.declared.forms.Form.{Form}
+use Rattle.wire.specs.{Numbers.signed, Replies.found, declared.forms.Form.Form}
 use Rattle.hex.specs.Hex.{laid}
-use Rattle.text.specs.Lines.{lineHeld, payloadIn}
-use Rattle.text.specs.Framing.{framedOf}
-use Rattle.text.specs.declared.reading.Line.{Line}
+use Rattle.text.specs.{Lines.lineHeld, Lines.payloadIn, Framing.framedOf, declared.reading.Line.Line}
 use Rattle.image.specs.Image.{settingsOf}
-use Rattle.memory.specs.Memory.{emptyStore}
-use Rattle.memory.specs.declared.Store.{Store}
-use Rattle.state.specs.declared.parts.Profile.{Profile}
-use Rattle.state.specs.declared.starting.StartAnswer.{StartAnswer}
-use Rattle.unit.specs.Machine.{noMachine, begunOf, toldOf, heardOf, dueOf}
-use Rattle.unit.specs.declared.Machine.{Machine}
-use Rattle.unit.specs.declared.Begun.{Begun}
-use Rattle.unit.specs.declared.Told.{Told}
-use Rattle.unit.specs.declared.Heard.{Heard}
-use Rattle.script.specs.Printing.{Page, page, typed, hexOf}
-use Rattle.script.specs.Reading.{wordsOf}
-use Rattle.lines.specs.declared.Asked.{Asked}
-use Rattle.lines.specs.declared.Look.{Look}
+use Rattle.memory.specs.{Memory.emptyStore, declared.Store.Store}
+use Rattle.state.specs.{declared.parts.Profile.Profile, declared.starting.StartAnswer.StartAnswer}
+use Rattle.unit.specs.{Machine.noMachine, Machine.begunOf, Machine.toldOf, Machine.heardOf, Machine.dueOf, declared.Machine.Machine}
+use Rattle.unit.specs.{declared.Begun.Begun, declared.Told.Told, declared.Heard.Heard}
+use Rattle.script.specs.{Printing.Page, Printing.page, Printing.typed, Printing.hexOf, Reading.wordsOf}
+use Rattle.lines.specs.{declared.Asked.Asked, declared.Look.Look}
 use Rattle.showing.specs.Showing.{tickedLine, stateLine}
 use Rattle.speaking.specs.Speaking.{heardLine, framedLine}
-use Rattle.trial.specs.declared.Bench.{Bench}
-use Rattle.trial.specs.declared.Ran.{Ran}
-use Rattle.trial.specs.declared.Span.{Span}
+use Rattle.trial.specs.{declared.Bench.Bench, declared.Ran.Ran, declared.Span.Span}
 
 -- nothing was started, and no words were lent
 unfoldable pub emptyBench : Bench

@@ -1,5 +1,5 @@
--- What a bench can rely on: framing says the reply of the latest tick and never an older one, a switch takes at the read, and a refused call leaves the machine as it was.
--- Assumes nothing.
+-- What a bench can rely on: framing says the reply of the latest tick and never an older one, a switch takes at the
+-- read, and a refused call leaves the machine as it was. Assumes nothing.
 use Prim.Native.Nat.{ℕ}
 use mathlib.Core.Path.{_≡_, refl, ap, _∙_}
 use mathlib.Core.Bool.{Bool, true, false, cond}

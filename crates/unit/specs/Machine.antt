@@ -1,31 +1,21 @@
--- A machine: a board, and what its text line has to say. What each call of a bench answers, and the machine it leaves. `rail` is in millivolts with its sign, `named`
--- the set of channels that reported overcurrent, `words` the words lent, `sent` whether there is a transfer and `s` its bytes. Assumes nothing: these are definitions.
+-- A machine: a board, and what its text line has to say. What each call of a bench answers, and the machine it leaves.
+-- `rail` is in millivolts with its sign, `named` the set of channels that reported overcurrent, `words` the words lent,
+-- `sent` whether there is a transfer and `s` its bytes. Assumes nothing: these are definitions.
 use Prim.Native.Nat.{ℕ}
-use mathlib.Core.Bool.{Bool, cond}
-use mathlib.Core.List.{List}
+use mathlib.Core.{Bool.Bool, Bool.cond, List.List}
 use lib.IntN.{ℤ}
 use Rattle.wire.specs.Replies.{shown}
 use Rattle.memory.specs.declared.Store.{Store}
-use Rattle.state.specs.Parts.{withForm}
-use Rattle.state.specs.Start.{unstartedBoard, startOf}
-use Rattle.state.specs.declared.parts.Profile.{Profile}
-use Rattle.state.specs.declared.starting.StartAnswer.{StartAnswer}
+use Rattle.state.specs.{Parts.withForm, Start.unstartedBoard, Start.startOf, declared.parts.Profile.Profile}
+use Rattle.state.specs.{declared.starting.StartAnswer.StartAnswer, declared.starting.Started.Started}
 use Rattle.state.specs.declared.starting.StartAnswer.the-variants.{Accepted, ProfileBreaksARule}
-use Rattle.state.specs.declared.starting.Started.{Started}
 use Rattle.answers.specs.declared.Outcome.{Outcome}
 use Rattle.answers.specs.declared.Outcome.the-variants.{WrongWordCount, NoTransfer, Answered}
-use Rattle.board.specs.Tick.{tickOf}
-use Rattle.board.specs.declared.Ticked.{Ticked}
-use Rattle.text.specs.Lines.{lineOf}
-use Rattle.text.specs.Framing.{dueText}
-use Rattle.text.specs.declared.reading.Line.{Line}
+use Rattle.board.specs.{Tick.tickOf, declared.Ticked.Ticked}
+use Rattle.text.specs.{Lines.lineOf, Framing.dueText, declared.reading.Line.Line, declared.framing.Due.Due}
 use Rattle.text.specs.declared.reading.Line.the-variants.{Command, Switch, NoFrame, TooLong, NotOfForm, ScratchTooShort}
-use Rattle.text.specs.declared.framing.Due.{Due}
 use Rattle.text.specs.declared.framing.Due.the-variants.{Nothing, Reply, Echo}
-use Rattle.unit.specs.declared.Machine.{Machine}
-use Rattle.unit.specs.declared.Begun.{Begun}
-use Rattle.unit.specs.declared.Told.{Told}
-use Rattle.unit.specs.declared.Heard.{Heard}
+use Rattle.unit.specs.{declared.Machine.Machine, declared.Begun.Begun, declared.Told.Told, declared.Heard.Heard}
 
 -- ---- starting
 

@@ -1,21 +1,14 @@
--- What a bench does with a machine, one call after another, and the machines that can be reached so. `rail` is in millivolts with its sign, `named` the set of channels that
--- reported overcurrent, `words` the words lent, `sent` whether there is a transfer and `transfer` its bytes. Assumes nothing: these are definitions.
-use mathlib.Core.Path.{_≡_}
+-- What a bench does with a machine, one call after another, and the machines that can be reached so. `rail` is in
+-- millivolts with its sign, `named` the set of channels that reported overcurrent, `words` the words lent, `sent`
+-- whether there is a transfer and `transfer` its bytes. Assumes nothing: these are definitions.
+use mathlib.Core.{Path._≡_, Bool.Bool, Bool.true, List.List, List.[], List._∷_}
 use Prim.Native.Nat.{ℕ}
-use mathlib.Core.Bool.{Bool, true}
-use mathlib.Core.List.{List, [], _∷_}
-use lib.IntN.{ℤ}
-use lib.ListN.{length}
-use Rattle.memory.specs.Limits.{limitsOf}
-use Rattle.memory.specs.declared.Store.{Store}
-use Rattle.state.specs.Start.{keepsTheRules}
-use Rattle.state.specs.declared.parts.Board.{Board}
-use Rattle.state.specs.declared.parts.Profile.{Profile}
+use lib.{IntN.ℤ, ListN.length}
+use Rattle.memory.specs.{Limits.limitsOf, declared.Store.Store}
+use Rattle.state.specs.{Start.keepsTheRules, declared.parts.Board.Board, declared.parts.Profile.Profile}
 use Rattle.commands.specs.Step.{commandedOf}
 use Rattle.board.specs.Tick.{risenOf, changedOf, trippedOf, allowedCount}
-use Rattle.unit.specs.Machine.{begunOf, toldOf, heardOf}
-use Rattle.unit.specs.declared.Machine.{Machine}
-use Rattle.unit.specs.declared.Told.{Told}
+use Rattle.unit.specs.{Machine.begunOf, Machine.toldOf, Machine.heardOf, declared.Machine.Machine, declared.Told.Told}
 
 -- what one tick brings
 pub record Sample : Type 0 where
@@ -43,7 +36,8 @@ afterStep3 m i = trippedOf (i .named) (afterStep2 m i)
 abbrev pub afterStep4 : Machine → Sample → Board
 afterStep4 m i = commandedOf (i .rail) (limitsOf (m .board .memory)) (i .sent) (i .transfer) (afterStep3 m i) .board
 
--- a tick, which may be one that refusal 9 turns away, or a read of the text line with a scratch buffer of some room, which may switch the form
+-- a tick, which may be one that refusal 9 turns away, or a read of the text line with a scratch buffer of some room,
+-- which may switch the form
 pub data Call : Type 0 where
   tick : Sample → Call
   line : List ℕ → ℕ → Call

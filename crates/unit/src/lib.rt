@@ -35,8 +35,9 @@ pub struct Begun {
     pub answer: StartAnswer,
 }
 
-// The machine after a tick, what the tick tells of its transfer, what the watchdog did, and whether the tick made a reply that is still there. After a tick that was refused
-// none was made in it, and the machine still has to say what it had to say before.
+// The machine after a tick, what the tick tells of its transfer, what the watchdog did, and whether the tick made a
+// reply that is still there. After a tick that was refused none was made in it, and the machine still has to say what
+// it had to say before.
 pub struct Told {
     pub machine: Machine,
     pub outcome: Outcome,
@@ -50,7 +51,8 @@ pub struct Heard {
     pub line: Line,
 }
 
-// What stands where no machine was started yet, and is there only to be started: as a machine it has no channel and the BID 0, which no profile has.
+// What stands where no machine was started yet, and is there only to be started: as a machine it has no channel and the
+// BID 0, which no profile has.
 pub fn unstarted() -> Machine
     ensures { λ r. ⌜ r ≡ noMachine ⌝ }
 {
@@ -60,7 +62,8 @@ pub fn unstarted() -> Machine
     }
 }
 
-// Starts a machine from a profile and what is stored; where the profile breaks a rule, the machine that was there stays.
+// Starts a machine from a profile and what is stored; where the profile breaks a rule, the machine that was there
+// stays.
 pub fn start(there: Machine, profile: Profile, store: Store) -> Begun
     ensures { λ r. ⌜ r ≡ begunOf there profile store ⌝ }
     ensures number { λ r. ⌜ startNumber (r .answer) ≡ cond (keepsTheRules profile store) 0 8 ⌝ }
@@ -90,7 +93,8 @@ fn due_by(replied: bool) -> Due
     if replied { Due::Reply } else { Due::Nothing }
 }
 
-// What the text line has to say after a tick: the reply made in it that still waits, and else nothing. A tick that did not happen leaves what was due.
+// What the text line has to say after a tick: the reply made in it that still waits, and else nothing. A tick that did
+// not happen leaves what was due.
 fn due_after(outcome: Outcome, replied: bool, due: Due) -> Due
     ensures { λ r. ⌜ r ≡ dueAfter outcome replied due ⌝ }
 {
@@ -101,8 +105,9 @@ fn due_after(outcome: Outcome, replied: bool, due: Due) -> Due
     }
 }
 
-// One tick: the rail in millivolts, the channels that reported overcurrent, the words lent, and no transfer or one. With no transfer its slice is not looked at.
-// Words that are neither none nor all are refused, and the machine stays as it was.
+// One tick: the rail in millivolts, the channels that reported overcurrent, the words lent, and no transfer or one.
+// With no transfer its slice is not looked at. Words that are neither none nor all are refused, and the machine stays
+// as it was.
 pub fn tick(
     m: Machine,
     rail: i16,
@@ -156,8 +161,8 @@ fn after_line(m: Machine, line: Line) -> Machine
     }
 }
 
-// Reads what was received on the text line, by the form in force: a command's payload, a switch of the form, or why there is neither. The scratch buffer is written only
-// where a payload in ASCII form is handed on.
+// Reads what was received on the text line, by the form in force: a command's payload, a switch of the form, or why
+// there is neither. The scratch buffer is written only where a payload in ASCII form is handed on.
 pub fn read_line(m: Machine, received: &[u8], scratch: &mut [u8]) -> Heard
     ensures answer { λ r. ⌜ r ≡ heardOf (now (received .entry)) (length (now (scratch .entry))) m ⌝ }
     ensures held { λ _. ⌜ now (scratch .exit) ≡ lineHeld (m .board .form) (now (received .entry)) (now (scratch .entry)) ⌝ }
@@ -173,8 +178,8 @@ pub fn read_line(m: Machine, received: &[u8], scratch: &mut [u8]) -> Heard
     }
 }
 
-// The payload that a read handed on, by the form of the machine that the read left: in raw form a part of what was received, in ASCII form a part of the scratch buffer.
-// Ends that do not fit are cut.
+// The payload that a read handed on, by the form of the machine that the read left: in raw form a part of what was
+// received, in ASCII form a part of the scratch buffer. Ends that do not fit are cut.
 pub fn payload<'a>(
     m: Machine,
     received: &'a [u8],
@@ -189,8 +194,9 @@ pub fn payload<'a>(
     text::payload(form, received, scratch, start, end)
 }
 
-// Frames what the text line has to say into the front of a lent buffer: the reply of the latest tick, the echo of a switch since then, or nothing. Where the buffer is too short
-// it keeps what it held. Nothing is used up: the same call says the same again.
+// Frames what the text line has to say into the front of a lent buffer: the reply of the latest tick, the echo of a
+// switch since then, or nothing. Where the buffer is too short it keeps what it held. Nothing is used up: the same call
+// says the same again.
 pub fn frame(m: Machine, out: &mut [u8]) -> Framed
     ensures answer { λ r. ⌜ r ≡ framedOf (dueOf m) (length (now (out .entry))) ⌝ }
     ensures held { λ _. ⌜ now (out .exit) ≡ laid (dueOf m) (now (out .entry)) ⌝ }

@@ -18,7 +18,7 @@ use Rattle.wire.proofs.TwosComplement.{signed-pattern, pattern-signed, pattern-
 use Rattle.wire.specs.Floats.{nanPattern}
 use Rattle.wire.specs.Numbers.{Bytes, number, bytesOf, signed}
 use Rattle.value.proofs.Reading.{too-short, long-enough}
-use Rattle.value.specs.Types.{table, width, typeOf}
+use Rattle.value.specs.Types.{typeTable, width, typeOf}
 use Rattle.value.specs.Answers.{readNumber}
 use Rattle.value.specs.Values.{spelt, wireBytes, valueOf, readOf, Proper}
 use Rattle.value.specs.declared.ParamValue.{ParamValue}

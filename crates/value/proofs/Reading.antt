@@ -13,7 +13,7 @@ use Rattle.wire.specs.Floats.{nanPattern, float32Of, float64Of}
 use Rattle.wire.specs.Numbers.{number, bytesOf}
 use Rattle.wire.specs.declared.floats.Float32.{Float32}
 use Rattle.wire.specs.declared.floats.Float64.{Float64}
-use Rattle.value.specs.Types.{table, width, typeOf}
+use Rattle.value.specs.Types.{typeTable, width, typeOf}
 use Rattle.value.specs.Answers.{readNumber, isNaN, speltNumber, valueNumber}
 use Rattle.value.specs.Values.{spelt, wireBytes, valueBytes, valueOf, readOf}
 use Rattle.value.specs.declared.ParamValue.{ParamValue}

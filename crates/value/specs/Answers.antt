@@ -1,16 +1,10 @@
 -- Document 01's number for each answer of this crate; 0 is no refusal. Assumes nothing: these are definitions.
 use Prim.Native.Nat.{ℕ}
-use mathlib.Core.Bool.{Bool, false, cond}
-use mathlib.Core.List.{List}
-use lib.Dec.{ltb}
-use lib.Ieee.{binary32, binary64}
-use lib.ListN.{length}
-use Rattle.wire.specs.Numbers.{number}
-use Rattle.wire.specs.Floats.{nanPattern}
-use Rattle.value.specs.Types.{width}
-use Rattle.value.specs.declared.ValueType.{ValueType}
+use mathlib.Core.{Bool.Bool, Bool.false, Bool.cond, List.List}
+use lib.{Dec.ltb, Ieee.binary32, Ieee.binary64, ListN.length}
+use Rattle.wire.specs.{Numbers.number, Floats.nanPattern}
+use Rattle.value.specs.{Types.width, declared.ValueType.ValueType, declared.Parsed.Parsed}
 use Rattle.value.specs.declared.ValueType.the-variants.{Int8, Uint8, Int16, Uint16, Int32, Uint32, Float, Int64, Uint64, Double}
-use Rattle.value.specs.declared.Parsed.{Parsed}
 use Rattle.value.specs.declared.Parsed.the-variants.{Value, TooShort, NotANumber}
 
 -- a set command with fewer bytes than its value has is 5, a NaN is 7

@@ -1,8 +1,7 @@
 -- The types of the ICD's Table 3-24.
 use Prim.Native.Nat.{ℕ}
-use Rattle.value.specs.declared.ValueType.{ValueType}
+use Rattle.value.specs.{declared.ValueType.ValueType, declared.ParamValue.ParamValue}
 use Rattle.value.specs.declared.ValueType.the-variants.{Int8, Uint8, Int16, Uint16, Int32, Uint32, Float, Int64, Uint64, Double}
-use Rattle.value.specs.declared.ParamValue.{ParamValue}
 
 pub data Sign : Type 0 where
   Signed Unsigned : Sign
@@ -11,17 +10,17 @@ pub data Sign : Type 0 where
 pub data Row : Type 0 where
   row : Sign → ℕ → ℕ → Row
 
-abbrev pub table : ValueType → Row
-table Int8 = row Signed 1 0x1000
-table Uint8 = row Unsigned 1 0x2000
-table Int16 = row Signed 2 0x3000
-table Uint16 = row Unsigned 2 0x4000
-table Int32 = row Signed 4 0x5000
-table Uint32 = row Unsigned 4 0x6000
-table Float = row Signed 4 0x7000
-table Int64 = row Signed 8 0x8000
-table Uint64 = row Unsigned 8 0x9000
-table Double = row Signed 8 0xA000
+abbrev pub typeTable : ValueType → Row
+typeTable Int8 = row Signed 1 0x1000
+typeTable Uint8 = row Unsigned 1 0x2000
+typeTable Int16 = row Signed 2 0x3000
+typeTable Uint16 = row Unsigned 2 0x4000
+typeTable Int32 = row Signed 4 0x5000
+typeTable Uint32 = row Unsigned 4 0x6000
+typeTable Float = row Signed 4 0x7000
+typeTable Int64 = row Signed 8 0x8000
+typeTable Uint64 = row Unsigned 8 0x9000
+typeTable Double = row Signed 8 0xA000
 
 abbrev pub signIn : Row → Sign
 signIn (row sign bytes code) = sign
@@ -34,11 +33,11 @@ codeIn (row sign bytes code) = code
 
 -- The code of a type, from which the ids of its parameters count.
 abbrev pub codeOf : ValueType → ℕ
-codeOf t = codeIn (table t)
+codeOf t = codeIn (typeTable t)
 
 -- How many bytes a value of a type has.
 unfoldable pub width : ValueType → ℕ
-width t = bytesIn (table t)
+width t = bytesIn (typeTable t)
 
 -- The type that a value keeps.
 abbrev pub typeOf : ParamValue → ValueType

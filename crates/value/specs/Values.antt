@@ -1,22 +1,16 @@
--- Values on the wire: the least significant byte first, signed ones in two's complement, floats as their patterns of bits.
+-- Values on the wire: the least significant byte first, signed ones in two's complement, floats as their patterns of
+-- bits.
 use Prim.Native.Nat.{ℕ, _-_}
-use mathlib.Core.Bool.{cond, false}
-use mathlib.Core.List.{List, _++_}
-use mathlib.Core.Path.{_≡_}
-use lib.Dec.{T, ltb}
-use lib.Ieee.{binary32, binary64, ofBits, isNan, fits}
+use mathlib.Core.{Bool.cond, Bool.false, List.List, List._++_, Path._≡_}
+use lib.{Dec.T, Dec.ltb, Ieee.binary32, Ieee.binary64, Ieee.ofBits, Ieee.isNan, Ieee.fits}
 use lib.ListN.{length, take, replicate}
 use mir.Syntax.{w8, w16, w32, w64}
 use mir.Val.{Fits, SFits}
-use Rattle.wire.specs.Numbers.{number, bytesOf, signed, pattern}
-use Rattle.wire.specs.Floats.{nanPattern, floatBits}
-use Rattle.value.specs.Types.{width, typeOf}
-use Rattle.value.specs.declared.Parsed.{Parsed}
+use Rattle.wire.specs.{Numbers.number, Numbers.bytesOf, Numbers.signed, Numbers.pattern, Floats.nanPattern, Floats.floatBits}
+use Rattle.value.specs.{Types.width, Types.typeOf, declared.Parsed.Parsed, declared.ParamValue.ParamValue}
+use Rattle.value.specs.{declared.ValueBytes.ValueBytes, declared.ValueType.ValueType}
 use Rattle.value.specs.declared.Parsed.the-variants.{Value, TooShort, NotANumber}
-use Rattle.value.specs.declared.ParamValue.{ParamValue}
 use Rattle.value.specs.declared.ParamValue.the-variants.{Int8, Uint8, Int16, Uint16, Int32, Uint32, Float, Int64, Uint64, Double}
-use Rattle.value.specs.declared.ValueBytes.{ValueBytes}
-use Rattle.value.specs.declared.ValueType.{ValueType}
 
 -- The number that a value's bytes spell.
 unfoldable pub spelt : ParamValue → ℕ

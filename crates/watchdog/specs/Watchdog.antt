@@ -1,4 +1,5 @@
--- The TTC watchdog: its timer, and what step 5 of a tick makes of it. Times are in ticks. Assumes nothing: these are definitions.
+-- The TTC watchdog: its timer, and what step 5 of a tick makes of it. Times are in ticks. Assumes nothing: these are
+-- definitions.
 use Prim.Native.Nat.{ℕ, _+_, _-_, _*_, _^_, min}
 use mathlib.Core.Bool.{Bool, cond, _&&_}
 use lib.Dec.{leb, ltb}

@@ -28,7 +28,8 @@ pub fn seconds_in_ticks(seconds: u16) -> u64
     seconds as u64 * 100
 }
 
-// The one timer value at which 65 hundredths of the timeout are reached. Taken as the timeout less 35 hundredths of it, since 65 times a large one would not fit.
+// The one timer value at which 65 hundredths of the timeout are reached. Taken as the timeout less 35 hundredths of it,
+// since 65 times a large one would not fit.
 fn report_at(timeout: u64) -> u64
     ensures { λ r. ⌜ ReportAt timeout r ⌝ }
 {

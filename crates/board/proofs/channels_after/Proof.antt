@@ -1,4 +1,5 @@
--- No line here knows in which order the two calls come: where they come in the other, it is the equation that is not found.
+-- No line here knows in which order the two calls come: where they come in the other, it is the equation that is not
+-- found.
 use Prim.Native.Nat.{ℕ}
 use mathlib.Core.Path.{_≡_}
 use borrow.Author.Needs.{needs}

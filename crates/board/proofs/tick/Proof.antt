@@ -1,4 +1,5 @@
--- The board that the command finds is put together part by part; there is a transfer or none; the watchdog resets the board or does not.
+-- The board that the command finds is put together part by part; there is a transfer or none; the watchdog resets the
+-- board or does not.
 use mathlib.Core.List.{[]}
 use mathlib.Core.Logic.{⊎-elim}
 use mathlib.Core.Path.{_≡_, sym, _∙_}

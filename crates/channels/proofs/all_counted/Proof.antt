@@ -1,4 +1,5 @@
--- `all_counted` meets its contract. The loop's invariant: the counts of the channels below c are counted, the others as they were. Assumes nothing.
+-- `all_counted` meets its contract. The loop's invariant: the counts of the channels below c are counted, the others as
+-- they were. Assumes nothing.
 use mathlib.Core.Path.{refl, _∙_}
 use Prim.Native.Nat.{_-_}
 use native.Mathlib.Omega.{arith}

@@ -1,4 +1,5 @@
--- `contains` meets its contract: a set of 32 channels holds none above 31, and up to there it is the test of the one bit. Assumes nothing.
+-- `contains` meets its contract: a set of 32 channels holds none above 31, and up to there it is the test of the one
+-- bit. Assumes nothing.
 use mathlib.Core.Path.{sym}
 use native.Mathlib.Omega.{arith}
 use borrow.Author.Needs.{needs}

@@ -1,4 +1,5 @@
--- `may_switch_off` meets its contract: a channel above 31 is in no set, and any other is tested for in the command-enabled one. Assumes nothing.
+-- `may_switch_off` meets its contract: a channel above 31 is in no set, and any other is tested for in the
+-- command-enabled one. Assumes nothing.
 use mathlib.Core.Path.{_∙_}
 use mathlib.Core.Logic.{⊎-elim}
 use Prim.Native.Nat.{_<_, _≤_}

@@ -1,4 +1,5 @@
--- `with_channel` meets its contract: a number above 31 is none of the 32 channels, and `1 << c` is the set of the one channel c. Assumes nothing.
+-- `with_channel` meets its contract: a number above 31 is none of the 32 channels, and `1 << c` is the set of the one
+-- channel c. Assumes nothing.
 use mathlib.Core.Bool.{or-false}
 use native.Mathlib.Omega.{arith}
 use borrow.Author.Needs.{needs}

@@ -1,4 +1,5 @@
--- `within` meets its contract: what is left over of the inner set holds each channel that is not in the outer one, and it holds none where all are. Assumes nothing.
+-- `within` meets its contract: what is left over of the inner set holds each channel that is not in the outer one, and
+-- it holds none where all are. Assumes nothing.
 use Rattle.laws.proofs.Cases.{cases}
 use Rattle.channels.specs.Sets.{has, isWithin}
 use Rattle.channels.proofs.Sets.{allBelow-ext, is-none, and-below}

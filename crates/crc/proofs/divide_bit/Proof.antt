@@ -1,4 +1,5 @@
--- The bit that leaves the remainder meets the message's bit: where they are the same nothing is taken off, else the divisor is. Assumes nothing.
+-- The bit that leaves the remainder meets the message's bit: where they are the same nothing is taken off, else the
+-- divisor is. Assumes nothing.
 use borrow.Author.Needs.{needs}
 use Prim.Native.Nat.{_*_, _/_, _%_}
 use mathlib.Core.Path.{sym}

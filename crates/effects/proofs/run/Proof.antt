@@ -2,7 +2,7 @@
 use mir.Syntax.{w16}
 use mir.ValLaws.{toZ-ofZ}
 use Rattle.answers.specs.Answers.{acceptedOf, acceptedWith, refusedOf}
-use Rattle.effects.specs.Effects.{faultsOf, parameterOf, rememberedOf, runOf}
+use Rattle.effects.specs.Effects.{faultsOf, parameterAnswered, rememberedOf, runOf}
 use borrow.Author.Needs.{needs}
 use Rattle.effects.proofs.run.Statement.{statement}
 use Rattle.effects.proofs.run.Tie as tie
@@ -180,15 +180,15 @@ unfolding runOf
 returns-13 c = rw (c .before .enum-told8 .given .1, c .housekeeping .ensures)
 
 returns-14 : tie.Need-returns-14
-unfolding runOf parameterOf acceptedOf acceptedWith refusedOf
+unfolding runOf parameterAnswered acceptedOf acceptedWith refusedOf
 returns-14 c = rw (c .before .enum-told9 .given .1, c .only-fed4 .ensures)
 
 returns-15 : tie.Need-returns-15
-unfolding runOf parameterOf acceptedOf acceptedWith refusedOf
+unfolding runOf parameterAnswered acceptedOf acceptedWith refusedOf
 returns-15 c = rw (c .before .enum-told10 .given .1, c .only-fed5 .ensures)
 
 returns-16 : tie.Need-returns-16
-unfolding runOf parameterOf acceptedOf acceptedWith refusedOf
+unfolding runOf parameterAnswered acceptedOf acceptedWith refusedOf
 returns-16 c = rw (c .before .enum-told11 .given .1, c .only-fed6 .ensures)
 
 returns-17 : tie.Need-returns-17

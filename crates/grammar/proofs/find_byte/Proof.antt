@@ -1,4 +1,5 @@
--- `find_byte` meets its contract. The invariant: the first place from here on is the first place from `at` on. Assumes nothing.
+-- `find_byte` meets its contract. The invariant: the first place from here on is the first place from `at` on. Assumes
+-- nothing.
 use borrow.Author.Needs.{needs}
 use native.Mathlib.Omega.{arith}
 use Prim.Native.Nat.{ℕ, _≤_, _-_}

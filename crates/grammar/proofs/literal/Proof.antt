@@ -1,4 +1,5 @@
--- `literal` meets its contract. The invariant: what is left of the bytes stands here just where all of them stand at `at`. Assumes nothing.
+-- `literal` meets its contract. The invariant: what is left of the bytes stands here just where all of them stand at
+-- `at`. Assumes nothing.
 use borrow.Author.Needs.{needs}
 use native.Mathlib.Omega.{arith}
 use Prim.Native.Nat.{ℕ, _≤_, _-_}

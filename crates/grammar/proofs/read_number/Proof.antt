@@ -1,5 +1,5 @@
--- `read_number` meets its contract. The invariant: what v and the digits from here on spell is what the digits from `at` on spell, and both end
--- at the same place. Assumes nothing.
+-- `read_number` meets its contract. The invariant: what v and the digits from here on spell is what the digits from
+-- `at` on spell, and both end at the same place. Assumes nothing.
 use borrow.Author.Needs.{needs}
 use native.Mathlib.Omega.{arith}
 use Prim.Native.Nat.{ℕ, _+_, _≤_, _-_, _*_}

@@ -1,4 +1,5 @@
--- `read_word` meets its contract. The invariant: the digits that are left, behind those that spelt v, spell what all eight do. Assumes nothing.
+-- `read_word` meets its contract. The invariant: the digits that are left, behind those that spelt v, spell what all
+-- eight do. Assumes nothing.
 use borrow.Author.Needs.{needs}
 use native.Mathlib.Omega.{arith}
 use Prim.Native.Nat.{ℕ, _*_, _^_, _≤_, _<_, _-_}

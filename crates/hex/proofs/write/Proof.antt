@@ -1,4 +1,5 @@
--- The stores that are left, made on what the buffer holds now, give what those left where the loop begins give. Assumes nothing.
+-- The stores that are left, made on what the buffer holds now, give what those left where the loop begins give. Assumes
+-- nothing.
 use mathlib.Core.List.{List}
 use borrow.Author.Needs.{needs}
 use native.Mathlib.Omega.{arith}

@@ -1,4 +1,5 @@
--- The stores that are left, made on what the image holds now, give what all of them give on what it held at first. Assumes nothing.
+-- The stores that are left, made on what the image holds now, give what all of them give on what it held at first.
+-- Assumes nothing.
 use borrow.Author.Needs.{needs}
 use mathlib.Core.Path.{_≡_, refl, sym, ap, _∙_}
 use Prim.Native.Nat.{_+_, _-_, _≤_}

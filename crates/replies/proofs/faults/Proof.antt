@@ -1,4 +1,5 @@
--- The channel words and the counts are one row behind the six bytes. The first count is told apart, so that another order shows two different numbers.
+-- The channel words and the counts are one row behind the six bytes. The first count is told apart, so that another
+-- order shows two different numbers.
 use native.Mathlib.Omega.{arith}
 use mathlib.Core.Path.{_≡_, refl}
 use lib.ListN.{length}

@@ -1,4 +1,5 @@
--- Five words, the channel words and the other words are one row behind the six bytes. The first five are told one by one, so that another order shows two different numbers.
+-- Five words, the channel words and the other words are one row behind the six bytes. The first five are told one by
+-- one, so that another order shows two different numbers.
 use native.Mathlib.Omega.{arith}
 use mathlib.Core.Path.{_≡_, refl}
 use lib.ListN.{length, drop, length-drop}

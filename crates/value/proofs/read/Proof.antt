@@ -9,7 +9,7 @@ use borrow.Author.Needs.{needs}
 use Rattle.wire.proofs.LittleEndian.{number-one}
 use Rattle.wire.specs.Numbers.{number, signed}
 use Rattle.value.proofs.Reading.{too-short, long-enough, with-value-number}
-use Rattle.value.specs.Types.{table, width}
+use Rattle.value.specs.Types.{typeTable, width}
 use Rattle.value.specs.Values.{valueOf}
 use Rattle.value.specs.declared.ValueType.{ValueType}
 use Rattle.value.proofs.read.Statement.{statement}

@@ -6,7 +6,7 @@ use mir.Val.{SFits}
 use mir.ValLaws.{toZ-ofZ}
 use borrow.Author.Needs.{needs}
 use Rattle.wire.specs.Numbers.{pattern}
-use Rattle.value.specs.Types.{table, width, typeOf}
+use Rattle.value.specs.Types.{typeTable, width, typeOf}
 use Rattle.value.specs.Values.{spelt}
 use Rattle.value.proofs.spelt.Statement.{statement}
 use Rattle.value.proofs.spelt.Tie as tie

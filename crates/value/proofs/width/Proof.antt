@@ -1,6 +1,6 @@
 -- Each arm answers its row of the table.
 use borrow.Author.Needs.{needs}
-use Rattle.value.specs.Types.{table, width}
+use Rattle.value.specs.Types.{typeTable, width}
 use Rattle.value.proofs.width.Statement.{statement}
 use Rattle.value.proofs.width.Tie as tie
 

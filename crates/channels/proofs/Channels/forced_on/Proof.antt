@@ -1,4 +1,5 @@
--- `forced_on` meets its contract: a channel is in the set of those on where it is in both sets, and none is in the empty set. Assumes nothing.
+-- `forced_on` meets its contract: a channel is in the set of those on where it is in both sets, and none is in the
+-- empty set. Assumes nothing.
 use borrow.Author.Needs.{needs}
 use Rattle.laws.proofs.Cases.{cases}
 use Rattle.channels.specs.Sets.{has}

@@ -1,4 +1,5 @@
--- `overcurrent` meets its contract: each channel is what the rule says, by cases on whether it is named and on; the counts are those that `all_counted` gives. Assumes nothing.
+-- `overcurrent` meets its contract: each channel is what the rule says, by cases on whether it is named and on; the
+-- counts are those that `all_counted` gives. Assumes nothing.
 use mathlib.Core.Path.{_≡_, sym, ap, _∙_}
 use mathlib.Core.Bool.{false, _&&_}
 use Prim.Native.Nat.{ℕ}

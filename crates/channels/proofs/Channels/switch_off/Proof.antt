@@ -1,4 +1,5 @@
--- `switch_off` meets its contract: it is the group command with the one channel in the mask, and with none where there is no such channel. Assumes nothing.
+-- `switch_off` meets its contract: it is the group command with the one channel in the mask, and with none where there
+-- is no such channel. Assumes nothing.
 use borrow.Author.Needs.{needs}
 use mathlib.Core.Path.{_∙_}
 use lib.Dec.{eqb}

@@ -1,4 +1,5 @@
--- `to_nominal` meets its contract: in each mode the definition computes to what is answered there; in safety the rail decides. Assumes nothing.
+-- `to_nominal` meets its contract: in each mode the definition computes to what is answered there; in safety the rail
+-- decides. Assumes nothing.
 use mathlib.Core.Path.{_≡_, sym, _∙_}
 use mir.Syntax.{w16, w32}
 use Rattle.laws.proofs.Signed.{Same, same, read, yes-le, no-le, order}

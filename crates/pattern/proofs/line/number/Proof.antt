@@ -4,13 +4,13 @@ use native.Mathlib.Omega.{arith}
 use Prim.Native.Nat.{_-_, _≤_}
 use mathlib.Core.Path.{_≡_, refl, sym, _∙_}
 use lib.ListN.{length, drop}
-use Rattle.pattern.specs.Line.{numberOf}
+use Rattle.pattern.specs.Line.{countIn}
 use Rattle.pattern.proofs.Steps.{number-low, number-high, number-turn, number-end}
 use Rattle.pattern.proofs.line.number.Statement.{statement}
 use Rattle.pattern.proofs.line.number.Tie as tie
 
 abbrev Inv-loop : tie.InvT-loop
-Inv-loop digits n₀ i₀ n i = (i ≤ length digits) × (numberOf n (drop i digits) ≡ numberOf 0 digits)
+Inv-loop digits n₀ i₀ n i = (i ≤ length digits) × (countIn n (drop i digits) ≡ countIn 0 digits)
 
 abbrev μ-loop : tie.MeasureT-loop
 μ-loop digits n₀ i₀ n i = length digits - i

@@ -1,4 +1,5 @@
--- What is left of the text, put behind what stands on the page now, gives what all of it gives on the page at first. Assumes nothing.
+-- What is left of the text, put behind what stands on the page now, gives what all of it gives on the page at first.
+-- Assumes nothing.
 use borrow.Author.Needs.{needs}
 use native.Mathlib.Omega.{arith}
 use Prim.Native.Nat.{_≤_, _-_, _+_}

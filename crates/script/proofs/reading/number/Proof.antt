@@ -7,14 +7,14 @@ use lib.ListN.{drop, getD}
 use Rattle.hex.specs.Hex.{digitOf}
 use Rattle.hex.specs.Passes.{worth}
 use Rattle.hex.specs.declared.Hex.{Hex}
-use Rattle.script.specs.Reading.{numberOf, whereOne}
+use Rattle.script.specs.Reading.{fieldOf, whereOne}
 use Rattle.script.specs.declared.reading.Field.{Field}
 use Rattle.script.proofs.Turns.{number-bad, number-good, number-end}
 use Rattle.script.proofs.reading.number.Statement.{statement}
 use Rattle.script.proofs.reading.number.Tie as tie
 
 abbrev Inv-loop : tie.InvT-loop
-Inv-loop line at digits text n₀ left₀ i₀ n left i = (i + left ≡ digits) × (numberOf n left (drop i text) ≡ numberOf 0 digits text)
+Inv-loop line at digits text n₀ left₀ i₀ n left i = (i + left ≡ digits) × (fieldOf n left (drop i text) ≡ fieldOf 0 digits text)
 
 abbrev μ-loop : tie.MeasureT-loop
 μ-loop line at digits text n₀ left₀ i₀ n left i = left
@@ -41,7 +41,7 @@ returns : tie.Need-returns Inv-loop μ-loop
 returns c =
     let l = c .before .before .before .before .before .loop in
     let w = ap digitOf (sym (c .before .before .before .byte .ensures)) ∙ sym (c .before .before .digit .ensures .0) ∙ c .enum-told .given .1 in
-    sym (number-bad (l .n) (l .left) (c .before .before .before .before .before .before .rest .result .now) (l .i) (omega arith) w) ∙ l .inv .1 ∙ ap (numberOf 0 (c .before .before .before .before .before .before .before .before .args .digits)) (c .before .before .before .before .before .before .rest .ensures)
+    sym (number-bad (l .n) (l .left) (c .before .before .before .before .before .before .rest .result .now) (l .i) (omega arith) w) ∙ l .inv .1 ∙ ap (fieldOf 0 (c .before .before .before .before .before .before .before .before .args .digits)) (c .before .before .before .before .before .before .rest .ensures)
 
 mul-n : tie.Need-mul-n Inv-loop μ-loop
 mul-n c = omega arith
@@ -70,7 +70,7 @@ loop-again c =
 returns-2 : tie.Need-returns-2 Inv-loop μ-loop
 returns-2 c =
     let l = c .before .loop in
-    sym (number-end (l .n) (l .left) (drop (l .i) (c .before .before .rest .result .now)) (omega arith)) ∙ l .inv .1 ∙ ap (numberOf 0 (c .before .before .before .before .args .digits)) (c .before .before .rest .ensures)
+    sym (number-end (l .n) (l .left) (drop (l .i) (c .before .before .rest .result .now)) (omega arith)) ∙ l .inv .1 ∙ ap (fieldOf 0 (c .before .before .before .before .args .digits)) (c .before .before .rest .ensures)
 
 pub number-spec : {M : Type 1} → statement M
 number-spec =

@@ -1,4 +1,5 @@
--- `read_channels` meets its contract. The invariant: the channels that are left, behind those of the set, are read as all of them from the start. Assumes nothing.
+-- `read_channels` meets its contract. The invariant: the channels that are left, behind those of the set, are read as
+-- all of them from the start. Assumes nothing.
 use borrow.Author.Needs.{needs}
 use native.Mathlib.Omega.{arith}
 use Prim.Native.Nat.{ℕ, _-_}

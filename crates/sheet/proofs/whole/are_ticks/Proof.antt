@@ -1,4 +1,5 @@
--- `are_ticks` meets its contract. The invariant: the lines that are left stand from here on just where all of them stand from the first on. Assumes nothing.
+-- `are_ticks` meets its contract. The invariant: the lines that are left stand from here on just where all of them
+-- stand from the first on. Assumes nothing.
 use borrow.Author.Needs.{needs}
 use native.Mathlib.Omega.{arith}
 use Prim.Native.Nat.{ℕ, _-_}

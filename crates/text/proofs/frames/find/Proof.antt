@@ -1,7 +1,7 @@
 use native.Mathlib.Nat.{add-zero, add-assoc}
 use mathlib.Core.List.{List}
--- `find` meets its contract. The outer invariant: the first place from here is the first place from the start. The inner one: what is
--- left of the tag stands here just where the tag stands at the outer place. Assumes nothing.
+-- `find` meets its contract. The outer invariant: the first place from here is the first place from the start. The
+-- inner one: what is left of the tag stands here just where the tag stands at the outer place. Assumes nothing.
 use borrow.Author.Needs.{needs}
 use native.Mathlib.Omega.{arith}
 use Prim.Native.Nat.{ℕ, _+_, _≤_, _-_}

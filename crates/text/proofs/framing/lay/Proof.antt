@@ -1,4 +1,5 @@
--- The stores that are left, made on what the buffer holds now, give what all of them give on what it held at first. Assumes nothing.
+-- The stores that are left, made on what the buffer holds now, give what all of them give on what it held at first.
+-- Assumes nothing.
 use borrow.Author.Needs.{needs}
 use native.Mathlib.Omega.{arith}
 use native.Mathlib.Nat.{add-zero}
