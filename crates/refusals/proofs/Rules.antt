@@ -85,8 +85,8 @@ pub rules-kept : (p : Profile) (store : Store) → KeepsAllRules p store → kee
 unfolding keepsTheRules
 rules-kept p store k =
     rw (
-      le-leb 1 (p .bid) (k .bid-from-1),
-      le-leb (p .bid) 8 (k .bid-to-8),
+      le-leb 1 (p .bid) (omega arith),
+      le-leb (p .bid) 8 (omega arith),
       not-empty (p .fitted) (k .one-fitted .0) (k .one-fitted .1),
       each-within (p .forced) (p .fitted) (k .forced-fitted),
     )
@@ -107,8 +107,8 @@ kept-rules p store e =
     let g = both bid fitted (f .0) in
     let h = both (leb 1 (p .bid)) (leb (p .bid) 8) (g .0) in
     record {
-      bid-from-1 = leb-true 1 (p .bid) (h .0);
-      bid-to-8 = leb-true (p .bid) 8 (h .1);
+      bid-from-1 = omega (arith, leb-true 1 (p .bid) (h .0));
+      bid-to-8 = omega (arith, leb-true (p .bid) 8 (h .1));
       one-fitted = some-channel (p .fitted) (g .1);
       forced-fitted = within-each (p .forced) (p .fitted) (f .1);
       stored-in-range = λ held. each-row store (rw held at (d .1));
@@ -119,7 +119,7 @@ pub form-read : (s : List ℕ) (f : OfTheForm s) → sheetIn s ≡ reads (record
 unfolding sheetIn sheet end
 form-read s f =
     rw (
-      le-leb (length s) 65536 (f .short),
+      le-leb (length s) 65536 (omega arith),
       f .top-stands,
       f .ticks-stand,
       f .nothing-behind,
@@ -146,7 +146,7 @@ read-form s w i e =
     let l = went (times (b .what .count) (tickLine 256) s (b .place)) _ w i (b .onward) in
     let n = went (end s (l .place)) _ w i (l .onward) in
     record {
-      short = h;
+      short = omega arith;
       top = b .what;
       behind-top = b .place;
       top-stands = b .first;
