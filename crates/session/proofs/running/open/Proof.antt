@@ -27,8 +27,9 @@ none-requires c κs = search needs
 returns : tie.Need-returns
 unfolding openedOf
 returns c =
-    let not-read = refused (c .before .before .before .before .before .before .args .s .now) (sym (c .before .enum-told .given .1) ∙ c .before .before .before .read .ensures .0) in
-    with-number _ _ _ _ (rw (not-read, c .none .ensures))
+    let a = c .before .before .before .before .before .before .args in
+    let not-read = refused (a .s .now) (sym (c .before .enum-told .given .1) ∙ c .before .before .before .read .ensures .0) in
+    with-number _ (a .out .now) _ (a .s .now) (rw (not-read, c .none .ensures))
 
 started-requires : tie.Need-started-requires
 started-requires c κs = search needs
@@ -39,8 +40,9 @@ same-length c = search needs
 returns-2 : tie.Need-returns-2
 unfolding openedOf
 returns-2 c =
-    let a = accepted (c .before .before .before .before .before .before .before .before .before .before .args .s .now) _ _ _ _ _ (sym (c .before .before .before .before .before .bid .given .1) ∙ c .before .before .before .before .before .before .before .read .ensures .0) in
-    with-number _ _ _ _ (rw (a .read, a .its-bid, a .its-fitted, a .its-forced, a .its-count, a .its-first) (c .before .before .started .ensures))
+    let called = c .before .before .before .before .before .before .before .before .before .before .args in
+    let a = accepted (called .s .now) _ _ _ _ _ (sym (c .before .before .before .before .before .bid .given .1) ∙ c .before .before .before .before .before .before .before .read .ensures .0) in
+    with-number _ (called .out .now) _ (called .s .now) (rw (a .read, a .its-bid, a .its-fitted, a .its-forced, a .its-count, a .its-first) (c .before .before .started .ensures))
 
 pub open-spec : {M : Type 1} → statement M
 open-spec =
