@@ -4,7 +4,7 @@ use mathlib.Core.List.{List, [], _∷_, map}
 use Rattle.wire.specs.Replies as replies
 use Rattle.wire.specs.Numbers.{bytesOf, number}
 use Rattle.settings.specs.Table as tables
-use Rattle.settings.specs.Values.{withNumber, setOf as settingOf, settingOf, defaultsOf, defaultN}
+use Rattle.settings.specs.Values.{withNumber, setOf as setSetting, settingOf, defaultsOf, defaultN}
 use Rattle.modes.specs.Table.{stepOf, olderOf}
 use Rattle.channels.specs.Sets.{has, setOf}
 use Rattle.channels.specs.Chan.{whole}
@@ -35,7 +35,7 @@ in-one [] none = refl
 in-one (r ∷ rs) (p and ps) = rw (p, in-one rs ps)
 
 each-row : Each rows
-unfolding set rows tickWith risenOf olderOf dog.risenOf changedOf stepOf enteringOf isDark fromNominalToSafety timerAfter whole has setOf trippedOf overcurrentAt commandedOf transferredOf isStartup fewerThanFour decodedOf decodeOf decodeBy headerIs isIn baseCodes commandTable.commandTable commandTable.find listed carried groupIn number bytesOf turnedDown runOf groupOffOf groupStateOf switchedOf isNominal groupOff groupState acceptedOf acceptedWith refusedOf shortReply replies.shown replies.written replies.replyOf replies.room replies.laidOut replies.replyCode watchedIn dog.watchedOf timeoutOf settingOf tables.parameterOf tables.rowOf tables.find tables.readWriteRows tables.lies setIn settingOf withNumber tables.same tables.clampOf tables.atLeast tables.atMost tables.lowOf tables.highOf defaultsOf defaultN tables.column tables.defaultOf freshOf watchdogResetOf loadedFrom emptyStore
+unfolding set rows tickWith risenOf olderOf dog.risenOf changedOf stepOf enteringOf isDark fromNominalToSafety timerAfter whole has setOf trippedOf overcurrentAt commandedOf transferredOf isStartup fewerThanFour decodedOf decodeOf decodeBy headerIs isIn baseCodes commandTable.commandTable commandTable.find listed carried groupIn number bytesOf turnedDown runOf groupOffOf groupStateOf switchedOf isNominal groupOff groupState acceptedOf acceptedWith refusedOf shortReply replies.shown replies.written replies.replyOf replies.room replies.laidOut replies.replyCode watchedIn dog.watchedOf timeoutOf settingOf tables.parameterOf tables.rowOf tables.find tables.readWriteRows tables.lies setIn setSetting withNumber tables.same tables.clampOf tables.atLeast tables.atMost tables.lowOf tables.highOf defaultsOf defaultN tables.column tables.defaultOf freshOf watchdogResetOf loadedFrom emptyStore
 each-row =
     refl  -- 1
     and refl  -- 2

@@ -10,7 +10,7 @@ use native.Mathlib.Omega.{arith}
 use Rattle.wire.specs.Numbers.{bytesOf, number}
 use Rattle.wire.specs.Replies.{shown, written, replyOf, room, laidOut, replyCode}
 use Rattle.settings.specs.Table.{lies, rowOf, find, readWriteRows, readOnlyRows, parameterOf, column, defaultOf, clampOf, atLeast, atMost, lowOf, highOf}
-use Rattle.settings.specs.Values.{answerNumber as settingOf, defaultsOf, defaultN}
+use Rattle.settings.specs.Values.{settingOf, defaultsOf, defaultN}
 use Rattle.modes.specs.Table.{entered, stepOf, olderOf}
 use Rattle.modes.specs.Commands.{toNominal}
 use Rattle.modes.specs.declared.Mode.the-variants.{Nominal}
