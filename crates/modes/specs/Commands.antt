@@ -39,11 +39,11 @@ abbrev pub modeNumber : ModeAnswer → ℕ
 modeNumber (Accepted s) = 0
 modeNumber Unavailable = 6
 
--- 6 is told by 0x32 in emergency
+-- 6 is told by 0x32 in emergency; in startup, where no command comes so far, it stands for the same
 abbrev pub safetyUnavailable : Mode → Bool
 safetyUnavailable m = same Startup m || same Emergency m
 
--- and by 0x30 in emergency, and in safety unless the rail is at least safety low
+-- and by 0x30 in emergency, and in safety unless the rail is at least safety low; in startup likewise
 abbrev pub nominalUnavailable : Mode → ℤ → Limits → Bool
 nominalUnavailable m rail limits = same Startup m || same Emergency m || (same Safety m && not (rail at-least limits .«safety_low»))
 

@@ -12,7 +12,7 @@ use Rattle.settings.specs.declared.Got.{Got}
 use Rattle.settings.specs.declared.Settings.{Settings}
 use Rattle.settings.specs.Table.{Row, _to_are_with_default_, _to_are-read_, readWriteRows, readOnlyRows, lies, Entry, readWrite, readOnly, missing, find, rowOf, parameterIn, parameterOf}
 use Rattle.settings.specs.Values.{settingOf, gotAs, getOf}
-use Rattle.settings.specs.Answers.{setNumber, getNumber, has, settableNumber, knownNumber}
+use Rattle.settings.specs.Answers.{setNumber, getNumber, listsId, settableNumber, knownNumber}
 use Rattle.settings.proofs.Places.{none}
 
 -- ---- the rows of a table are all read/write, or all only read
@@ -34,8 +34,8 @@ module _ (id : ℕ) where
   unset-in (a to b are t with r default d ∷ rows) e = absurd (false≢true e)
   unset-in (a to b are-read t ∷ rows) e = cases (lies a b id) (λ t. rw t) (λ f. rw f (unset-in rows e))
 
-  set-in : (rows more : List Row) → areReadWrite rows ≡ true → setNumber (parameterIn (find more id)) ≡ 7 → setNumber (parameterIn (find (rows ++ more) id)) ≡ cond (has rows id) 0 7
-  unfolding find has areReadWrite
+  set-in : (rows more : List Row) → areReadWrite rows ≡ true → setNumber (parameterIn (find more id)) ≡ 7 → setNumber (parameterIn (find (rows ++ more) id)) ≡ cond (listsId rows id) 0 7
+  unfolding find listsId areReadWrite
   set-in [] more e n = n
   set-in (a to b are t with r default d ∷ rows) more e n = cases (lies a b id) (λ t. rw t) (λ f. rw f (set-in rows more e n))
   set-in (a to b are-read t ∷ rows) more e n = absurd (false≢true e)
@@ -51,14 +51,14 @@ unknownNumber (Parameter.ReadOnly t) = 0
 unknownNumber Parameter.Unknown = 7
 
 module _ (id : ℕ) where
-  unknown-in : (rows : List Row) → unknownNumber (parameterIn (find rows id)) ≡ cond (has rows id) 0 7
-  unfolding find has
+  unknown-in : (rows : List Row) → unknownNumber (parameterIn (find rows id)) ≡ cond (listsId rows id) 0 7
+  unfolding find listsId
   unknown-in [] = refl
   unknown-in (a to b are t with r default d ∷ rows) = cases (lies a b id) (λ t. rw t) (λ f. rw f (unknown-in rows))
   unknown-in (a to b are-read t ∷ rows) = cases (lies a b id) (λ t. rw t) (λ f. rw f (unknown-in rows))
 
-  has-either : (rows more : List Row) → has (rows ++ more) id ≡ (has rows id || has more id)
-  unfolding has
+  has-either : (rows more : List Row) → listsId (rows ++ more) id ≡ (listsId rows id || listsId more id)
+  unfolding listsId
   has-either [] more = refl
   has-either (a to b are t with r default d ∷ rows) more = cases (lies a b id) (λ t. rw t) (λ f. rw f (has-either rows more))
   has-either (a to b are-read t ∷ rows) more = cases (lies a b id) (λ t. rw t) (λ f. rw f (has-either rows more))

@@ -19,15 +19,15 @@ getNumber Got.Unknown = 7
 -- ---- when each number is given
 
 -- one of a table's rows has the id
-unfoldable pub has : List Row → ℕ → Bool
-has [] id = false
-has (a to b are t with r default d ∷ rows) id = lies a b id || has rows id
-has (a to b are-read t ∷ rows) id = lies a b id || has rows id
+unfoldable pub listsId : List Row → ℕ → Bool
+listsId [] id = false
+listsId (a to b are t with r default d ∷ rows) id = lies a b id || listsId rows id
+listsId (a to b are-read t ∷ rows) id = lies a b id || listsId rows id
 
 -- 7 where Table 3-25, of the read/write parameters, does not have the id
 unfoldable pub settableNumber : ℕ → ℕ
-settableNumber id = cond (has readWriteRows id) 0 7
+settableNumber id = cond (listsId readWriteRows id) 0 7
 
 -- 7 where neither that table nor Table 3-26, of those that are only read, has the id
 unfoldable pub knownNumber : ℕ → ℕ
-knownNumber id = cond (has readWriteRows id || has readOnlyRows id) 0 7
+knownNumber id = cond (listsId readWriteRows id || listsId readOnlyRows id) 0 7
