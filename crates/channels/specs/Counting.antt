@@ -1,5 +1,5 @@
--- The counts alone, for the two private functions that `overcurrent` is made of: no caller of this crate cites anything
--- here. Assumes nothing.
+-- The counts alone, for the two private functions that `overcurrent` is made of: no contract outside this crate cites
+-- anything here. Assumes nothing.
 use mathlib.Core.{Bool.Bool, List.List}
 use Prim.Native.Nat.{ℕ, _+_, min}
 use lib.ListN.{getD}

@@ -1,5 +1,5 @@
 -- What the two passes over a payload answer: the first tells whether it is of the form and how many bytes it spells,
--- the second stores what its pairs are worth. Callers cite `Hex` alone. Assumes nothing: these are definitions.
+-- the second stores what its pairs are worth. Assumes nothing: these are definitions.
 use Prim.Native.Nat.{ℕ, _+_}
 use mathlib.Core.{Option.Option, Option.none, Option.some, List.List, List.[], List._∷_}
 use lib.ListN.{length}

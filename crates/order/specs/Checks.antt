@@ -1,7 +1,7 @@
 -- Document 01's command table as one list of checks in its order: the first that applies answers, and where none does
 -- the number is 0. `7 when b` is a check with the number 7 that applies where b holds. The checks read the transfer's
--- bytes, mode and profile, rail and settings, and nothing that a decoder makes of the bytes. Assumes nothing: these are
--- definitions.
+-- bytes, mode and profile, rail and settings, and not the decoded command; how long a command is, where its key stands
+-- and how a value is read they have from the tables that the decoder goes by. Assumes nothing: these are definitions.
 use Prim.Native.Nat.{ℕ}
 use mathlib.Core.{Bool.Bool, Bool.false, Bool.cond, Bool.not, Bool._&&_, Bool._||_, List.List, List.[], List._∷_}
 use lib.{Dec.eqb, IntN.ℤ}

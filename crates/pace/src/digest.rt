@@ -49,7 +49,8 @@ fn answer_number(answer: Answer) -> u8
     }
 }
 
-// What a tick tells of its transfer as a number: the answer and 1, or 0 where there was no transfer.
+// What a tick tells of its transfer as a number: the answer and 1, 0 where there was no transfer, and 99 where the tick
+// did not happen.
 fn outcome_number(outcome: Outcome) -> u16
     ensures { λ r. ⌜ r ≡ outcomeNumber outcome ⌝ }
 {

@@ -1,7 +1,7 @@
 -- Neither number of the claim can be bettered, for every period of 64 bits and every linger below their top: if no run
 -- from a start is off for longer than n ticks, n is at least 50 and at least the emergency period; and if every run
--- from a start stays on for n ticks each time, n is at most linger + 1. And where the period is too long for its 64
--- bits, the claim is false. Assumes nothing: this is the claim.
+-- from a start stays on for n ticks each time, n is at most linger + 1. And without the premise
+-- that the period fits its 64 bits, the claim is false. Assumes nothing: this is the claim.
 use mathlib.Core.List.{List}
 use Prim.Native.Nat.{ℕ, _^_, _-_, _≤_, _<_}
 use Rattle.power.specs.Runs.{channel, OffAtMost, OnAtLeast}

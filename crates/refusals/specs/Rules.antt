@@ -1,5 +1,6 @@
--- The rules of a profile and the form of a session sheet, written out as document 01 gives them: refusals 8 and 14 are
--- told by these. `(c : ℕ) × B` is some number c of which B holds. Assumes nothing: these are definitions.
+-- The rules of a profile, written out as document 01 gives them, and what a session sheet is made of, in the parts of
+-- the grammar of `sheet`: refusals 8 and 14 are told by these. `(c : ℕ) × B` is some number c of which B holds.
+-- Assumes nothing: these are definitions.
 use Prim.Native.Nat.{ℕ, _≤_, _<_}
 use mathlib.Core.{Path._≡_, Bool.true, List.List}
 use lib.{ListN.length, Signed._≤ℤ_}
