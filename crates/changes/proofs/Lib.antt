@@ -1,6 +1,7 @@
 pub mod Ranges
 pub mod Step
 pub mod Ticks
+pub mod StepsOfChannels
 pub mod ChannelsAfter
 pub mod SettingsChange
 pub mod ModeChange

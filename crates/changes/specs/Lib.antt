@@ -1,4 +1,5 @@
 pub mod Accepted
+pub mod StepsOfChannels
 pub mod ChannelsAfter
 pub mod SettingsChange
 pub mod ModeChange

@@ -8,6 +8,7 @@ use Rattle.groups.proofs.Altered.{altered}
 use Rattle.groups.proofs.Resets.{reset-is-told}
 use Rattle.groups.proofs.Unfitted.{unfitted}
 use Rattle.groups.proofs.Counts.{counts}
+use Rattle.changes.proofs.StepsOfChannels.{steps-of-channels}
 use Rattle.changes.proofs.ChannelsAfter.{channels-after}
 use Rattle.changes.proofs.SettingsChange.{settings-change}
 use Rattle.changes.proofs.ModeChange.{mode-change}
@@ -37,6 +38,7 @@ claims =
       reset-is-told = reset-is-told;
       unfitted = unfitted;
       counts = counts;
+      steps-of-channels = steps-of-channels;
       channels-after = channels-after;
       settings-change = settings-change;
       mode-change = mode-change;

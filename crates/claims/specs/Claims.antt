@@ -10,8 +10,8 @@ use Rattle.state.specs.{declared.parts.Board.Board, declared.parts.Profile.Prof
 use Rattle.unit.specs.{declared.Machine.Machine, Runs.Sample, Runs.Reached}
 use Rattle.refusals.specs.{Conditions.ExactlyWhen, Refused.RefusedCommand, RefusedTicks.RefusedTick, Untouched.OtherRefusals}
 use Rattle.groups.specs.{Groups.Groups, Altered.Altered, Resets.ResetIsTold, Unfitted.Unfitted, Counts.Counts}
-use Rattle.changes.specs.{ChannelsAfter.ChannelsAfter, SettingsChange.SettingsChange, ModeChange.ModeChange, CountsShown.CountsShown}
-use Rattle.changes.specs.SoundMachine.{SoundMachine}
+use Rattle.changes.specs.{StepsOfChannels.StepsOfChannels, ChannelsAfter.ChannelsAfter, SettingsChange.SettingsChange}
+use Rattle.changes.specs.{ModeChange.ModeChange, CountsShown.CountsShown, SoundMachine.SoundMachine}
 use Rattle.power.specs.{Claim.Claim, Tight.Tight}
 use Rattle.claims.specs.{Boundary.BoundaryTable, Dark.Dark, Power.Power, PowerOfOne.PowerOfOne, PowerNeeded.PowerNeeded}
 use Rattle.claims.specs.{PowerReal.PowerReal, Standing.Standing, Wrong.AllCaught, Wrong.AllBreak}
@@ -30,6 +30,7 @@ pub record Claims : Type 0 where
   pub reset-is-told : (m : Machine) (i : Sample) → ResetIsTold m i
   pub unfitted : (m : Machine) (r : Reached m) → Unfitted m r
   pub counts : (there : Machine) (profile : Profile) (store : Store) → Counts there profile store
+  pub steps-of-channels : (m : Machine) (i : Sample) → StepsOfChannels m i
   pub channels-after : (m : Machine) (i : Sample) → ChannelsAfter m i
   pub settings-change : (m : Machine) (i : Sample) → SettingsChange m i
   pub mode-change : (m : Machine) (i : Sample) → ModeChange m i
