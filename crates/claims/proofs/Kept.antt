@@ -1,11 +1,11 @@
 -- Document 01's machine keeps each claim that a wrong program breaks, at every tick. Assumes nothing.
 use Prim.Native.Nat.{ℕ, suc, _%_, _<_}
 use mathlib.Core.Path.{_≡_, refl, sym, ap, subst, _∙_}
-use mathlib.Core.Bool.{Bool, true, false, cond, not, false≢true}
+use mathlib.Core.Bool.{Bool, true, false, cond, not, _&&_, _||_, false≢true}
 use mathlib.Core.List.{List, [], _∷_, _++_, map}
 use mathlib.Core.Option.{Option, some}
 use native.Mathlib.Omega.{arith}
-use lib.Dec.{ltb}
+use lib.Dec.{eqb, ltb}
 use lib.IntN.{ℤ}
 use lib.ListN.{length, getD}
 use Rattle.laws.proofs.Cases.{cases}
@@ -52,9 +52,12 @@ use Rattle.unit.specs.Runs.{Sample, told, afterStep3, Call, tick, afterCall, af
 use Rattle.refusals.specs.Conditions.{obeyed, metIn, tickAnswer}
 use Rattle.refusals.proofs.Answered.{happening, watched, given, told-is, answer-is, happens, sends, told-so}
 use Rattle.refusals.proofs.RefusedTicks.{refused-tick}
+use Rattle.groups.specs.Resets.{isAccepted, tellsWatchdogReset, tellsCommandReset, tellsReset}
 use Rattle.groups.proofs.Groups.{groups}
 use Rattle.groups.proofs.Counts.{counts}
-use Rattle.claims.specs.Wrong.{Program, document01, stateAfter, lastTold, OfATick, shownAfter, AtEachTick, TellsWhatIsGiven, RepliesWithItsCode, ComesIntoNominal, SwitchesTheNamed, CountsStep3}
+use Rattle.changes.specs.ModeChange.{modeCommands}
+use Rattle.changes.proofs.ModeChange.{mode-change}
+use Rattle.claims.specs.Wrong.{Program, document01, stateAfter, lastTold, OfATick, shownAfter, AtEachTick, TellsWhatIsGiven, RepliesWithItsCode, MovesByTheTable, ComesIntoNominal, SwitchesTheNamed, CountsStep3}
 
 -- ---- a sentence that holds of every tick of the machine
 same-machine : (m : Machine) (before : List Sample) → stateAfter document01 m before ≡ shownAfter document01 m m before
@@ -198,7 +201,23 @@ module _ (m : Machine) (i : Sample) (accepted-0 : tickAnswer m i ≡ some 0) whe
       ap (λ (t : Told). t .machine .board) (told-is m i h) ∙ quiet-board (m .due) (given m i) quiet
       ∙ ap (λ (b : Bool). commandedOf (i .rail) (limitsOf (m .board .memory)) b (i .transfer) (afterStep3 m i) .board) (sends m i 0 h accepted-0)
 
--- ---- 3. 0x30
+-- ---- 3. the table
+-- what accepts neither of two accepts not the one and not the other
+accepts-neither : (a x y : Bool) → (a && (x || y)) ≡ false → ((a && x) ≡ false) × ((a && y) ≡ false)
+accepts-neither false x y e = (refl, refl)
+accepts-neither true true y e = absurd (false≢true (sym e))
+accepts-neither true false y e = (refl, e)
+
+-- so a tick that tells of none of the three leaves mode and age to the table
+pub moves-by-the-table : AtEachTick MovesByTheTable document01
+unfolding tellsReset tellsWatchdogReset tellsCommandReset isIn
+moves-by-the-table =
+    at-each MovesByTheTable
+    (λ m i h w n.
+    let a = accepts-neither (isAccepted (tickAnswer m i)) (eqb (codeOf (i .transfer)) 0xAA) (isIn (codeOf (i .transfer)) modeCommands) n in
+    mode-change m i .by-table (record { happening = h; no-reset = rw (w, a .0); no-command = a .1 }))
+
+-- ---- and 0x30
 module _ (rail : ℤ) (limits : Limits) (s : List ℕ) (b : Board) where
   abbrev Nominal-if-0 : Commanded → Type 0
   Nominal-if-0 c = toldNumber (c .outcome) ≡ some 0 → modeOf (c .board) ≡ Nominal

@@ -1,8 +1,9 @@
 -- Why each wrong program is caught: its run and the machine's are worked out, from a board that has just come into
--- nominal. And why each breaks its claim: on that run it does not keep it. Assumes nothing.
+-- nominal. And why each breaks its claim: on that run it does not keep it, and the third not at a good rail either, on
+-- a board that was in safety for long. Assumes nothing.
 use Prim.Native.Nat.{ℕ}
 use mathlib.Core.Path.{_≡_, refl, sym, ap, _∙_}
-use mathlib.Core.Bool.{true, false≢true}
+use mathlib.Core.Bool.{true, false, false≢true}
 use mathlib.Core.List.{List, [], _∷_}
 use mathlib.Core.Option.{some}
 use lib.ListN.{getD, replicate}
@@ -11,9 +12,10 @@ use Rattle.wire.specs.Numbers.{bytesOf, number}
 use Rattle.wire.specs.Replies.{shown, written, replyOf, room, laidOut, replyCode}
 use Rattle.settings.specs.Table.{lies, rowOf, find, readWriteRows, readOnlyRows, parameterOf, column, defaultOf, clampOf, atLeast, atMost, lowOf, highOf}
 use Rattle.settings.specs.Values.{settingOf, defaultsOf, defaultN}
-use Rattle.modes.specs.Table.{entered, stepOf, olderOf}
+use Rattle.modes.specs.Table.{_aged_, entered, stepOf, olderOf}
 use Rattle.modes.specs.Commands.{toNominal}
-use Rattle.modes.specs.declared.Mode.the-variants.{Nominal}
+use Rattle.modes.specs.declared.Mode.the-variants.{Nominal, Safety}
+use Rattle.modes.specs.declared.ModeAge.{ModeAge}
 use Rattle.channels.specs.Sets.{has, setOf, listOf, isWithin, allBelow}
 use Rattle.channels.specs.Chan.{Chan, whole}
 use Rattle.channels.specs.Operations.{cleared, forcedOn, allOff, overcurrentAt, commandEnabledOff, groupOn}
@@ -38,12 +40,13 @@ use Rattle.text.specs.declared.framing.Due.the-variants.{Nothing}
 use Rattle.unit.specs.Machine.{noMachine, begunOf, toldOf}
 use Rattle.unit.specs.declared.Machine.{Machine}
 use Rattle.unit.specs.declared.Told.{Told}
-use Rattle.unit.specs.Runs.{Sample, told, tick, after, Reached}
+use Rattle.unit.specs.Runs.{Sample, told, happens, tick, after, Reached}
 use Rattle.refusals.proofs.Conditions.{same-number}
 use Rattle.refusals.proofs.Answered.{exactly-when}
+use Rattle.groups.specs.Resets.{isByWatchdog}
 use Rattle.claims.specs.Wrong as wrong
 use Rattle.claims.specs.Wrong.{awake, Program, document01, stateAfter, lastTold, Caught, tickedWith, toldWith, refusing, refusesAll, replyingNoop, stayingInSafety, unchanged, countingAllNamed, profile, quiet, sending, noop, answer, AllCaught, shownAfter, AllBreak}
-use Rattle.claims.proofs.Kept.{tells-given, own-code, replies-with-its-code, comes-into-nominal, switches-the-named, counts-step-3}
+use Rattle.claims.proofs.Kept.{tells-given, own-code, replies-with-its-code, moves-by-the-table, comes-into-nominal, switches-the-named, counts-step-3}
 
 -- the tick with document 01's own steps 3 and 4 in it is document 01's
 pub same-tick : (m : Machine) (i : Sample) → toldWith trippedOf commandedOf m i ≡ told m i
@@ -101,8 +104,21 @@ all-caught =
 awake-too : {A : Type 0} (sees : Machine → A) (value : A) → sees woken ≡ value → sees awake ≡ value
 awake-too sees value e = ap sees awake-is ∙ e
 
+-- the board in safety for as long as it has to be: a good rail then leads out of it
+abbrev lingering : Machine
+lingering = record { board = withPhase (Safety aged 6000) (woken .board); due = Nothing }
+
+-- what the third program tells of a quiet tick there
+abbrev stayed : Told
+stayed = lastTold wrong.staysInSafety lingering [] (quiet 15000)
+
 record Told-besides : Type 0 where
   noop-replied : lastTold wrong.answersNoop awake [] (sending 15000 wrong.groupOn) .replied ≡ true
+  lingering-happens : happens (quiet 15000) ≡ true
+  lingering-no-reset : isByWatchdog (stayed .event) ≡ false
+  lingering-no-command : wrong.tellsAcceptanceOf (0xAA ∷ 0x30 ∷ 0x32 ∷ []) (quiet 15000) stayed ≡ false
+  lingering-stays : wrong.mode stayed ≡ Safety
+  table-leaves : stepOf (olderOf (lingering .board .phase)) (quiet 15000 .rail) (limitsOf (lingering .board .memory)) .mode ≡ Nominal
   nominal-accepted : answer (lastTold wrong.staysInSafety awake (quiet 0 ∷ []) (sending 15000 wrong.toNominal)) ≡ some 0
   group-accepted : answer (lastTold wrong.changesNothing awake [] (sending 15000 wrong.groupOn)) ≡ some 0
   second-replied : lastTold wrong.repeatsTheFirst awake (sending 15000 noop ∷ []) (sending 15000 wrong.groupOn) .replied ≡ true
@@ -114,6 +130,11 @@ unfolding stateAfter tickedWith refusing replyingNoop stayingInSafety unchanged 
 told-besides =
     record {
       noop-replied = awake-too (λ m. lastTold wrong.answersNoop m [] (sending 15000 wrong.groupOn) .replied) true refl;
+      lingering-happens = refl;
+      lingering-no-reset = refl;
+      lingering-no-command = refl;
+      lingering-stays = refl;
+      table-leaves = refl;
       nominal-accepted = awake-too (λ m. answer (lastTold wrong.staysInSafety m (quiet 0 ∷ []) (sending 15000 wrong.toNominal))) (some 0) refl;
       group-accepted = awake-too (λ m. answer (lastTold wrong.changesNothing m [] (sending 15000 wrong.groupOn))) (some 0) refl;
       second-replied = awake-too (λ m. lastTold wrong.repeatsTheFirst m (sending 15000 noop ∷ []) (sending 15000 wrong.groupOn) .replied) true refl;
@@ -145,6 +166,12 @@ all-break =
             omega arith;
       };
       stays-in-safety = record {
+        machine-keeps = moves-by-the-table;
+        program-does-not = λ keeps.
+            let moved = keeps lingering [] (quiet 15000) (told-besides .lingering-happens) (told-besides .lingering-no-reset) (told-besides .lingering-no-command) in
+            all-caught .stays-in-safety .differ (sym (told-besides .table-leaves) ∙ sym (ap (λ (p : ModeAge). p .mode) moved) ∙ told-besides .lingering-stays);
+      };
+      stays-in-safety-at-0x30 = record {
         machine-keeps = comes-into-nominal;
         program-does-not = λ keeps.
             let left = keeps awake (quiet 0 ∷ []) (sending 15000 wrong.toNominal) refl (told-besides .nominal-accepted) in

@@ -3,14 +3,14 @@
 -- and came into nominal: document 01's machine then shows one thing and the program another. And each breaks the claim
 -- that document 01 names for it, which document 01's machine keeps. Assumes nothing: these are definitions.
 use Prim.Native.Nat.{ℕ, _<_, min}
-use mathlib.Core.{Path._≡_, Bool.Bool, Bool.true, Bool.false, Bool.cond, Bool.not}
+use mathlib.Core.{Path._≡_, Bool.Bool, Bool.true, Bool.false, Bool.cond, Bool.not, Bool._&&_}
 use mathlib.Core.{List.List, List.[], List._∷_, List._++_, List.map, Option.Option, Option.some}
 use lib.{IntN.ℤ, IntN.pos, ListN.length, ListN.getD, ListN.replicate}
 use Rattle.wire.specs.Replies.{shown, replyCode}
-use Rattle.modes.specs.{Table.same, Table.olderOf, declared.Mode.Mode, declared.Limits.Limits}
+use Rattle.modes.specs.{Table.same, Table.stepOf, Table.olderOf, declared.Mode.Mode, declared.Limits.Limits}
 use Rattle.modes.specs.declared.Mode.the-variants.{Nominal, Safety}
 use Rattle.channels.specs.{Chan.chan, Operations.overcurrentAt, Counting.countAll, declared.Channels.Channels}
-use Rattle.command.specs.Decode.{codeOf}
+use Rattle.command.specs.{Codes.isIn, Decode.codeOf}
 use Rattle.memory.specs.{Limits.limitsOf, Memory.emptyStore, declared.Store.Store}
 use Rattle.state.specs.{Parts.modeOf, Parts.withPhase, Parts.withChannels, Parts.withReply, Start.keepsTheRules, declared.parts.Board.Board}
 use Rattle.state.specs.declared.parts.Profile.{Profile}
@@ -24,7 +24,7 @@ use Rattle.board.specs.declared.Ticked.{Ticked}
 use Rattle.unit.specs.{Machine.noMachine, Machine.begunOf, Machine.toldBy, declared.Machine.Machine, declared.Told.Told}
 use Rattle.unit.specs.Runs.{Sample, told, happens, afterStep3, Call, tick, after}
 use Rattle.refusals.specs.Conditions.{Given, metIn}
-use Rattle.groups.specs.{Groups.sentences, Groups.madeBy, Resets.isAccepted, Counts.timesTakenOff}
+use Rattle.groups.specs.{Groups.sentences, Groups.madeBy, Resets.isByWatchdog, Resets.isAccepted, Counts.timesTakenOff}
 
 -- ---- programs
 -- a program has a state of its own, which it makes of the machine in whose place it is put; by each tick it tells
@@ -94,7 +94,7 @@ replyingNoop rail limits sent s b = cond (commandedOf rail limits sent s b .repl
 abbrev pub answersNoop : Program
 answersNoop = showing (toldWith trippedOf replyingNoop)
 
--- 3. stays in safety: once there, it shows safety, one tick older, whatever the tick did besides
+-- 3. stays in safety: once there, each tick that happens shows safety, one tick older, whatever it did besides
 abbrev pub inPhaseOf : Board → Told → Told
 inPhaseOf b t =
     record {
@@ -105,7 +105,7 @@ inPhaseOf b t =
     }
 
 unfoldable pub stayingInSafety : Machine → Sample → Told
-stayingInSafety m i = cond (same (modeOf (m .board)) Safety) (inPhaseOf (m .board) (told m i)) (told m i)
+stayingInSafety m i = cond (happens i && same (modeOf (m .board)) Safety) (inPhaseOf (m .board) (told m i)) (told m i)
 
 abbrev pub staysInSafety : Program
 staysInSafety = showing stayingInSafety
@@ -239,6 +239,17 @@ TellsWhatIsGiven m i t = (n : ℕ) → happens i ≡ true → i .sent ≡ true �
 abbrev pub RepliesWithItsCode : OfATick
 RepliesWithItsCode m i t = codeOf (i .transfer) < 256 → t .replied ≡ true → replyByte 2 t ≡ replyCode (codeOf (i .transfer))
 
+-- answer 0 is told, and the code of the transfer is one of these
+abbrev pub tellsAcceptanceOf : List ℕ → Sample → Told → Bool
+tellsAcceptanceOf codes i t = isAccepted (answer t) && isIn (codeOf (i .transfer)) codes
+
+-- demand 2: a tick that happens, tells of no reset, by its event or by an accepted 0xAA, and accepts neither 0x30 nor
+-- 0x32 leaves mode and age as the table makes them of the mode one tick older
+abbrev pub MovesByTheTable : OfATick
+MovesByTheTable m i t =
+    happens i ≡ true → isByWatchdog (t .event) ≡ false → tellsAcceptanceOf (0xAA ∷ 0x30 ∷ 0x32 ∷ []) i t ≡ false
+    → t .machine .board .phase ≡ stepOf (olderOf (m .board .phase)) (i .rail) (limitsOf (m .board .memory))
+
 -- demand 2: after an accepted 0x30 the mode is nominal
 abbrev pub ComesIntoNominal : OfATick
 ComesIntoNominal m i t = codeOf (i .transfer) ≡ 0x30 → answer t ≡ some 0 → mode t ≡ Nominal
@@ -265,7 +276,8 @@ pub record Breaks (Claim : Program → Type 0) (p : Program) : Type 0 where
 pub record AllBreak : Type 0 where
   pub refuses-all : (a : Answer) → (answerNumber a ≡ 0 → ⊥) → Breaks (AtEachTick TellsWhatIsGiven) (refusesAll a)
   pub answers-noop : Breaks (AtEachTick RepliesWithItsCode) answersNoop
-  pub stays-in-safety : Breaks (AtEachTick ComesIntoNominal) staysInSafety
+  pub stays-in-safety : Breaks (AtEachTick MovesByTheTable) staysInSafety
+  pub stays-in-safety-at-0x30 : Breaks (AtEachTick ComesIntoNominal) staysInSafety
   pub changes-nothing : Breaks (AtEachTick SwitchesTheNamed) changesNothing
   -- the fifth keeps the sentence at its first tick, and not at each
   pub obeys-the-first : AtTheFirstTick RepliesWithItsCode repeatsTheFirst
