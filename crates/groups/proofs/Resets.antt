@@ -26,6 +26,7 @@ use Rattle.watchdog.specs.declared.Event.the-variants.{NoEvent, PeripheralReset
 use Rattle.memory.specs.Limits.{timeoutOf, limitsOf}
 use Rattle.memory.specs.Memory.{oneMore}
 use Rattle.state.specs.Start.{freshOf, byWatchdog, byCommand, watchdogResetOf, commandResetOf}
+use Rattle.state.specs.declared.parts.Cause.{Cause}
 use Rattle.state.specs.declared.parts.Resets.{Resets}
 use Rattle.state.specs.declared.parts.Board.{Board}
 use Rattle.answers.specs.Answers.{toldNumber}
@@ -198,17 +199,17 @@ watchdog-parts : (b : Board) → StartedOver b (watchdogResetOf b)
 unfolding watchdogResetOf
 watchdog-parts b = parts b (byWatchdog (b .resets))
 
-watchdog-count : (b : Board) → watchdogResetOf b .resets .watchdog ≡ min (b .resets .watchdog + 1) 65535
+watchdog-counts : (b : Board) → watchdogResetOf b .resets ≡ record { power = b .resets .power; watchdog = min (b .resets .watchdog + 1) 65535; command = b .resets .command; cause = Cause.Watchdog }
 unfolding watchdogResetOf freshOf byWatchdog oneMore
-watchdog-count b = refl
+watchdog-counts b = refl
 
 command-parts : (b : Board) → StartedOver b (commandResetOf b)
 unfolding commandResetOf
 command-parts b = parts b (byCommand (b .resets))
 
-command-count : (b : Board) → commandResetOf b .resets .command ≡ min (b .resets .command + 1) 65535
+command-counts : (b : Board) → commandResetOf b .resets ≡ record { power = b .resets .power; watchdog = b .resets .watchdog; command = min (b .resets .command + 1) 65535; cause = Cause.Commanded }
 unfolding commandResetOf freshOf byCommand oneMore
-command-count b = refl
+command-counts b = refl
 
 module _ (m : Machine) (i : Sample) where
   exactly : happens i ≡ true → tellsReset m i ≡ startsOver (told m i .machine .board)
@@ -238,7 +239,7 @@ reset-is-told m i =
       by-command = c;
       not-happened = not-happened m i;
       watchdog-parts = λ e. subst (StartedOver (afterStep4 m i)) (sym (w e)) (watchdog-parts (afterStep4 m i));
-      watchdog-count = λ e. ap (λ (b : Board). b .resets .watchdog) (w e) ∙ watchdog-count (afterStep4 m i);
+      watchdog-counts = λ e. ap (λ (b : Board). b .resets) (w e) ∙ watchdog-counts (afterStep4 m i);
       command-parts = λ e. subst (StartedOver (afterStep3 m i)) (sym (c e)) (command-parts (afterStep3 m i));
-      command-count = λ e. ap (λ (b : Board). b .resets .command) (c e) ∙ command-count (afterStep3 m i);
+      command-counts = λ e. ap (λ (b : Board). b .resets) (c e) ∙ command-counts (afterStep3 m i);
     }

@@ -16,6 +16,7 @@ use Rattle.watchdog.specs.declared.Event.{Event}
 use Rattle.watchdog.specs.declared.Event.the-variants.{NoEvent, PeripheralReset, WatchdogReset}
 use Rattle.memory.specs.Memory.{loadedFrom}
 use Rattle.state.specs.{Start.watchdogResetOf, Start.commandResetOf, declared.parts.Board.Board}
+use Rattle.state.specs.declared.parts.Cause.the-variants.{Watchdog, Commanded}
 use Rattle.answers.specs.Answers.{toldNumber}
 use Rattle.unit.specs.{declared.Machine.Machine, Runs.Sample, Runs.told, Runs.happens, Runs.afterStep3, Runs.afterStep4}
 
@@ -43,7 +44,8 @@ tellsReset m i = tellsWatchdogReset m i || tellsCommandReset m i
 abbrev pub startsOver : Board → Bool
 startsOver b = same (b .phase .mode) Startup && eqb (b .phase .age) 0
 
--- what a reset leaves of a board, part by part; the profile and the store outlive it, and so do the other reset counts
+-- what a reset leaves of a board, part by part; the profile and the store outlive it, and so do the reset counts, of
+-- which `ResetIsTold` speaks
 pub record StartedOver (before after : Board) : Type 0 where
   pub startup : after .phase ≡ entered Startup
   pub timer : after .timer ≡ 0
@@ -59,8 +61,10 @@ pub record ResetIsTold (m : Machine) (i : Sample) : Type 0 where
   pub by-watchdog : tellsWatchdogReset m i ≡ true → told m i .machine .board ≡ watchdogResetOf (afterStep4 m i)
   pub by-command : tellsCommandReset m i ≡ true → told m i .machine .board ≡ commandResetOf (afterStep3 m i)
   pub not-happened : happens i ≡ false → tellsReset m i ≡ false
-  -- the same, part by part
+  -- the same, part by part; of the reset counts that of its kind is one more, 65,535 at most, and its kind is the cause
   pub watchdog-parts : tellsWatchdogReset m i ≡ true → StartedOver (afterStep4 m i) (told m i .machine .board)
-  pub watchdog-count : tellsWatchdogReset m i ≡ true → told m i .machine .board .resets .watchdog ≡ min (afterStep4 m i .resets .watchdog + 1) 65535
+  pub watchdog-counts : tellsWatchdogReset m i ≡ true → told m i .machine .board .resets
+      ≡ record { power = afterStep4 m i .resets .power; watchdog = min (afterStep4 m i .resets .watchdog + 1) 65535; command = afterStep4 m i .resets .command; cause = Watchdog }
   pub command-parts : tellsCommandReset m i ≡ true → StartedOver (afterStep3 m i) (told m i .machine .board)
-  pub command-count : tellsCommandReset m i ≡ true → told m i .machine .board .resets .command ≡ min (afterStep3 m i .resets .command + 1) 65535
+  pub command-counts : tellsCommandReset m i ≡ true → told m i .machine .board .resets
+      ≡ record { power = afterStep3 m i .resets .power; watchdog = afterStep3 m i .resets .watchdog; command = min (afterStep3 m i .resets .command + 1) 65535; cause = Commanded }
