@@ -1,7 +1,8 @@
 -- The six programs that document 01 wants caught, where it says how tight the contracts are. Each differs from the
 -- machine no more than what is said of it asks. Each is caught on a run of a tick or two on a board that was started
--- and came into nominal: document 01's machine then shows one thing and the program another. And each breaks the claim
--- that document 01 names for it, which document 01's machine keeps. Assumes nothing: these are definitions.
+-- and came into nominal: document 01's machine then shows one thing and the program another. And each breaks a claim,
+-- which document 01's machine keeps, of the kind that document 01 names for it; for the tick that changes nothing it
+-- names none, and the claim is one of demand 2. Assumes nothing: these are definitions.
 use Prim.Native.Nat.{ℕ, _<_, min}
 use mathlib.Core.{Path._≡_, Bool.Bool, Bool.true, Bool.false, Bool.cond, Bool.not, Bool._&&_}
 use mathlib.Core.{List.List, List.[], List._∷_, List._++_, List.map, Option.Option, Option.some}
