@@ -21,7 +21,7 @@ InRange store =
     → (lowEnd type range ≤ℤ settingOf (store .settings) id) × (settingOf (store .settings) id ≤ℤ highEnd type range)
 
 -- BID 1 to 8; the fitted channels, at least one; the force-enabled ones, all fitted; stored values in range, where any
--- are stored. The channels are 0 to 31
+-- are stored. The channels are 0 to 31, and a set of them has 32 bits, so that a fitted one is among these
 pub record KeepsAllRules (p : Profile) (store : Store) : Type 0 where
   pub bid-from-1 : 1 ≤ p .bid
   pub bid-to-8 : p .bid ≤ 8
