@@ -1,8 +1,10 @@
 -- The answers of document 01's command table: their numbers, and what each returns and leaves. Assumes nothing: these
 -- are definitions.
 use Prim.Native.Nat.{ℕ}
-use mathlib.Core.{Bool.true, Bool.false, List.List, Option.Option, Option.none, Option.some}
+use mathlib.Core.{Bool.true, Bool.false, List.List, List.[], List._∷_, Option.Option, Option.none, Option.some}
+use lib.ListN.{getD}
 use Rattle.wire.specs.{declared.reply.Reply.Reply, Replies.replyOf}
+use Rattle.command.specs.Decode as command
 use Rattle.command.specs.{Decode.stidOf, Decode.ividOf, Decode.codeOf, Decode.bidOf, declared.Header.Header}
 use Rattle.replies.specs.Layouts.{shortReply}
 use Rattle.state.specs.{declared.parts.Board.Board, declared.parts.Profile.Profile, Parts.withTimer, Parts.withReply}
@@ -20,6 +22,10 @@ answerNumber CodeNotListed = 4
 answerNumber TooShort = 5
 answerNumber NotAvailable = 6
 answerNumber Wrong = 7
+
+-- and back
+abbrev pub answerOf : ℕ → Answer
+answerOf n = getD (Accepted ∷ FewerThanFourBytes ∷ InStartup ∷ NotThisBoard ∷ CodeNotListed ∷ TooShort ∷ NotAvailable ∷ Wrong ∷ []) n Wrong
 
 -- 9 where the tick did not happen, and no number where there was no transfer to answer
 abbrev pub toldNumber : Outcome → Option ℕ
@@ -51,7 +57,7 @@ receivedIn s = record { stid = stidOf s; ivid = ividOf s; code = codeOf s; bid =
 
 -- what the board itself is called by
 abbrev pub headerOf : Profile → Header
-headerOf p = record { stid = 0x11; ivid = 7; bid = p .bid }
+headerOf p = command.headerOf (p .kind) (p .bid)
 
 -- nothing is said: the board is handed on as it came, with whatever reply waits on it
 abbrev pub silentOf : Outcome → Board → Commanded

@@ -3,6 +3,7 @@
 use Prim.Native.Nat.{ℕ}
 use mathlib.Core.{Bool.cond, List.List, List.[], List._∷_}
 use lib.{Dec.eqb, ListN.replicate}
+use Rattle.kinds.specs.Kinds.{boardOf}
 use Rattle.wire.specs.Numbers.{bytesOf}
 use Rattle.value.specs.{Types.width, Values.wireBytes, Values.valueBytes, declared.ValueBytes.ValueBytes}
 use Rattle.settings.specs.{Values.getOf, declared.Got.Got}
@@ -17,7 +18,7 @@ pub data Row : Type 0 where
 -- the rows of Table 3-26 that a rule names
 abbrev pub named : Profile → Memory → Resets → List Row
 named p m r =
-    0x2800 reads 0x11  -- STID
+    0x2800 reads boardOf (p .kind) .stid  -- STID
     ∷ 0x2801 reads 7  -- IVID
     ∷ 0x2802 reads p .bid  -- BID_USED
     ∷ 0x4801 reads m .shown .«save_count»  -- CONF_NVM_SAVE_CNTR

@@ -62,11 +62,8 @@ pub fn start_of(transfer: &[u8]) -> Received
 pub fn header(p: Profile) -> Header
     ensures { λ r. ⌜ r ≡ headerOf p ⌝ }
 {
-    Header {
-        stid: 0x11,
-        ivid: 7,
-        bid: p.bid,
-    }
+    let kind = p.kind;
+    command::header_of(kind, p.bid)
 }
 
 // The status code of an answer; 0 stands for the two that make no reply, and is never sent.

@@ -26,9 +26,10 @@ pub fn cause_number(cause: Cause) -> u64
 fn read_only_number(p: Profile, m: Memory, r: Resets, id: u16) -> u64
     ensures { λ n. ⌜ n ≡ readOnlyNumber p m r id ⌝ }
 {
+    let kind = p.kind;
     let cause = r.cause;
     match id {
-        0x2800 => 0x11,
+        0x2800 => kinds::stid(kind) as u64,
         0x2801 => 7,
         0x2802 => p.bid as u64,
         0x4801 => m.shown.save_count as u64,

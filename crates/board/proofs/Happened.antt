@@ -5,11 +5,10 @@ use mathlib.Core.Path.{_≡_, refl, ap, sym, subst, _∙_}
 use mathlib.Core.Bool.{Bool, true, false, cond, not, false≢true}
 use mathlib.Core.Logic.{_⊎_, inl, inr, ⊎-elim}
 use mathlib.Core.List.{List}
-use mathlib.Core.Option.{Option, none, some}
+use mathlib.Core.Option.{some}
 use native.Mathlib.Omega.{arith}
 use lib.IntN.{ℤ}
 use lib.ListN.{length}
-use borrow.Author.Tests.{ne-eqb}
 use Rattle.laws.proofs.Cases.{cases}
 use Rattle.modes.specs.Commands.{toSafety, toNominal}
 use Rattle.modes.specs.declared.Limits.{Limits}
@@ -18,7 +17,7 @@ use Rattle.watchdog.specs.Watchdog as dog
 use Rattle.watchdog.specs.declared.Event.{Event}
 use Rattle.watchdog.specs.declared.Event.the-variants.{NoEvent, PeripheralReset, WatchdogReset}
 use Rattle.channels.specs.declared.Channels.{Channels}
-use Rattle.command.specs.Decode.{fewerThanFour, codeOf, decodeOf}
+use Rattle.command.specs.Decode.{codeOf}
 use Rattle.command.specs.declared.Command.{Command}
 use Rattle.command.specs.declared.Refusal.{Refusal}
 use Rattle.command.specs.declared.Decoded.{Decoded}
@@ -27,20 +26,21 @@ use Rattle.memory.specs.Limits.{timeoutOf, limitsOf}
 use Rattle.memory.specs.Memory.{savedOf}
 use Rattle.wire.specs.declared.reply.Reply.{Reply}
 use Rattle.wire.specs.declared.forms.Form.the-variants.{Raw}
-use Rattle.state.specs.Parts.{modeOf, withReply}
+use Rattle.state.specs.Parts.{wordCount, modeOf, withReply}
 use Rattle.state.specs.Start.{freshOf, commandResetOf, watchdogResetOf}
 use Rattle.state.specs.declared.parts.Board.{Board}
-use Rattle.answers.specs.Answers.{answerNumber, toldNumber, headerOf, acceptedWith, acceptedOf, refusedOf, notThisBoardOf}
+use Rattle.answers.specs.Answers.{answerNumber, toldNumber, acceptedWith, acceptedOf, refusedOf, notThisBoardOf}
 use Rattle.answers.specs.declared.Answer.{Answer}
 use Rattle.answers.specs.declared.Answer.the-variants.{Accepted, FewerThanFourBytes, InStartup, NotThisBoard, CodeNotListed, TooShort, NotAvailable, Wrong}
 use Rattle.answers.specs.declared.Outcome.{Outcome}
 use Rattle.answers.specs.declared.Outcome.the-variants.{NoTransfer, Answered}
 use Rattle.answers.specs.declared.Commanded.{Commanded}
 use Rattle.effects.specs.Effects.{isNominal, switchedOf, groupOnOf, groupOffOf, groupStateOf, channelOnOf, channelOffOf, cancelledOf, switchedModeOf, faultsOf, housekeepingOf, parameterAnswered, rememberedOf, savedIn, restartedOf, runOf}
-use Rattle.commands.specs.Step.{isStartup, turnedDown, decodedOf, transferredOf, commandedOf}
-use Rattle.board.specs.Tick.{risenOf, changedOf, trippedOf, watchedAs, watchedIn, tickWith, allowedCount, tells, tickOf}
+use Rattle.commands.specs.Step.{readBy, transferredOf, commandedOf}
+use Rattle.commands.proofs.Stepwise.{turnedDown, decodedOf, steppedOf}
+use Rattle.commands.proofs.Told.{stepwise, numbered}
+use Rattle.board.specs.Tick.{risenOf, changedOf, trippedOf, watchedAs, watchedIn, tickWith, allowedCount, tickOf, tickNumber}
 use Rattle.board.specs.declared.Ticked.{Ticked}
-use Rattle.board.proofs.Laws.{number-9}
 
 -- ---- every transfer is answered. Where a reply is made it is the same whatever reply r waited before; the form of the
 -- text line stays, but for a reset by command
@@ -95,6 +95,7 @@ module _ (r : Reply) where
   turned-down : (code : ℕ) (refusal : Refusal) (b : Board) → Answers b (turnedDown code refusal b) (turnedDown code refusal (withReply r b))
   unfolding turnedDown notThisBoardOf refusedOf
   turned-down code Refusal.FewerThanFourBytes b = silent FewerThanFourBytes refl refl refl
+  turned-down code Refusal.InStartup b = silent InStartup refl refl refl
   turned-down code Refusal.NotThisBoard b = replies NotThisBoard refl refl refl
   turned-down code Refusal.CodeNotListed b = replies CodeNotListed refl refl refl
   turned-down code Refusal.TooShort b = replies TooShort refl refl refl
@@ -103,11 +104,8 @@ module _ (r : Reply) where
   turned-down code Refusal.NotANumber b = replies Wrong refl refl refl
 
   transferred : (rail : ℤ) (limits : Limits) (s : List ℕ) (b : Board) → Answers b (transferredOf rail limits s b) (transferredOf rail limits s (withReply r b))
-  unfolding transferredOf decodedOf
-  transferred rail limits s b =
-      either (fewerThanFour s) (silent FewerThanFourBytes refl refl refl)
-      (either (isStartup (modeOf b)) (silent InStartup refl refl refl)
-      (decoded (decodeOf (headerOf (b .profile)) s)))
+  unfolding steppedOf decodedOf
+  transferred rail limits s b = rw (stepwise rail limits s b, stepwise rail limits s (withReply r b)) (decoded (readBy b s))
     where
       decoded : (d : Decoded) → Answers b (decodedOf rail limits (codeOf s) d b) (decodedOf rail limits (codeOf s) d (withReply r b))
       decoded (Run c) = run rail limits (codeOf s) c b
@@ -131,7 +129,7 @@ module _ (P : Outcome → Type 0) (quiet : P NoTransfer) (answers : (answer : An
       go PeripheralReset = p
       go WatchdogReset = p
 
-  pub told : (rail : ℤ) (named : ℕ) (words : List ℕ) (sent : Bool) (s : List ℕ) (b : Board) → allowedCount (length words) ≡ true → P (tickOf rail named words sent s b .outcome)
+  pub told : (rail : ℤ) (named : ℕ) (words : List ℕ) (sent : Bool) (s : List ℕ) (b : Board) → allowedCount (wordCount b) (length words) ≡ true → P (tickOf rail named words sent s b .outcome)
   unfolding tickOf tickWith
   told rail named words sent s b allowed =
       let limits = limitsOf (b .memory) in
@@ -139,7 +137,7 @@ module _ (P : Outcome → Type 0) (quiet : P NoTransfer) (answers : (answer : An
       rw allowed (watched (commandedOf rail limits sent s settled) (commanded rail limits sent s settled))
 
 -- 9 is told exactly where the count of words is not allowed
-pub only-9 : (rail : ℤ) (named : ℕ) (words : List ℕ) (sent : Bool) (s : List ℕ) (b : Board) → allowedCount (length words) ≡ true → toldNumber (tickOf rail named words sent s b .outcome) ≡ some 9 → ⊥
+pub only-9 : (rail : ℤ) (named : ℕ) (words : List ℕ) (sent : Bool) (s : List ℕ) (b : Board) → allowedCount (wordCount b) (length words) ≡ true → toldNumber (tickOf rail named words sent s b .outcome) ≡ some 9 → ⊥
 only-9 rail named words sent s b allowed = told (λ o. toldNumber o ≡ some 9 → ⊥) quiet answers rail named words sent s b allowed
   where
     quiet : toldNumber NoTransfer ≡ some 9 → ⊥
@@ -158,19 +156,27 @@ only-9 rail named words sent s b allowed = told (λ o. toldNumber o ≡ some 9 �
     answers : (answer : Answer) → toldNumber (Answered answer) ≡ some 9 → ⊥
     answers answer e = let n : answerNumber answer ≡ 9 = cc in below answer n
 
-tells-other : (o : Option ℕ) → (o ≡ some 9 → ⊥) → tells 9 o ≡ false
-tells-other none n = refl
-tells-other (some m) n = ne-eqb 9 m (λ e. n (ap some (sym e)))
+-- what a tick that happens tells is what its command is told
+watched-tells : (c : Commanded) → watchedIn c .outcome ≡ c .outcome
+unfolding watchedIn
+watched-tells c = go (dog.watchedOf (c .board .timer) (dog.secondsInTicks (timeoutOf (c .board .memory))))
+  where
+    go : (e : Event) → watchedAs e c .outcome ≡ c .outcome
+    go NoEvent = refl
+    go PeripheralReset = refl
+    go WatchdogReset = refl
 
 module _ (rail : ℤ) (named : ℕ) (words : List ℕ) (sent : Bool) (s : List ℕ) (b : Board) where
-  pub tells-9 : tells 9 (toldNumber (tickOf rail named words sent s b .outcome)) ≡ not (allowedCount (length words))
-  tells-9 =
-      cases (allowedCount (length words))
-      (λ t. rw t (tells-other _ (only-9 rail named words sent s b t)))
-      (λ f. rw f (ap (tells 9) (number-9 rail named words sent s b f)))
+  pub numbered-tick : toldNumber (tickOf rail named words sent s b .outcome) ≡ tickNumber rail named words sent s b
+  unfolding tickOf tickWith tickNumber
+  numbered-tick =
+      let limits = limitsOf (b .memory) in
+      cases (allowedCount (wordCount b) (length words))
+      (λ t. rw t (ap toldNumber (watched-tells _) ∙ numbered rail limits sent s (trippedOf named (changedOf rail limits (risenOf words b)))))
+      (λ f. rw f)
 
-  pub with-number-9 : {r : Ticked} → r ≡ tickOf rail named words sent s b → (r ≡ tickOf rail named words sent s b) × (tells 9 (toldNumber (r .outcome)) ≡ not (allowedCount (length words)))
-  with-number-9 e = (e, ap (λ (t : Ticked). tells 9 (toldNumber (t .outcome))) e ∙ tells-9)
+  pub with-number : {r : Ticked} → r ≡ tickOf rail named words sent s b → (r ≡ tickOf rail named words sent s b) × (toldNumber (r .outcome) ≡ tickNumber rail named words sent s b)
+  with-number e = (e, ap (λ (t : Ticked). toldNumber (t .outcome)) e ∙ numbered-tick)
 
 -- ---- the reply and the form
 made-in : (r : Reply) (rail : ℤ) (limits : Limits) (s : List ℕ) (b : Board) (sent : Bool) → commandedOf rail limits sent s b .replied ≡ true
@@ -189,7 +195,7 @@ formed-in rail limits s b true =
     (λ (e : transferredOf rail limits s b .board ≡ commandResetOf b). inr (ap (λ (x : Board). x .form) e))
     (transferred (b .reply) rail limits s b .form-kept)
 
-module _ (rail : ℤ) (named : ℕ) (words : List ℕ) (sent : Bool) (s : List ℕ) (b : Board) (allowed : allowedCount (length words) ≡ true) where
+module _ (rail : ℤ) (named : ℕ) (words : List ℕ) (sent : Bool) (s : List ℕ) (b : Board) (allowed : allowedCount (wordCount b) (length words) ≡ true) where
   -- the board as the command finds it
   abbrev pub found : Board
   found = trippedOf named (changedOf rail (limitsOf (b .memory)) (risenOf words b))

@@ -11,6 +11,7 @@ use Rattle.watchdog.specs.declared.Event.{Event}
 use Rattle.watchdog.specs.declared.Event.the-variants.{NoEvent, PeripheralReset, WatchdogReset}
 use Rattle.memory.specs.Limits.{timeoutOf, limitsOf}
 use Rattle.state.specs.Start.{watchdogResetOf}
+use Rattle.state.specs.Parts.{wordCount}
 use Rattle.state.specs.declared.parts.Board.{Board}
 use Rattle.state.specs.declared.parts.Measured.{Measured}
 use Rattle.answers.specs.declared.Commanded.{Commanded}
@@ -43,7 +44,7 @@ module _ (rail : ℤ) (limits : Limits) (named : ℕ) (words : List ℕ) (b : Bo
   abbrev pub found : Board
   found = trippedOf named (changedOf rail limits (risenOf words b))
 
-  pub found-apart : (s : Settled) (m : Measured) → s ≡ settledIn (trippedOf named (changedOf rail limits (risenOf [] b))) → m ≡ broughtBy words (b .measured) → placed s m b ≡ found
+  pub found-apart : (s : Settled) (m : Measured) → s ≡ settledIn (trippedOf named (changedOf rail limits (risenOf [] b))) → m ≡ broughtBy (wordCount b) words (b .measured) → placed s m b ≡ found
   unfolding risenOf changedOf trippedOf
   found-apart s m se me = rw (se, me)
 
@@ -81,7 +82,7 @@ loses PeripheralReset c q = absurd (false≢true q)
 loses WatchdogReset c q = refl
 
 -- ---- the whole tick, from what the command made of the board and what the watchdog does
-module _ (rail : ℤ) (named : ℕ) (words : List ℕ) (sent : Bool) (s : List ℕ) (b : Board) (allowed : allowedCount (length words) ≡ true) where
+module _ (rail : ℤ) (named : ℕ) (words : List ℕ) (sent : Bool) (s : List ℕ) (b : Board) (allowed : allowedCount (wordCount b) (length words) ≡ true) where
   module _ (c : Commanded) (obeyed : c ≡ commandedOf rail (limitsOf (b .memory)) sent s (found rail (limitsOf (b .memory)) named words b)) where
     -- a tick that happens ends with the watchdog
     happens : watchedIn c ≡ tickOf rail named words sent s b

@@ -7,10 +7,11 @@ use mathlib.Core.Path.{_≡_}
 use lib.IntN.{ℤ}
 use lib.ListN.{length}
 use Rattle.answers.specs.Answers.{toldNumber}
+use Rattle.state.specs.Parts.{wordCount}
 use Rattle.state.specs.declared.parts.Board.{Board}
 use Rattle.board.specs.Tick.{allowedCount, tickOf}
 
-module _ (rail : ℤ) (named : ℕ) (words : List ℕ) (sent : Bool) (s : List ℕ) (b : Board) (wrong : allowedCount (length words) ≡ false) where
+module _ (rail : ℤ) (named : ℕ) (words : List ℕ) (sent : Bool) (s : List ℕ) (b : Board) (wrong : allowedCount (wordCount b) (length words) ≡ false) where
   -- it is told by 9, and the board stays as it was
   pub number-9 : toldNumber (tickOf rail named words sent s b .outcome) ≡ some 9
   unfolding tickOf

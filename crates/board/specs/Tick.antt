@@ -1,30 +1,37 @@
 -- One tick in five steps. `rail` is in millivolts with its sign, `named` the set of channels that reported overcurrent,
 -- `words` the words lent, `sent` whether there is a transfer and `s` its bytes. Assumes nothing: these are definitions.
 use Prim.Native.Nat.{ℕ}
-use mathlib.Core.{Bool.Bool, Bool.true, Bool.false, Bool.cond, Bool.not, Bool._||_, List.List}
-use mathlib.Core.Option.{Option, none, some}
-use lib.{Dec.eqb, IntN.ℤ, ListN.length}
+use mathlib.Core.{Bool.Bool, Bool.true, Bool.false, Bool.cond, Bool.not, Bool._||_, List.List, List._++_, Option.Option, Option.some}
+use lib.{Dec.eqb, IntN.ℤ, ListN.length, ListN.take, ListN.drop, ListN.replicate}
 use Rattle.modes.specs.{Table.olderOf, Table.stepOf, declared.Limits.Limits}
 use Rattle.channels.specs.Operations.{overcurrentAt}
 use Rattle.watchdog.specs.Watchdog as dog
 use Rattle.watchdog.specs.declared.Event.{Event}
 use Rattle.watchdog.specs.declared.Event.the-variants.{NoEvent, PeripheralReset, WatchdogReset}
 use Rattle.memory.specs.Limits.{timeoutOf, limitsOf}
-use Rattle.state.specs.Parts.{modeOf, withPhase, withTimer, withChannels, withMeasured, withResets}
-use Rattle.state.specs.{Start.watchdogResetOf, Change.enteringOf, Change.timerAfter, Change.resetsAfter, declared.parts.Board.Board}
-use Rattle.state.specs.declared.parts.Measured.{Measured}
-use Rattle.commands.specs.Step.{commandedOf}
+use Rattle.state.specs.Parts.{modeOf, wordCount, withPhase, withTimer, withChannels, withMeasured, withResets}
+use Rattle.state.specs.{Start.watchdogResetOf, declared.parts.Board.Board}
+use Rattle.change.specs.Change.{enteringOf, timerAfter, resetsAfter}
+use Rattle.state.specs.{declared.parts.Fresh.Fresh, declared.parts.Measured.Measured}
+use Rattle.commands.specs.Step.{commandedOf, numberOf}
 use Rattle.answers.specs.declared.Commanded.{Commanded}
 use Rattle.answers.specs.declared.Outcome.the-variants.{WrongWordCount}
 use Rattle.board.specs.declared.Ticked.{Ticked}
 
 -- ---- step 1: age and timer go up by one, and words that came take the place of the old
--- 122 words are words brought, and are new
-unfoldable pub broughtBy : List ℕ → Measured → Measured
-broughtBy words m = cond (eqb (length words) 122) (record { words = words; fresh = true }) m
+-- as many as the board has are words brought, and are new both as raw and as engineering readings; behind them the
+-- room for the longest board's words is 0
+abbrev pub held : List ℕ → List ℕ
+held words = take 130 words ++ drop (length words) (replicate 130 0)
+
+abbrev pub bothNew : Fresh
+bothNew = record { raw = true; engineering = true }
+
+unfoldable pub broughtBy : ℕ → List ℕ → Measured → Measured
+broughtBy number words m = cond (eqb (length words) number) (record { words = held words; fresh = bothNew }) m
 
 unfoldable pub risenOf : List ℕ → Board → Board
-risenOf words b = withPhase (olderOf (b .phase)) (withTimer (dog.risenOf (b .timer)) (withMeasured (broughtBy words (b .measured)) b))
+risenOf words b = withPhase (olderOf (b .phase)) (withTimer (dog.risenOf (b .timer)) (withMeasured (broughtBy (wordCount b) words (b .measured)) b))
 
 -- ---- step 2: the change of mode by the table, if there is one
 -- the phase after it, with what the change brings for the channels, the timer and the resets
@@ -59,19 +66,22 @@ tickWith limits rail named words sent s b =
     let obeyed = commandedOf rail limits sent s tripped in  -- 4
     watchedIn obeyed  -- 5
 
--- ---- any number of words but 0 and 122 is refused with 9, and nothing of the tick takes place
-unfoldable pub allowedCount : ℕ → Bool
-allowedCount n = eqb n 0 || eqb n 122
+-- ---- any number of words but 0 and the board's own is refused with 9, and nothing of the tick takes place
+unfoldable pub allowedCount : ℕ → ℕ → Bool
+allowedCount number n = eqb n 0 || eqb n number
 
 abbrev pub notHappened : Board → Ticked
 notHappened b = record { board = b; outcome = WrongWordCount; event = NoEvent; replied = false }
 
--- a number is the one that is told
-abbrev pub tells : ℕ → Option ℕ → Bool
-tells n none = false
-tells n (some m) = eqb n m
-
 -- the limits are the board's own
 unfoldable pub tickOf : ℤ → ℕ → List ℕ → Bool → List ℕ → Board → Ticked
 tickOf rail named words sent s b =
-    cond (not (allowedCount (length words))) (notHappened b) (tickWith (limitsOf (b .memory)) rail named words sent s b)
+    cond (not (allowedCount (wordCount b) (length words))) (notHappened b) (tickWith (limitsOf (b .memory)) rail named words sent s b)
+
+-- ---- the number that a tick tells: 9, or none where there is no transfer, or that of the first check that applies on
+-- the board as steps 1 to 3 leave it
+unfoldable pub tickNumber : ℤ → ℕ → List ℕ → Bool → List ℕ → Board → Option ℕ
+tickNumber rail named words sent s b =
+    let limits = limitsOf (b .memory) in
+    cond (not (allowedCount (wordCount b) (length words))) (some 9)
+    (numberOf rail limits sent s (trippedOf named (changedOf rail limits (risenOf words b))))

@@ -1,19 +1,19 @@
 // One tick of a board: five steps, one after another.
 ghost use mathlib.Core.List.{[]};
 ghost use mathlib.Core.Path.{_≡_};
-ghost use mathlib.Core.Bool.{not};
-ghost use lib.ListN.{length};
+ghost use Prim.Native.Nat.{min};
 ghost use Rattle.answers.specs.Answers.{toldNumber};
 ghost use Rattle.channels.specs.Operations.{overcurrentAt};
-ghost use Rattle.state.specs.Change.{enteringOf};
+ghost use Rattle.change.specs.Change.{enteringOf};
 ghost use Rattle.board.specs.Parts.{settledIn, measuredAs, isReset};
-ghost use Rattle.board.specs.Tick.{broughtBy, risenOf, changedOf, trippedOf, allowedCount, tells, tickOf};
+ghost use Rattle.board.specs.Tick.{broughtBy, risenOf, changedOf, trippedOf, allowedCount, tickOf, tickNumber};
 use answers::Outcome;
 use channels::Channels;
 use modes::Limits;
 use modes::Mode;
 use modes::ModeAge;
 use state::Board;
+use state::Fresh;
 use state::Profile;
 use state::Resets;
 use watchdog::Event;
@@ -39,7 +39,7 @@ struct Settled {
 fn channels_after(before: Mode, after: Mode, p: Profile, c: Channels, named: u32) -> Channels
     ensures { λ r. ⌜ r ≡ overcurrentAt named (enteringOf before after p c) ⌝ }
 {
-    let entered = state::entering(before, after, p, c);
+    let entered = change::entering(before, after, p, c);
     entered.overcurrent(named)
 }
 
@@ -55,9 +55,9 @@ fn settle(b: Board, rail: i16, named: u32, limits: Limits) -> Settled
     let phase = stepped.kept();
     let after = phase.mode();
     let risen = watchdog::risen(b.timer);
-    let timer = state::timer_after(before, after, risen);
+    let timer = change::timer_after(before, after, risen);
     let channels = channels_after(before, after, b.profile, b.channels, named);
-    let resets = state::resets_after(before, after, b.resets);
+    let resets = change::resets_after(before, after, b.resets);
     Settled {
         phase,
         timer,
@@ -66,24 +66,35 @@ fn settle(b: Board, rail: i16, named: u32, limits: Limits) -> Settled
     }
 }
 
-// 122 words take the place of those held, and are new; with any other number those held stay, as new as they were.
-// Answers whether the words then held are new.
-fn bring(fresh: bool, held: &mut [u16; 122], words: &[u16]) -> bool
-    ensures { λ r. ⌜ measuredAs (now (held .exit)) r ≡ broughtBy (now (words .entry)) (measuredAs (now (held .entry)) fresh) ⌝ }
+// The lesser of a number of words and the room for them.
+fn within_room(count: usize) -> usize
+    ensures { λ r. ⌜ r ≡ min count 130 ⌝ }
 {
-    if words.len() != 122 {
+    if count < 130 { count } else { 130 }
+}
+
+// All the words of a board take the place of those held, and are new; with any other number those held stay, as new as
+// they were. Answers whether the words then held are new.
+fn bring(number: usize, fresh: Fresh, held: &mut [u16; 130], words: &[u16]) -> Fresh
+    ensures { λ r. ⌜ measuredAs (now (held .exit)) r ≡ broughtBy number (now (words .entry)) (measuredAs (now (held .entry)) fresh) ⌝ }
+{
+    if words.len() != number {
         return fresh;
     }
     // stored whole at the end, and not one by one: a proof knows how long a local array is, and not how long one behind
     // a reference is
-    let mut brought = [0u16; 122];
+    let count = within_room(words.len());
+    let mut brought = [0u16; 130];
     let mut i = 0;
-    while i < 122 {
+    while i < count {
         brought[i] = words[i];
         i += 1;
     }
     *held = brought;
-    true
+    Fresh {
+        raw: true,
+        engineering: true,
+    }
 }
 
 // Whether the watchdog resets the board.
@@ -97,20 +108,20 @@ fn is_reset(event: Event) -> bool
     }
 }
 
-// Whether a tick may bring that many words.
-fn is_allowed(count: usize) -> bool
-    ensures { λ r. ⌜ r ≡ allowedCount count ⌝ }
+// Whether a tick of a board with that number of words may bring so many.
+fn is_allowed(number: usize, count: usize) -> bool
+    ensures { λ r. ⌜ r ≡ allowedCount number count ⌝ }
 {
     if count == 0 {
         return true;
     }
-    count == 122
+    count == number
 }
 
 // One tick: the rail in millivolts, the channels that reported overcurrent, the words lent, and no transfer or one.
-// With no transfer its slice is not looked at. Any number of words but 0 and 122 is refused, and the board stays as it
-// was. The board is changed in place and leaves at one place only, since it is large and copying it would take longer
-// than the tick itself.
+// With no transfer its slice is not looked at. Any number of words but 0 and the board's own is refused, and the board
+// stays as it was. The board is changed in place and leaves at one place only, since it is large and copying it would
+// take longer than the tick itself.
 pub fn tick(
     mut b: Board,
     rail: i16,
@@ -120,12 +131,15 @@ pub fn tick(
     transfer: &[u8],
 ) -> Ticked
     ensures { λ r. ⌜ r ≡ tickOf rail overcurrent (now (words .entry)) sent (now (transfer .entry)) b ⌝ }
-    ensures number { λ r. ⌜ tells 9 (toldNumber (r .outcome)) ≡ not (allowedCount (length (now (words .entry)))) ⌝ }
+    ensures number { λ r. ⌜ toldNumber (r .outcome) ≡ tickNumber rail overcurrent (now (words .entry)) sent (now (transfer .entry)) b ⌝ }
 {
     let mut outcome = Outcome::WrongWordCount;
     let mut event = Event::NoEvent;
     let mut replied = false;
-    if is_allowed(words.len()) {
+    let profile = b.profile;
+    let kind = profile.kind;
+    let number = kinds::word_count(kind);
+    if is_allowed(number, words.len()) {
         let limits = b.memory.limits();
         let settled = settle(b, rail, overcurrent, limits);
         let phase = settled.phase;
@@ -135,8 +149,10 @@ pub fn tick(
         b.timer = settled.timer;
         b.channels = channels;
         b.resets = resets;
-        let fresh = bring(b.measured.fresh, &mut b.measured.words, words);
-        b.measured.fresh = fresh;
+        let before = b.measured.fresh;
+        let fresh = bring(number, before, &mut b.measured.words, words);
+        b.measured.fresh.raw = fresh.raw;
+        b.measured.fresh.engineering = fresh.engineering;
         outcome = Outcome::NoTransfer;
         if sent {
             let c = commands::commanded(b, rail, limits, sent, transfer);

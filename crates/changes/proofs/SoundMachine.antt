@@ -17,7 +17,7 @@ use Rattle.channels.proofs.Laws as channel
 use Rattle.command.specs.Decode.{codeOf}
 use Rattle.memory.specs.Limits.{limitsOf}
 use Rattle.memory.specs.declared.Store.{Store}
-use Rattle.state.specs.Change.{isDark, fromNominalToSafety, enteringOf}
+use Rattle.change.specs.Change.{isDark, fromNominalToSafety, enteringOf}
 use Rattle.state.specs.Start.{freshOf, neverReset, watchdogResetOf, storedInRange, keepsTheRules, startOf}
 use Rattle.state.specs.declared.parts.Board.{Board}
 use Rattle.state.specs.declared.parts.Profile.{Profile}

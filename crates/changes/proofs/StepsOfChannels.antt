@@ -11,7 +11,7 @@ use Rattle.channels.specs.Chan.{Chan, chan}
 use Rattle.channels.specs.Operations.{commandEnabledOffOne, overcurrentOne}
 use Rattle.channels.specs.declared.Channels.{Channels}
 use Rattle.channels.proofs.Laws as channel
-use Rattle.state.specs.Change.{isDark, fromNominalToSafety, enteringOf}
+use Rattle.change.specs.Change.{isDark, fromNominalToSafety, enteringOf}
 use Rattle.state.specs.declared.parts.Profile.{Profile}
 use Rattle.board.specs.Tick.{risenOf, changedOf, trippedOf}
 use Rattle.unit.specs.declared.Machine.{Machine}

@@ -17,7 +17,7 @@ use Rattle.memory.specs.Memory.{emptyStore, loadedFrom, setIn}
 use Rattle.memory.specs.Limits.{timeoutOf}
 use Rattle.replies.specs.Layouts.{shortReply}
 use Rattle.state.specs.Start.{freshOf, watchdogResetOf}
-use Rattle.state.specs.Change.{isDark, fromNominalToSafety, enteringOf, timerAfter}
+use Rattle.change.specs.Change.{isDark, fromNominalToSafety, enteringOf, timerAfter}
 use Rattle.answers.specs.Answers.{acceptedWith, acceptedOf, refusedOf}
 use Rattle.effects.specs.Effects.{isNominal, switchedOf, groupOffOf, groupStateOf, runOf}
 use Rattle.commands.specs.Step.{isStartup, turnedDown, decodedOf, transferredOf, commandedOf}

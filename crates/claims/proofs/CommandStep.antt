@@ -26,7 +26,7 @@ use Rattle.memory.specs.Memory.{savedOf}
 use Rattle.memory.specs.declared.Memory.{Memory}
 use Rattle.state.specs.Parts.{modeOf, withMemory, withMeasured, withChannels}
 use Rattle.state.specs.Start.{commandResetOf}
-use Rattle.state.specs.Change.{enteringOf}
+use Rattle.change.specs.Change.{enteringOf}
 use Rattle.state.specs.declared.parts.Board.{Board}
 use Rattle.answers.specs.Answers.{headerOf, acceptedWith, acceptedOf, refusedOf, notThisBoardOf}
 use Rattle.answers.specs.declared.Answer.{Answer}

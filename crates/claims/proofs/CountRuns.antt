@@ -19,7 +19,7 @@ use Rattle.watchdog.specs.Watchdog as dog
 use Rattle.memory.specs.Limits.{limitsOf, safetyLow, safetyHigh, timeoutOf}
 use Rattle.memory.specs.Memory.{emptyStore, loadedFrom}
 use Rattle.state.specs.Start.{freshOf, commandResetOf}
-use Rattle.state.specs.Change.{isDark, fromNominalToSafety, enteringOf, timerAfter, resetsAfter, leavesEmergency}
+use Rattle.change.specs.Change.{isDark, fromNominalToSafety, enteringOf, timerAfter, resetsAfter, leavesEmergency}
 use Rattle.answers.specs.Answers.{acceptedWith, acceptedOf}
 use Rattle.effects.specs.Effects.{isNominal, switchedOf, groupOnOf, restartedOf, runOf}
 use Rattle.commands.specs.Step.{isStartup, decodedOf, transferredOf, commandedOf}

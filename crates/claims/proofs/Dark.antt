@@ -21,7 +21,7 @@ use Rattle.memory.specs.Limits.{limitsOf}
 use Rattle.memory.specs.declared.Store.{Store}
 use Rattle.state.specs.Parts.{modeOf}
 use Rattle.state.specs.Start.{freshOf, neverReset, commandResetOf, watchdogResetOf}
-use Rattle.state.specs.Change.{isDark, enteringOf}
+use Rattle.change.specs.Change.{isDark, enteringOf}
 use Rattle.state.specs.declared.parts.Board.{Board}
 use Rattle.state.specs.declared.parts.Profile.{Profile}
 use Rattle.state.specs.declared.parts.Resets.{Resets}

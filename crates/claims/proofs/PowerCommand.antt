@@ -24,7 +24,7 @@ use Rattle.command.specs.declared.Decoded.{Decoded}
 use Rattle.command.specs.declared.Decoded.the-variants.{Run}
 use Rattle.state.specs.Parts.{modeOf}
 use Rattle.state.specs.Start.{commandResetOf}
-use Rattle.state.specs.Change.{isDark, fromNominalToSafety, enteringOf}
+use Rattle.change.specs.Change.{isDark, fromNominalToSafety, enteringOf}
 use Rattle.state.specs.declared.parts.Board.{Board}
 use Rattle.state.specs.declared.parts.Profile.{Profile}
 use Rattle.answers.specs.declared.Answer.the-variants.{Accepted}

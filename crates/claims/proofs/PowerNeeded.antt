@@ -37,7 +37,7 @@ use Rattle.memory.specs.declared.Memory.{Memory}
 use Rattle.memory.proofs.Examples.{default-limits}
 use Rattle.state.specs.Parts.{modeOf, withPhase}
 use Rattle.state.specs.Start.{freshOf, neverReset, keepsTheRules, startOf, commandResetOf, byCommand}
-use Rattle.state.specs.Change.{isDark, fromNominalToSafety, leavesEmergency, enteringOf, timerAfter, resetsAfter}
+use Rattle.change.specs.Change.{isDark, fromNominalToSafety, leavesEmergency, enteringOf, timerAfter, resetsAfter}
 use Rattle.state.specs.declared.parts.Board.{Board}
 use Rattle.state.specs.declared.parts.Profile.{Profile}
 use Rattle.answers.specs.Answers.{headerOf, acceptedWith, acceptedOf}

@@ -29,7 +29,7 @@ use Rattle.memory.specs.Limits.{timeoutOf, limitsOf}
 use Rattle.memory.specs.declared.Memory.{Memory}
 use Rattle.memory.proofs.Examples.{default-limits, default-timeout}
 use Rattle.state.specs.Parts.{modeOf}
-use Rattle.state.specs.Change.{isDark, timerAfter}
+use Rattle.change.specs.Change.{isDark, timerAfter}
 use Rattle.state.specs.declared.parts.Board.{Board}
 use Rattle.state.specs.Start.{freshOf, neverReset, keepsTheRules, startOf}
 use Rattle.answers.specs.declared.Outcome.the-variants.{NoTransfer}

@@ -15,7 +15,7 @@ use Rattle.command.specs.Decode.{fewerThanFour, headerIs, decodeBy, decodeOf}
 use Rattle.memory.specs.Memory.{emptyStore, loadedFrom, setIn}
 use Rattle.memory.specs.Limits.{safetyLow, safetyHigh, timeoutOf, limitsOf}
 use Rattle.state.specs.Start.{freshOf}
-use Rattle.state.specs.Change.{isDark, timerAfter}
+use Rattle.change.specs.Change.{isDark, timerAfter}
 use Rattle.answers.specs.Answers.{notThisBoardOf}
 use Rattle.commands.specs.Step.{isStartup, turnedDown, decodedOf, transferredOf, commandedOf}
 use Rattle.board.specs.Tick.{risenOf, changedOf, trippedOf, watchedIn, tickWith, allowedCount, tickOf}

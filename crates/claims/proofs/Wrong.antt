@@ -29,7 +29,7 @@ use Rattle.memory.specs.Memory.{emptyStore, loadedFrom}
 use Rattle.replies.specs.Layouts.{shortReply, faultsReply, channelWords}
 use Rattle.state.specs.Parts.{withPhase, withChannels}
 use Rattle.state.specs.Start.{freshOf, keepsTheRules, startOf, neverReset}
-use Rattle.state.specs.Change.{isDark, fromNominalToSafety, enteringOf, timerAfter, resetsAfter, leavesEmergency}
+use Rattle.change.specs.Change.{isDark, fromNominalToSafety, enteringOf, timerAfter, resetsAfter, leavesEmergency}
 use Rattle.answers.specs.Answers.{answerNumber, acceptedWith, acceptedOf, refusedOf, notThisBoardOf}
 use Rattle.answers.specs.declared.Answer.{Answer}
 use Rattle.answers.specs.declared.Answer.the-variants.{Accepted, FewerThanFourBytes, InStartup, NotThisBoard, CodeNotListed, TooShort, NotAvailable, Wrong}

@@ -3,7 +3,8 @@
 use mathlib.Core.{Path._≡_, Bool.true, Bool.false}
 use Prim.Native.Nat.{ℕ, _<_}
 use Rattle.channels.specs.Sets.{has}
-use Rattle.state.specs.{Parts.modeOf, Change.isDark, declared.parts.Board.Board}
+use Rattle.state.specs.{Parts.modeOf, declared.parts.Board.Board}
+use Rattle.change.specs.Change.{isDark}
 use Rattle.unit.specs.{declared.Machine.Machine, Runs.Sample, Runs.told, Runs.tick, Runs.Reached}
 use Rattle.claims.specs.Power.{isTick}
 

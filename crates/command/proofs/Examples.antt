@@ -1,20 +1,23 @@
--- Group masks by the length of the transfer, the first rows of document 01's boundary table, and boards with other
--- lists of codes. Assumes nothing.
+-- Group masks by the length of the transfer, the first rows of document 01's boundary table, and boards of another kind.
+-- Assumes nothing.
 use Prim.Native.Nat.{ℕ, _+_, _*_}
 use mathlib.Core.Path.{_≡_, refl, ap}
+use mathlib.Core.Bool.{true, false}
 use mathlib.Core.List.{List, [], _∷_, map}
 use native.Mathlib.Omega.{arith}
 use lib.ListN.{length}
 use borrow.Author.Tests.{le-ltb}
 use Rattle.wire.specs.Numbers.{number}
-use Rattle.command.specs.Codes.{isIn, baseCodes}
+use Rattle.kinds.specs.Kinds.{isIn}
+use Rattle.kinds.specs.declared.Kind.{Kind}
+use Rattle.kinds.specs.declared.Kind.the-variants.{Distribution, Battery}
 use Rattle.command.specs.Table.{commandTable, find}
-use Rattle.command.specs.Decode.{fewerThanFour, headerIs, groupIn, carried, listed, decodeBy, decodeOf}
+use Rattle.command.specs.Decode.{fewerThanFour, headerIs, groupIn, carried, listed, decodeOf}
 use Rattle.command.specs.declared.Group.{Group}
 use Rattle.command.specs.declared.Command.the-variants.{NoOperation, CancelOperation}
 use Rattle.command.specs.declared.Decoded.{Decoded}
 use Rattle.command.specs.declared.Decoded.the-variants.{Run, Refused}
-use Rattle.command.specs.declared.Refusal.the-variants.{FewerThanFourBytes, CodeNotListed}
+use Rattle.command.specs.declared.Refusal.the-variants.{FewerThanFourBytes, NotThisBoard, CodeNotListed}
 
 -- ---- the masks of a group command
 module _ (stid ivid code bid low high : ℕ) where
@@ -38,22 +41,25 @@ module _ (stid ivid code bid low high : ℕ) where
 
 -- ---- rows 1 to 4 of the boundary table: a NOOP, the same with one byte more, its first three bytes, and the code 0x03
 pub boundary : (more : ℕ)
-    → map (decodeOf (record { stid = 0x11; ivid = 0x07; bid = 0x01 }))
+    → map (decodeOf Distribution 0x01 false)
     ((0x11 ∷ 0x07 ∷ 0x02 ∷ 0x01 ∷ []) ∷ (0x11 ∷ 0x07 ∷ 0x02 ∷ 0x01 ∷ more ∷ []) ∷ (0x11 ∷ 0x07 ∷ 0x02 ∷ []) ∷ (0x11 ∷ 0x07 ∷ 0x03 ∷ 0x01 ∷ []) ∷ [])
     ≡ Run NoOperation ∷ Run NoOperation ∷ Refused FewerThanFourBytes ∷ Refused CodeNotListed ∷ []
-unfolding decodeOf decodeBy fewerThanFour headerIs isIn baseCodes listed carried find commandTable
+unfolding decodeOf fewerThanFour headerIs isIn listed carried find commandTable
 boundary more = refl
 
--- ---- a NOOP (0x02), a cancel (0x04) and the code 0x03, which no command has, by a board's list of codes
-abbrev three : List ℕ → List Decoded
-three codes =
-    map (decodeBy codes (record { stid = 0x11; ivid = 0x07; bid = 0x01 }))
-    ((0x11 ∷ 0x07 ∷ 0x02 ∷ 0x01 ∷ []) ∷ (0x11 ∷ 0x07 ∷ 0x04 ∷ 0x01 ∷ []) ∷ (0x11 ∷ 0x07 ∷ 0x03 ∷ 0x01 ∷ []) ∷ [])
+-- ---- a NOOP (0x02), a cancel (0x04) and the code 0x03, which no command has, each under two STIDs, by the kind of board
+abbrev six : Kind → List Decoded
+six kind =
+    map (decodeOf kind 0x01 false)
+    ((0x11 ∷ 0x07 ∷ 0x02 ∷ 0x01 ∷ []) ∷ (0x11 ∷ 0x07 ∷ 0x04 ∷ 0x01 ∷ []) ∷ (0x11 ∷ 0x07 ∷ 0x03 ∷ 0x01 ∷ [])
+    ∷ (0x12 ∷ 0x07 ∷ 0x02 ∷ 0x01 ∷ []) ∷ (0x12 ∷ 0x07 ∷ 0x04 ∷ 0x01 ∷ []) ∷ (0x12 ∷ 0x07 ∷ 0x03 ∷ 0x01 ∷ []) ∷ [])
 
-pub of-one : three (0x02 ∷ []) ≡ Run NoOperation ∷ Refused CodeNotListed ∷ Refused CodeNotListed ∷ []
-unfolding decodeBy fewerThanFour headerIs isIn listed carried find commandTable
-of-one = refl
+pub of-distribution : six Distribution
+    ≡ Run NoOperation ∷ Run CancelOperation ∷ Refused CodeNotListed ∷ Refused NotThisBoard ∷ Refused NotThisBoard ∷ Refused NotThisBoard ∷ []
+unfolding decodeOf fewerThanFour headerIs isIn listed carried find commandTable
+of-distribution = refl
 
-pub of-another : three (0x04 ∷ 0x03 ∷ []) ≡ Refused CodeNotListed ∷ Run CancelOperation ∷ Refused CodeNotListed ∷ []
-unfolding decodeBy fewerThanFour headerIs isIn listed carried find commandTable
-of-another = refl
+pub of-battery : six (Battery true)
+    ≡ Refused NotThisBoard ∷ Refused NotThisBoard ∷ Refused NotThisBoard ∷ Run NoOperation ∷ Refused CodeNotListed ∷ Refused CodeNotListed ∷ []
+unfolding decodeOf fewerThanFour headerIs isIn listed carried find commandTable
+of-battery = refl

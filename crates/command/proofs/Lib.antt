@@ -1,4 +1,3 @@
 pub mod Checks
-pub mod Listing
 pub mod Laws
 pub mod Examples

@@ -1,14 +1,17 @@
--- Document 01's table of refusals, for the checks that ask for neither mode nor state: the first that applies answers.
--- `7 when b` is a check with the number 7 that applies where b holds. Assumes nothing.
+-- Document 01's table of refusals, 1 to 7, in its order, for every kind of board: the first check that applies answers,
+-- and where none does the number is 0. This is the one list: the decoder promises its number with the mode alone, and
+-- the command step with all that a board brings. `7 when b` is a check with the number 7 that applies where b holds.
+-- Assumes nothing: these are definitions.
 use Prim.Native.Nat.{ℕ}
 use mathlib.Core.Bool.{Bool, true, false, cond, not, _&&_, _||_}
 use mathlib.Core.List.{List, [], _∷_}
 use lib.{Dec.ltb, Dec.eqb, ListN.length}
+use Rattle.kinds.specs.{Kinds.boardOf, Kinds.isIn, declared.Kind.Kind}
 use Rattle.value.specs.{Values.readOf, declared.Parsed.Parsed}
 use Rattle.settings.specs.{Table.parameterOf, declared.Parameter.Parameter}
 use Rattle.settings.specs.declared.Parameter.the-variants.{ReadWrite, ReadOnly, Unknown}
-use Rattle.command.specs.{Codes.isIn, Table.commandTable, Table.find}
-use Rattle.command.specs.Decode.{fewerThanFour, stidOf, ividOf, codeOf, bidOf, byteAfter, idOf, valuePart}
+use Rattle.command.specs.Table.{commandTable, find}
+use Rattle.command.specs.Decode.{fewerThanFour, headerOf, stidOf, ividOf, codeOf, bidOf, byteAfter, idOf, valuePart}
 use Rattle.command.specs.{declared.Listed.Listed, declared.Header.Header}
 use Rattle.command.specs.declared.Listed.the-variants.{Plain, Keyed, Missing}
 
@@ -24,12 +27,6 @@ first (n when b ∷ checks) = cond b n (first checks)
 -- the transfer is for another board, by one of its three identifiers
 unfoldable pub headerDiffers : Header → List ℕ → Bool
 headerDiffers board s = not (eqb (stidOf s) (board .stid)) || not (eqb (ividOf s) (board .ivid)) || not (eqb (bidOf s) (board .bid))
-
--- no command has the code
-abbrev pub noCommand : Listed → Bool
-noCommand (Plain name needed) = false
-noCommand (Keyed name needed key) = false
-noCommand Missing = true
 
 -- too few bytes for the command
 abbrev pub shorter : Listed → List ℕ → Bool
@@ -73,21 +70,31 @@ valueReads (ReadWrite t) value is = is (readOf t value)
 valueReads (ReadOnly t) value is = false
 valueReads Unknown value is = false
 
--- the checks behind that of the board's list of codes; a code that is in the list and that no command has is 4 too
-unfoldable pub checksOf : ℕ → List ℕ → List Check
-checksOf code s =
-    4 when noCommand (find commandTable code)
-    ∷ 5 when shorter (find commandTable code) s
-    ∷ 7 when keyWrong (find commandTable code) s
-    ∷ 7 when idWrong code (parameterOf (idOf s))
-    ∷ 5 when (eqb code 0x84 && valueReads (parameterOf (idOf s)) (valuePart s) isTooShort)
-    ∷ 7 when (eqb code 0x84 && valueReads (parameterOf (idOf s)) (valuePart s) isNaN)
-    ∷ []
+-- ---- what a transfer meets: the checks that ask for the mode, the rail or the state of a board, as the board has them
+pub record Meets : Type 0 where
+  pub startup : Bool
+  pub unavailable : Bool
+  pub channelWrong : Bool
+  pub checksumWrong : Bool
 
--- the checks of a transfer in their order, for a board with its own list of codes
-unfoldable pub checks : List ℕ → Header → List ℕ → List Check
-checks codes board s =
+-- the mode alone, startup or not, as the decoder is told it
+abbrev pub modeAlone : Bool → Meets
+modeAlone startup = record { startup = startup; unavailable = false; channelWrong = false; checksumWrong = false }
+
+-- ---- the table, for a board of a kind and a BID. For 0x84 the first 5 is for its id, and the 5 and the 7 behind the
+-- id's 7 are for its value.
+unfoldable pub checks : Kind → ℕ → Meets → List ℕ → List Check
+checks kind bid meets s =
     1 when fewerThanFour s
-    ∷ 3 when headerDiffers board s
-    ∷ 4 when not (isIn (codeOf s) codes)
-    ∷ checksOf (codeOf s) s
+    ∷ 2 when meets .startup
+    ∷ 3 when headerDiffers (headerOf kind bid) s
+    ∷ 4 when not (isIn (codeOf s) (boardOf kind .codes))
+    ∷ 5 when shorter (find commandTable (codeOf s)) s
+    ∷ 6 when meets .unavailable
+    ∷ 7 when keyWrong (find commandTable (codeOf s)) s
+    ∷ 7 when idWrong (codeOf s) (parameterOf (idOf s))
+    ∷ 5 when (eqb (codeOf s) 0x84 && valueReads (parameterOf (idOf s)) (valuePart s) isTooShort)
+    ∷ 7 when (eqb (codeOf s) 0x84 && valueReads (parameterOf (idOf s)) (valuePart s) isNaN)
+    ∷ 7 when meets .channelWrong
+    ∷ 7 when meets .checksumWrong
+    ∷ []

@@ -1,18 +1,19 @@
--- A transfer as a command, by document 01's checks in their order: the first that applies answers.
+-- A transfer as a command: what it carries, or why it is none. In which order the checks stand, `Checks` says.
 -- `getD s i 0` is the byte at i, `drop i s` what stands from i on, and `number n` the number of its first n bytes, the
 -- lowest first. Assumes nothing.
 use Prim.Native.Nat.{ℕ, _-_, _^_}
 use mathlib.Core.{Bool.Bool, Bool.cond, Bool.not, Bool._&&_, List.List}
 use lib.{Dec.ltb, Dec.eqb, ListN.length, ListN.drop, ListN.getD}
 use Rattle.wire.specs.Numbers.{number}
+use Rattle.kinds.specs.{Kinds.boardOf, Kinds.isIn, declared.Kind.Kind}
 use Rattle.value.specs.{Values.readOf, declared.Parsed.Parsed}
 use Rattle.settings.specs.{Table.parameterOf, declared.Parameter.Parameter}
 use Rattle.settings.specs.declared.Parameter.the-variants.{ReadWrite, ReadOnly, Unknown}
-use Rattle.command.specs.{Codes.isIn, Codes.baseCodes, Table.commandTable, Table.find, declared.Name.Name, declared.Listed.Listed}
+use Rattle.command.specs.{Table.commandTable, Table.find, declared.Name.Name, declared.Listed.Listed}
 use Rattle.command.specs.{declared.Header.Header, declared.Group.Group, declared.Decoded.Decoded}
 use Rattle.command.specs.declared.Listed.the-variants.{Plain, Keyed, Missing}
 use Rattle.command.specs.declared.Command.the-variants.{SystemReset, NoOperation, CancelOperation, Watchdog, GroupOn, GroupOff, GroupState, ChannelOn, ChannelOff, SwitchToNominal, SwitchToSafety, GetOvercurrentFaultState, GetHousekeeping, GetParameter, SetParameter, ResetParameter, ResetConfiguration, LoadConfiguration, SaveConfiguration}
-use Rattle.command.specs.declared.Refusal.the-variants.{FewerThanFourBytes, NotThisBoard, CodeNotListed, TooShort, WrongKey, WrongParameter, NotANumber}
+use Rattle.command.specs.declared.Refusal.the-variants.{FewerThanFourBytes, InStartup, NotThisBoard, CodeNotListed, TooShort, WrongKey, WrongParameter, NotANumber}
 use Rattle.command.specs.declared.Decoded.the-variants.{Run, Refused}
 
 -- ---- the header: STID, IVID, CC, BID
@@ -30,6 +31,10 @@ codeOf s = getD s 2 0
 
 abbrev pub bidOf : List ℕ → ℕ
 bidOf s = getD s 3 0
+
+-- what a board is called by: the STID of its kind, IVID 7 and its BID
+abbrev pub headerOf : Kind → ℕ → Header
+headerOf kind bid = record { stid = boardOf kind .stid; ivid = 7; bid = bid }
 
 unfoldable pub headerIs : Header → List ℕ → Bool
 headerIs board s = eqb (stidOf s) (board .stid) && eqb (ividOf s) (board .ivid) && eqb (bidOf s) (board .bid)
@@ -114,25 +119,20 @@ carried Name.ResetConfiguration s = Run ResetConfiguration
 carried Name.LoadConfiguration s = Run LoadConfiguration
 carried Name.SaveConfiguration s = Run (SaveConfiguration (checksumIn s))
 
--- ---- the checks in their order; 2 and 6, which ask for the mode, and 7 for a channel or a checksum are the board's
+-- ---- a code of the table: long enough, with its key, and then what it carries
 unfoldable pub listed : Listed → List ℕ → Decoded
-listed Missing s = Refused CodeNotListed  -- 4 as well: a code of the board's list that no command has
-listed (Plain name needed) s =
-    cond (ltb (length s) needed) (Refused TooShort)  -- 5
-    (carried name s)  -- 7, a parameter or its value
+listed Missing s = Refused CodeNotListed  -- no list of a kind has such a code
+listed (Plain name needed) s = cond (ltb (length s) needed) (Refused TooShort) (carried name s)
 listed (Keyed name needed key) s =
-    cond (ltb (length s) needed) (Refused TooShort)  -- 5
-    (cond (not (eqb (byteAfter s) key)) (Refused WrongKey)  -- 7
+    cond (ltb (length s) needed) (Refused TooShort)
+    (cond (not (eqb (byteAfter s) key)) (Refused WrongKey)
     (carried name s))
 
--- to a board with its own list of codes
-unfoldable pub decodeBy : List ℕ → Header → List ℕ → Decoded
-decodeBy codes board s =
-    cond (fewerThanFour s) (Refused FewerThanFourBytes)  -- 1
-    (cond (not (headerIs board s)) (Refused NotThisBoard)  -- 3
-    (cond (not (isIn (codeOf s) codes)) (Refused CodeNotListed)  -- 4
-    (listed (find commandTable (codeOf s)) s)))
-
--- to a board of the base
-unfoldable pub decodeOf : Header → List ℕ → Decoded
-decodeOf board s = decodeBy baseCodes board s
+-- ---- any transfer, to a board of a kind and a BID that is in startup or not; the order is that of `Checks`
+unfoldable pub decodeOf : Kind → ℕ → Bool → List ℕ → Decoded
+decodeOf kind bid startup s =
+    cond (fewerThanFour s) (Refused FewerThanFourBytes)
+    (cond startup (Refused InStartup)
+    (cond (not (headerIs (headerOf kind bid) s)) (Refused NotThisBoard)
+    (cond (not (isIn (codeOf s) (boardOf kind .codes))) (Refused CodeNotListed)
+    (listed (find commandTable (codeOf s)) s))))

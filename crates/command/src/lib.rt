@@ -1,10 +1,11 @@
-// Any transfer, decoded to a command or a refusal, for the checks that need neither mode nor state.
+// Any transfer, decoded to a command or a refusal, for the checks that need no more of a board than its kind, its BID
+// and whether it is in startup.
 ghost use mathlib.Core.Path.{_≡_};
-ghost use Rattle.command.specs.Codes.{isIn, baseCodes};
 ghost use Rattle.command.specs.Table.{commandTable, find};
-ghost use Rattle.command.specs.Decode.{fewerThanFour, headerIs, groupIn, getting, valued, setting, resetting, carried, listed, decodeBy};
-ghost use Rattle.command.specs.Checks.{first, checks};
+ghost use Rattle.command.specs.Decode.{fewerThanFour, headerOf, headerIs, groupIn, getting, valued, setting, resetting, carried, listed, decodeOf};
+ghost use Rattle.command.specs.Checks.{first, checks, modeAlone};
 ghost use Rattle.command.specs.Answers.{decodedNumber};
+use kinds::Kind;
 use settings::Parameter;
 use value::ParamValue;
 use value::Parsed;
@@ -78,6 +79,7 @@ pub enum Command {
 // Why a transfer is no command.
 pub enum Refusal {
     FewerThanFourBytes,
+    InStartup,
     NotThisBoard,
     CodeNotListed,
     TooShort,
@@ -92,8 +94,19 @@ pub enum Decoded {
     Refused(Refusal),
 }
 
-// Whether a transfer is too short to have a header: check 1, which a board asks before its mode.
-pub fn too_short(transfer: &[u8]) -> bool
+// What a board of a kind and a BID is called by.
+pub fn header_of(kind: Kind, bid: u8) -> Header
+    ensures { λ r. ⌜ r ≡ headerOf kind bid ⌝ }
+{
+    Header {
+        stid: kinds::stid(kind),
+        ivid: 7,
+        bid,
+    }
+}
+
+// Whether a transfer is too short to have a header.
+fn too_short(transfer: &[u8]) -> bool
     ensures { λ r. ⌜ r ≡ fewerThanFour (now (transfer .entry)) ⌝ }
 {
     transfer.len() < 4
@@ -110,47 +123,6 @@ fn is_for(board: Header, transfer: &[u8]) -> bool
         return false;
     }
     wire::byte(transfer, 3) == board.bid
-}
-
-// The base list of codes, for a board whose own list it is.
-pub fn base_codes() -> [u8; 19]
-    ensures { λ r. ⌜ r ≡ baseCodes ⌝ }
-{
-    [
-        0xAA,
-        0x02,
-        0x04,
-        0x06,
-        0x10,
-        0x12,
-        0x14,
-        0x16,
-        0x18,
-        0x30,
-        0x32,
-        0x42,
-        0x50,
-        0x82,
-        0x84,
-        0x86,
-        0x90,
-        0x92,
-        0x94,
-    ]
-}
-
-// Whether a code is in a list of codes.
-fn is_listed(codes: &[u8], code: u8) -> bool
-    ensures { λ r. ⌜ r ≡ isIn code (now (codes .entry)) ⌝ }
-{
-    let mut i = 0;
-    while i < codes.len() {
-        if codes[i] == code {
-            return true;
-        }
-        i += 1;
-    }
-    false
 }
 
 // What the table of commands says of a code.
@@ -296,17 +268,20 @@ fn by_list(entry: Listed, transfer: &[u8]) -> Decoded
     }
 }
 
-// What a transfer is to a board with its own header and list of codes: the first check that applies answers.
-pub fn decode(header: Header, codes: &[u8], transfer: &[u8]) -> Decoded
-    ensures { λ r. ⌜ r ≡ decodeBy (now (codes .entry)) header (now (transfer .entry)) ⌝ }
-    ensures number { λ r. ⌜ decodedNumber r ≡ first (checks (now (codes .entry)) header (now (transfer .entry))) ⌝ }
+// What a transfer is to a board of a kind and a BID that is in startup or not: the first check that applies answers.
+pub fn decode(kind: Kind, bid: u8, in_startup: bool, transfer: &[u8]) -> Decoded
+    ensures { λ r. ⌜ r ≡ decodeOf kind bid in_startup (now (transfer .entry)) ⌝ }
+    ensures number { λ r. ⌜ decodedNumber r ≡ first (checks kind bid (modeAlone in_startup) (now (transfer .entry))) ⌝ }
 {
     let code = wire::byte(transfer, 2);
     let short = too_short(transfer);
-    let ours = is_for(header, transfer);
-    let listed = is_listed(codes, code);
+    let ours = is_for(header_of(kind, bid), transfer);
+    let listed = kinds::lists(kind, code);
     if short {
         return Decoded::Refused(Refusal::FewerThanFourBytes);
+    }
+    if in_startup {
+        return Decoded::Refused(Refusal::InStartup);
     }
     if !ours {
         return Decoded::Refused(Refusal::NotThisBoard);

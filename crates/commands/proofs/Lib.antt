@@ -1,1 +1,4 @@
+pub mod Stepwise
+pub mod Order
+pub mod Told
 pub mod Whole

@@ -9,7 +9,7 @@ use Rattle.modes.specs.declared.Limits.{Limits}
 use Rattle.modes.specs.declared.ModeAnswer as change
 use Rattle.modes.specs.Commands.{toSafety, toNominal}
 use Rattle.channels.specs.declared.Channels.{Channels}
-use Rattle.command.specs.Decode.{fewerThanFour, codeOf, decodeOf}
+use Rattle.command.specs.Decode.{codeOf}
 use Rattle.command.specs.declared.Command.{Command}
 use Rattle.command.specs.declared.Refusal.{Refusal}
 use Rattle.command.specs.declared.Decoded.{Decoded}
@@ -17,14 +17,18 @@ use Rattle.memory.specs.Memory.{isRight, savedOf}
 use Rattle.state.specs.Parts.{modeOf, withReply, withMemory}
 use Rattle.state.specs.Start.{commandResetOf}
 use Rattle.state.specs.declared.parts.Board.{Board}
-use Rattle.answers.specs.Answers.{headerOf, acceptedWith, acceptedOf, refusedOf, notThisBoardOf}
+use Rattle.answers.specs.Answers.{toldNumber, acceptedWith, acceptedOf, refusedOf, notThisBoardOf}
 use Rattle.answers.specs.declared.Commanded.{Commanded}
 use Rattle.effects.specs.Effects.{isNominal, switchedOf, groupOnOf, groupOffOf, groupStateOf, channelOnOf, channelOffOf, cancelledOf, switchedModeOf, faultsOf, housekeepingOf, parameterAnswered, rememberedOf, savedIn, restartedOf, runOf}
-use Rattle.commands.specs.Step.{isStartup, turnedDown, decodedOf, transferredOf, commandedOf}
+use Rattle.asking.specs.Asked.{askedBy, askedOf}
+use Rattle.asking.specs.declared.Asked.{Asked}
+use Rattle.asking.specs.declared.Asked.the-variants as asked
+use Rattle.answering.specs.Answering.{memoryAfter, alters, isRestart, replyTo}
+use Rattle.commands.specs.Step.{readBy, commandedOf}
+use Rattle.commands.proofs.Stepwise.{turnedDown, decodedOf, steppedOf}
+use Rattle.commands.proofs.Told.{stepwise}
 use Rattle.effects.specs.Parts.{obeyedIn}
-use Rattle.commands.specs.Parts.{askedBy, askedOf, askedIn, memoryChangeAsked, memoryAfter, alters, isRestart, layoutAsked, replyTo}
-use Rattle.commands.specs.declared.asked.Asked.{Asked}
-use Rattle.commands.specs.declared.asked.Asked.the-variants as asked
+use Rattle.commands.specs.Parts.{askedIn, memoryChangeAsked, layoutAsked}
 use Rattle.effects.specs.declared.parts.Obeyed.{Obeyed}
 use Rattle.effects.specs.declared.parts.Layout.{Layout}
 use Rattle.effects.specs.declared.parts.Layout.the-variants.{Short}
@@ -113,6 +117,7 @@ module _ (rail : ℤ) (limits : Limits) (code : ℕ) (b : Board) where
   refused-as : (r : Refusal) → askedIn rail limits code (askedBy (Decoded.Refused r)) b ≡ turnedDown code r b
   unfolding askedIn turnedDown refusedOf notThisBoardOf
   refused-as Refusal.FewerThanFourBytes = refl
+  refused-as Refusal.InStartup = refl
   refused-as Refusal.NotThisBoard = refl
   refused-as Refusal.CodeNotListed = refl
   refused-as Refusal.TooShort = refl
@@ -125,18 +130,19 @@ module _ (rail : ℤ) (limits : Limits) (code : ℕ) (b : Board) where
   decoded-as (Decoded.Run c) = refl
   decoded-as (Decoded.Refused r) = refused-as r
 
-pub as-the-step : (rail : ℤ) (limits : Limits) (sent : Bool) (s : List ℕ) (b : Board) → askedIn rail limits (codeOf s) (askedOf (modeOf b) (headerOf (b .profile)) sent s) b ≡ commandedOf rail limits sent s b
-unfolding askedIn askedOf commandedOf transferredOf
-as-the-step rail limits sent s b =
-    cases (not sent) (λ n. rw n)
-    (λ n. cases (fewerThanFour s) (λ f. rw (n, f))
-    (λ f. cases (isStartup (modeOf b)) (λ i. rw (n, f, i))
-    (λ i. rw (n, f, i) (decoded-as rail limits (codeOf s) b (decodeOf (headerOf (b .profile)) s)))))
+-- what a board is asked
+abbrev pub askedOfBoard : Bool → List ℕ → Board → Asked
+askedOfBoard sent s b = askedOf (b .profile .kind) (b .profile .bid) (modeOf b) sent s
+
+pub as-the-step : (rail : ℤ) (limits : Limits) (sent : Bool) (s : List ℕ) (b : Board) → askedIn rail limits (codeOf s) (askedOfBoard sent s b) b ≡ commandedOf rail limits sent s b
+unfolding askedIn askedOf commandedOf steppedOf
+as-the-step rail limits true s b = decoded-as rail limits (codeOf s) b (readBy b s) ∙ sym (stepwise rail limits s b)
+as-the-step rail limits false s b = refl
 
 -- ---- a board that was changed part after part, as the code changes it
 module _ (rail : ℤ) (limits : Limits) (sent : Bool) (s : List ℕ) (b : Board) (a : Asked) (told : Obeyed) (how : MemoryChange) (b₁ b₂ : Board) where
   pub record Obeying : Type 0 where
-    pub asks : a ≡ askedOf (modeOf b) (headerOf (b .profile)) sent s
+    pub asks : a ≡ askedOfBoard sent s b
     pub tells : told ≡ obeyedIn (askedIn rail limits 0 a b)
     pub keeps : how ≡ memoryChangeAsked a
     pub alters-it : b₁ ≡ altered how b

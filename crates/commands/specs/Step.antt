@@ -1,46 +1,46 @@
--- Step 4 of a tick: document 01's checks in their order, the first that applies answers. Checks 1, 3, 4, 5 and 7 for
--- key, id and value are the decoder's; 6, and 7 for channel and checksum, are each command's own. Assumes nothing:
--- these are definitions.
+-- Step 4 of a tick: document 01's table. The first check that applies gives the number, and by it what is returned and
+-- left. Assumes nothing: these are definitions.
 use Prim.Native.Nat.{ℕ}
-use mathlib.Core.{Bool.Bool, Bool.true, Bool.false, Bool.cond, Bool.not, List.List}
+use mathlib.Core.{Bool.Bool, Bool.cond, Bool.not, List.List, Option.Option, Option.none, Option.some}
 use lib.IntN.{ℤ}
-use Rattle.modes.specs.{declared.Mode.Mode, declared.Limits.Limits}
-use Rattle.modes.specs.declared.Mode.the-variants.{Startup, Nominal, Safety, Emergency}
-use Rattle.command.specs.{Decode.fewerThanFour, Decode.codeOf, Decode.decodeOf, declared.Refusal.Refusal, declared.Decoded.Decoded}
+use Rattle.modes.specs.declared.Limits.{Limits}
+use Rattle.command.specs.{Checks.first, Decode.codeOf, Decode.decodeOf, declared.Decoded.Decoded}
 use Rattle.command.specs.declared.Decoded.the-variants.{Run, Refused}
 use Rattle.state.specs.{Parts.modeOf, declared.parts.Board.Board}
-use Rattle.answers.specs.{Answers.headerOf, Answers.silentOf, Answers.refusedOf, Answers.notThisBoardOf, declared.Answer.Answer}
-use Rattle.answers.specs.declared.Commanded.{Commanded}
-use Rattle.effects.specs.Effects.{runOf}
+use Rattle.answers.specs.Answers.{answerOf, silentOf, refusedOf, notThisBoardOf}
+use Rattle.answers.specs.{declared.Answer.Answer, declared.Commanded.Commanded}
+use Rattle.answers.specs.declared.Answer.the-variants.{Accepted, FewerThanFourBytes, InStartup, NotThisBoard, CodeNotListed, TooShort, NotAvailable, Wrong}
 use Rattle.answers.specs.declared.Outcome.the-variants.{NoTransfer, Answered}
+use Rattle.effects.specs.Effects.{runOf}
+use Rattle.asking.specs.Checks.{isStartup, checksOf}
 
-unfoldable pub isStartup : Mode → Bool
-isStartup Startup = true
-isStartup Nominal = false
-isStartup Safety = false
-isStartup Emergency = false
+-- the command that a transfer is to a board, and what it does; a transfer that none of the checks refuses is a command
+abbrev pub doneOf : ℤ → Limits → ℕ → Decoded → Board → Commanded
+doneOf rail limits code (Run c) b = runOf rail limits code c b
+doneOf rail limits code (Refused r) b = silentOf (Answered Accepted) b
 
--- what the decoder refuses
-unfoldable pub turnedDown : ℕ → Refusal → Board → Commanded
-turnedDown code Refusal.FewerThanFourBytes b = silentOf (Answered Answer.FewerThanFourBytes) b  -- 1
-turnedDown code Refusal.NotThisBoard b = notThisBoardOf code b  -- 3
-turnedDown code Refusal.CodeNotListed b = refusedOf Answer.CodeNotListed code b  -- 4
-turnedDown code Refusal.TooShort b = refusedOf Answer.TooShort code b  -- 5
-turnedDown code Refusal.WrongKey b = refusedOf Answer.Wrong code b  -- 7
-turnedDown code Refusal.WrongParameter b = refusedOf Answer.Wrong code b  -- 7
-turnedDown code Refusal.NotANumber b = refusedOf Answer.Wrong code b  -- 7
+abbrev pub readBy : Board → List ℕ → Decoded
+readBy b s = decodeOf (b .profile .kind) (b .profile .bid) (isStartup (modeOf b)) s
 
-unfoldable pub decodedOf : ℤ → Limits → ℕ → Decoded → Board → Commanded
-decodedOf rail limits code (Run c) b = runOf rail limits code c b
-decodedOf rail limits code (Refused r) b = turnedDown code r b
+-- what each answer returns and leaves
+unfoldable pub returning : Answer → ℤ → Limits → List ℕ → Board → Commanded
+returning Accepted rail limits s b = doneOf rail limits (codeOf s) (readBy b s) b  -- 0
+returning FewerThanFourBytes rail limits s b = silentOf (Answered FewerThanFourBytes) b  -- 1
+returning InStartup rail limits s b = silentOf (Answered InStartup) b  -- 2
+returning NotThisBoard rail limits s b = notThisBoardOf (codeOf s) b  -- 3
+returning CodeNotListed rail limits s b = refusedOf CodeNotListed (codeOf s) b  -- 4
+returning TooShort rail limits s b = refusedOf TooShort (codeOf s) b  -- 5
+returning NotAvailable rail limits s b = refusedOf NotAvailable (codeOf s) b  -- 6
+returning Wrong rail limits s b = refusedOf Wrong (codeOf s) b  -- 7
 
 -- a transfer of any length
 unfoldable pub transferredOf : ℤ → Limits → List ℕ → Board → Commanded
-transferredOf rail limits s b =
-    cond (fewerThanFour s) (silentOf (Answered Answer.FewerThanFourBytes) b)  -- 1
-    (cond (isStartup (modeOf b)) (silentOf (Answered Answer.InStartup) b)  -- 2
-    (decodedOf rail limits (codeOf s) (decodeOf (headerOf (b .profile)) s) b))  -- 3 to 7, and 0
+transferredOf rail limits s b = returning (answerOf (first (checksOf rail limits b s))) rail limits s b
 
 -- no transfer, or one
 unfoldable pub commandedOf : ℤ → Limits → Bool → List ℕ → Board → Commanded
 commandedOf rail limits sent s b = cond (not sent) (silentOf NoTransfer b) (transferredOf rail limits s b)
+
+-- the number that is told: none where there is no transfer
+unfoldable pub numberOf : ℤ → Limits → Bool → List ℕ → Board → Option ℕ
+numberOf rail limits sent s b = cond (not sent) none (some (first (checksOf rail limits b s)))

@@ -12,8 +12,9 @@ use Rattle.channels.specs.declared.Channels.{Channels}
 use Rattle.command.specs.{declared.Group.Group, declared.Command.Command}
 use Rattle.memory.specs.{Memory.loadOf, Memory.defaultedOf, Memory.setIn, Memory.resetIn, Memory.savedOf, declared.Memory.Memory}
 use Rattle.replies.specs.Layouts.{faultsReply, housekeepingReply, parameterReply}
-use Rattle.state.specs.{Parts.modeOf, Parts.withPhase, Parts.withMemory, Parts.withChannels, Parts.withMeasured, Start.commandResetOf}
-use Rattle.state.specs.{Change.enteringOf, declared.parts.Board.Board, declared.parts.Measured.Measured}
+use Rattle.state.specs.{Parts.modeOf, Parts.wordsOf, Parts.withPhase, Parts.withMemory, Parts.withChannels, Parts.withMeasured, Start.commandResetOf}
+use Rattle.state.specs.{declared.parts.Board.Board, declared.parts.Measured.Measured}
+use Rattle.change.specs.Change.{enteringOf}
 use Rattle.answers.specs.Answers.{headerOf, new, silentOf, acceptedWith, acceptedOf, refusedOf}
 use Rattle.answers.specs.{Parameters.valueRead, declared.Commanded.Commanded}
 use Rattle.answers.specs.declared.Answer.the-variants.{Accepted, NotAvailable, Wrong}
@@ -71,18 +72,19 @@ faultsOf code b =
     (replyOf (faultsReply (headerOf (b .profile)) code new (b .channels .on) (b .channels .latched) (b .channels .counts)))
     b
 
--- ---- 0x50: the words, as NEW only where the board remembers that they are; from now on they are not
+-- ---- 0x50: the words that count, as NEW only where the board remembers that they are new as raw readings; from now on
+-- they are not
 abbrev pub newWhere : Bool → ℕ
 newWhere fresh = cond fresh new 0x00
 
 abbrev pub seen : Measured → Measured
-seen m = record { words = m .words; fresh = false }
+seen m = record { words = m .words; fresh = record { raw = false; engineering = m .fresh .engineering } }
 
 unfoldable pub housekeepingOf : ℕ → Board → Commanded
 housekeepingOf code b =
     acceptedWith
     (replyOf
-    (housekeepingReply (headerOf (b .profile)) code (newWhere (b .measured .fresh)) (b .channels .on) (b .channels .latched) (b .measured .words)))
+    (housekeepingReply (headerOf (b .profile)) code (newWhere (b .measured .fresh .raw)) (b .channels .on) (b .channels .latched) (wordsOf b)))
     (withMeasured (seen (b .measured)) b)
 
 -- ---- 0x82, 0x84 and 0x86: a parameter is read, set, or reset; the reply has the value that the id then reads

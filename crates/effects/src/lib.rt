@@ -19,6 +19,7 @@ pub use parts::Layout;
 pub use parts::MemoryChange;
 pub use parts::Obeyed;
 use state::Board;
+use state::Fresh;
 use switching::cancelled;
 use switching::channel_off;
 use switching::channel_on;
@@ -59,24 +60,24 @@ pub fn only_fed(b: Board, answer: Answer) -> Obeyed
 }
 
 // 0x30 and 0x32: the mode, and with it the channels, where the change is available.
-fn switched_mode(b: Board, change: modes::ModeAnswer) -> Obeyed
-    ensures { λ r. ⌜ r ≡ obeyedIn (switchedModeOf anyCode change b) ⌝ }
+fn switched_mode(b: Board, asked: modes::ModeAnswer) -> Obeyed
+    ensures { λ r. ⌜ r ≡ obeyedIn (switchedModeOf anyCode asked b) ⌝ }
 {
-    match change {
+    match asked {
         modes::ModeAnswer::Accepted(phase) => {
-            let channels = state::entering(b.phase.mode(), phase.mode(), b.profile, b.channels);
+            let channels = change::entering(b.phase.mode(), phase.mode(), b.profile, b.channels);
             accepted(b, phase, channels)
         }
         modes::ModeAnswer::Unavailable => only_fed(b, Answer::NotAvailable),
     }
 }
 
-// 0x50: the measured words are no longer new.
+// 0x50: the measured words are no longer new as raw readings.
 fn housekeeping(b: Board) -> Obeyed
     ensures { λ r. ⌜ r ≡ obeyedIn (housekeepingOf anyCode b) ⌝ }
 {
     let mut told = only_fed(b, Answer::Accepted);
-    told.fresh = false;
+    told.fresh.raw = false;
     told
 }
 
@@ -102,7 +103,10 @@ fn restarted(b: Board) -> Obeyed
         timer: 0,
         channels,
         outcome: Outcome::Answered(Answer::Accepted),
-        fresh: false,
+        fresh: Fresh {
+            raw: false,
+            engineering: false,
+        },
         replied: false,
     }
 }

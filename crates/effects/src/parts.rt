@@ -3,6 +3,7 @@
 use answers::Outcome;
 use channels::Channels;
 use modes::ModeAge;
+use state::Fresh;
 use value::ParamValue;
 
 // Mode and age, timer, channels, and whether the words are new, as a transfer leaves them; what the tick tells of it,
@@ -12,7 +13,7 @@ pub struct Obeyed {
     pub timer: u64,
     pub channels: Channels,
     pub outcome: Outcome,
-    pub fresh: bool,
+    pub fresh: Fresh,
     pub replied: bool,
 }
 

@@ -42,7 +42,7 @@ use Rattle.memory.specs.Memory.{savedOf}
 use Rattle.memory.specs.declared.Memory.{Memory}
 use Rattle.state.specs.Parts.{modeOf}
 use Rattle.state.specs.Start.{freshOf, commandResetOf}
-use Rattle.state.specs.Change.{isDark, fromNominalToSafety, enteringOf}
+use Rattle.change.specs.Change.{isDark, fromNominalToSafety, enteringOf}
 use Rattle.state.specs.declared.parts.Board.{Board}
 use Rattle.answers.specs.Answers.{toldNumber, headerOf, acceptedWith, acceptedOf, refusedOf, notThisBoardOf}
 use Rattle.answers.specs.declared.Answer.{Answer}

@@ -51,15 +51,15 @@ pub fn housekeeping(
     stat: u8,
     on: u32,
     latched: u32,
-    words: [u16; 122],
+    words: &[u16],
 ) -> Reply
-    ensures { λ r. ⌜ r ≡ replyOf (housekeepingReply board code stat on latched words) ⌝ }
+    ensures { λ r. ⌜ r ≡ replyOf (housekeepingReply board code stat on latched (now (words .entry))) ⌝ }
 {
     let four = channel_words(on, latched);
     longer(board, code, stat)
-        .append_words(&words[0..5])
+        .append_words(wire::first_words(words, 5))
         .append_words(&four)
-        .append_words(&words[5..])
+        .append_words(wire::rest_words(words, 5))
 }
 
 // The reply of 0x82, 0x84 and 0x86: the id, then as many bytes as the value has.

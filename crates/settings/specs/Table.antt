@@ -4,6 +4,8 @@
 use Prim.Native.Nat.{ℕ, zero, suc, _-_, _/_, _^_}
 use mathlib.Core.{Bool.Bool, Bool.cond, Bool._&&_, List.List, List.[], List._∷_, List._++_}
 use lib.{Dec.leb, Dec.eqb, IntN.ℤ, IntN.pos, IntN.negsuc, Signed.ltZ, Signed.leZ}
+use Rattle.kinds.specs.Kinds.{boardOf}
+use Rattle.kinds.specs.declared.Kind.the-variants.{Distribution}
 use Rattle.value.specs.declared.ValueType.{ValueType}
 use Rattle.value.specs.declared.ValueType.the-variants.{Int8, Uint8, Int16, Uint16, Int32, Uint32, Float, Int64, Uint64, Double}
 use Rattle.value.specs.Types.{Sign, Signed, Unsigned, signIn, bytesIn, codeOf, typeTable as types}
@@ -59,7 +61,14 @@ pub data Row : Type 0 where
   _to_are_with_default_ : ℕ → ℕ → ValueType → Range → ℕ → Row
   _to_are-read_ : ℕ → ℕ → ValueType → Row
 
--- ---- Table 3-25, from the lowest id to the highest: the defaults are the distribution board's, and "n/a" is 0
+-- ---- Table 3-25, from the lowest id to the highest, where "n/a" is 0; the defaults that differ between the boards are
+-- the distribution board's
+abbrev pub enabled : ℕ
+enabled = boardOf Distribution .enabled
+
+abbrev pub key : ℕ
+key = boardOf Distribution .key
+
 unfoldable pub readWriteRows : List Row
 readWriteRows =
     0x1000 to 0x1000 are Int8 with any default 0  -- (internal)
@@ -93,10 +102,10 @@ readWriteRows =
     ∷ 0x4042 to 0x4042 are Uint16 with any default 12400  -- SAFETY_VOLT_LOTHR
     ∷ 0x4043 to 0x4043 are Uint16 with any default 14000  -- SAFETY_VOLT_HITHR
     ∷ 0x6000 to 0x6001 are Uint32 with any default 0  -- (internal)
-    ∷ 0x6002 to 0x6002 are Uint32 with any default 0x00000111  -- CH_STARTUP_ENA_BF
-    ∷ 0x6003 to 0x6003 are Uint32 with any default 0x11111222  -- CH_STARTUP_KEY
-    ∷ 0x6004 to 0x6004 are Uint32 with any default 0x00000111  -- CH_LATCHOFF_ENA_BF
-    ∷ 0x6005 to 0x6005 are Uint32 with any default 0x11111222  -- CH_LATCHOFF_KEY
+    ∷ 0x6002 to 0x6002 are Uint32 with any default enabled  -- CH_STARTUP_ENA_BF
+    ∷ 0x6003 to 0x6003 are Uint32 with any default key  -- CH_STARTUP_KEY
+    ∷ 0x6004 to 0x6004 are Uint32 with any default enabled  -- CH_LATCHOFF_ENA_BF
+    ∷ 0x6005 to 0x6005 are Uint32 with any default key  -- CH_LATCHOFF_KEY
     ∷ []
 
 -- ---- Table 3-26: the parameters that are only read

@@ -9,6 +9,8 @@ use Rattle.wire.proofs.float_bits64.Reads as float-bits64
 use Rattle.wire.proofs.byte.Reads as byte
 use Rattle.wire.proofs.rest.Reads as rest
 use Rattle.wire.proofs.first.Reads as first
+use Rattle.wire.proofs.first_words.Reads as first-words
+use Rattle.wire.proofs.rest_words.Reads as rest-words
 use Rattle.wire.proofs.le16.Reads as le16
 use Rattle.wire.proofs.le32.Reads as le32
 use Rattle.wire.proofs.le64.Reads as le64
@@ -49,6 +51,12 @@ single-rest κ a r r′ s s′ p q = p ∙ sym q
 
 pub single-first : Single first.Post (λ κ r s. now r)
 single-first κ a r r′ s s′ p q = p ∙ sym q
+
+pub single-first-words : Single first-words.Post (λ κ r s. now r)
+single-first-words κ a r r′ s s′ p q = p ∙ sym q
+
+pub single-rest-words : Single rest-words.Post (λ κ r s. now r)
+single-rest-words κ a r r′ s s′ p q = p ∙ sym q
 
 pub single-le16 : Single le16.Post (λ κ r s. r)
 single-le16 κ a r r′ s s′ p q = p ∙ sym q

@@ -1,13 +1,28 @@
--- A board with one part changed and all others as they were: there is no shorter way to write this. Assumes nothing:
--- these are definitions.
+-- A profile of a distribution board; and a board with one part changed and all others as they were, which there is no
+-- shorter way to write. Assumes nothing: these are definitions.
 use Prim.Native.Nat.{ℕ}
+use mathlib.Core.List.{List}
+use lib.ListN.{take}
 use Rattle.wire.specs.{declared.reply.Reply.Reply, declared.forms.Form.Form}
 use Rattle.channels.specs.declared.Channels.{Channels}
+use Rattle.kinds.specs.{Kinds.boardOf, declared.Kind.Kind}
+use Rattle.kinds.specs.declared.Kind.the-variants.{Distribution}
 use Rattle.modes.specs.{declared.ModeAge.ModeAge, declared.Mode.Mode}
 use Rattle.memory.specs.declared.Memory.{Memory}
 use Rattle.state.specs.{declared.parts.Board.Board, declared.parts.Cause.Cause, declared.parts.Measured.Measured}
+use Rattle.state.specs.declared.parts.Profile.{Profile}
 use Rattle.state.specs.declared.parts.Resets.{Resets}
 use Rattle.state.specs.declared.parts.Cause.the-variants.{PowerOn, Watchdog, Commanded, Emergency}
+
+abbrev pub distributionBoard : ℕ → ℕ → ℕ → Profile
+distributionBoard bid fitted forced = record { fitted = fitted; forced = forced; bid = bid; kind = Distribution }
+
+-- how many measured words a board has, and those of the room that count
+abbrev pub wordCount : Board → ℕ
+wordCount b = boardOf (b .profile .kind) .words
+
+abbrev pub wordsOf : Board → List ℕ
+wordsOf b = take (wordCount b) (b .measured .words)
 
 -- the mode that a board is in
 abbrev pub modeOf : Board → Mode

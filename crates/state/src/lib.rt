@@ -1,16 +1,14 @@
-// What a board is made of, how it starts and starts over, and what a change of mode brings with it.
-mod change;
+// What a board is made of, how it starts and starts over.
 mod parts;
 mod starting;
 
-pub use change::entering;
-pub use change::resets_after;
-pub use change::timer_after;
 pub use parts::Board;
 pub use parts::Cause;
+pub use parts::Fresh;
 pub use parts::Measured;
 pub use parts::Profile;
 pub use parts::Resets;
+pub use parts::distribution;
 pub use parts::read;
 pub use parts::with_form;
 pub use starting::StartAnswer;

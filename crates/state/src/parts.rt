@@ -2,8 +2,9 @@
 ghost use mathlib.Core.Path.{_≡_};
 ghost use lib.ListN.{length};
 ghost use Rattle.wire.specs.Replies.{found};
-ghost use Rattle.state.specs.Parts.{withForm};
+ghost use Rattle.state.specs.Parts.{distributionBoard, withForm};
 use channels::Channels;
+use kinds::Kind;
 use memory::Memory;
 use modes::ModeAge;
 use wire::Form;
@@ -14,6 +15,7 @@ pub struct Profile {
     pub fitted: u32,
     pub forced: u32,
     pub bid: u8,
+    pub kind: Kind,
 }
 
 // Why a board last started over, or that it left emergency since.
@@ -32,10 +34,16 @@ pub struct Resets {
     pub cause: Cause,
 }
 
-// The measured words, and whether they are still new: brought, and not yet told by a 0x50.
+// Whether the measured words are still new, brought and not yet told: as raw readings, and as engineering readings.
+pub struct Fresh {
+    pub raw: bool,
+    pub engineering: bool,
+}
+
+// The measured words, of which as many count as the kind of board has, and whether they are still new.
 pub struct Measured {
-    pub words: [u16; 122],
-    pub fresh: bool,
+    pub words: [u16; 130],
+    pub fresh: Fresh,
 }
 
 pub struct Board {
@@ -48,6 +56,19 @@ pub struct Board {
     pub measured: Measured,
     pub resets: Resets,
     pub form: Form,
+}
+
+// The profile of a distribution board.
+pub fn distribution(bid: u8, fitted: u32, forced: u32) -> Profile
+    ensures { λ r. ⌜ r ≡ distributionBoard bid fitted forced ⌝ }
+{
+    let kind = Kind::Distribution;
+    Profile {
+        fitted,
+        forced,
+        bid,
+        kind,
+    }
 }
 
 // A bus read: the lent buffer then holds the waiting reply from its first byte and after it 0xFF. The board stays as it

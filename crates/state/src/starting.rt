@@ -1,12 +1,14 @@
 // Starting a board, and starting it over.
 ghost use mathlib.Core.Path.{_≡_};
 ghost use mathlib.Core.Bool.{cond};
-ghost use Rattle.state.specs.Start.{neverReset, freshOf, keepsTheRules, unstartedBoard, startOf, startNumber, byWatchdog, byCommand, watchdogResetOf, commandResetOf};
+ghost use Rattle.state.specs.Start.{neverReset, freshOf, bidInRange, anyFitted, channelsInPlace, storedInRange, keepsTheRules, unstartedBoard, startOf, startNumber, byWatchdog, byCommand, watchdogResetOf, commandResetOf};
 use crate::parts::Board;
 use crate::parts::Cause;
+use crate::parts::Fresh;
 use crate::parts::Measured;
 use crate::parts::Profile;
 use crate::parts::Resets;
+use crate::parts::distribution;
 use channels::Channels;
 use memory::Memory;
 use memory::Store;
@@ -47,8 +49,11 @@ fn fresh(profile: Profile, store: Store, resets: Resets) -> Board
     let memory = Memory::loaded(store);
     let channels = Channels::clear();
     let measured = Measured {
-        words: [0u16; 122],
-        fresh: false,
+        words: [0u16; 130],
+        fresh: Fresh {
+            raw: false,
+            engineering: false,
+        },
     };
     Board {
         phase,
@@ -63,38 +68,75 @@ fn fresh(profile: Profile, store: Store, resets: Resets) -> Board
     }
 }
 
-// Whether a profile, with what is stored, keeps the rules of a profile.
-fn keeps_the_rules(profile: Profile, store: Store) -> bool
-    ensures { λ r. ⌜ r ≡ keepsTheRules profile store ⌝ }
+// Whether the BID of a profile is one of its kind's.
+fn bid_in_range(profile: Profile) -> bool
+    ensures { λ r. ⌜ r ≡ bidInRange profile ⌝ }
 {
     if profile.bid < 1 {
         return false;
     }
-    if profile.bid > 8 {
+    let kind = profile.kind;
+    profile.bid <= kinds::last_bid(kind)
+}
+
+// Whether at least one channel is fitted, on a board that has a place for any.
+fn any_fitted(places: u32, fitted: u32) -> bool
+    ensures { λ r. ⌜ r ≡ anyFitted places fitted ⌝ }
+{
+    if places == 0 {
+        return true;
+    }
+    fitted != 0
+}
+
+// Whether the channels of a profile are as its kind of board allows: at least one is fitted where any can be, each
+// fitted one has a place, and each force-enabled one is fitted.
+fn channels_in_place(profile: Profile) -> bool
+    ensures { λ r. ⌜ r ≡ channelsInPlace profile ⌝ }
+{
+    let kind = profile.kind;
+    let places = kinds::places(kind);
+    if !any_fitted(places, profile.fitted) {
         return false;
     }
-    if profile.fitted == 0 {
+    if !channels::within(profile.fitted, places) {
         return false;
     }
-    if !channels::within(profile.forced, profile.fitted) {
-        return false;
-    }
+    channels::within(profile.forced, profile.fitted)
+}
+
+// Whether the values that are stored, if any are, lie in range.
+fn stored_in_range(store: Store) -> bool
+    ensures { λ r. ⌜ r ≡ storedInRange store ⌝ }
+{
     if store.held {
         return settings::in_range(store.settings);
     }
     true
 }
 
+// Whether a profile, with what is stored, keeps the rules of a profile.
+fn keeps_the_rules(profile: Profile, store: Store) -> bool
+    ensures { λ r. ⌜ r ≡ keepsTheRules profile store ⌝ }
+{
+    let kind = profile.kind;
+    if !kinds::is_served(kind) {
+        return false;
+    }
+    if !bid_in_range(profile) {
+        return false;
+    }
+    if !channels_in_place(profile) {
+        return false;
+    }
+    stored_in_range(store)
+}
+
 // A board of no profile, to stand where none was started yet: it has no channel and the BID 0, which no profile has.
 pub fn unstarted() -> Board
     ensures { λ r. ⌜ r ≡ unstartedBoard ⌝ }
 {
-    let profile = Profile {
-        fitted: 0,
-        forced: 0,
-        bid: 0,
-    };
-    fresh(profile, Store::empty(), never_reset())
+    fresh(distribution(0, 0, 0), Store::empty(), never_reset())
 }
 
 // A board from a profile and what is stored; where the profile breaks a rule, the board that was there stays.

@@ -15,52 +15,55 @@ use Rattle.board.proofs.bring.Statement.{statement}
 use Rattle.board.proofs.bring.Tie as tie
 
 abbrev Inv-loop : tie.InvT-loop
-Inv-loop fresh held words brought₀ i₀ brought i = (i ≤ 122) × (brought ≡ paste brought₀ 0 words i)
+Inv-loop number held words count brought₀ i₀ brought i = (i ≤ count) × (brought ≡ paste brought₀ 0 words i)
 
 abbrev μ-loop : tie.MeasureT-loop
-μ-loop fresh held words brought₀ i₀ brought i = 122 - i
+μ-loop number held words count brought₀ i₀ brought i = count - i
 
 returns : tie.Need-returns Inv-loop μ-loop
 unfolding broughtBy
-returns c = rw (ne-eqb (length (now (c .before .args .words))) 122 (λ e. omega arith))
+returns c = rw (ne-eqb (length (now (c .before .before .args .words))) (c .before .before .args .number) (λ e. omega arith))
+
+within-room-requires : tie.Need-within-room-requires Inv-loop μ-loop
+within-room-requires c κs = search needs
 
 loop-holds : tie.Need-loop-holds Inv-loop μ-loop
-loop-holds c = (omega arith, paste-zero (replicate 122 0) 0 (now (c .before .args .words)))
+loop-holds c = (omega arith, paste-zero (replicate 130 0) 0 (now (c .before .before .before .args .words)))
 
 mul-brought : tie.Need-mul-brought Inv-loop μ-loop
 mul-brought c = search needs
 
 shared-slice-read-brought : tie.Need-shared-slice-read-brought Inv-loop μ-loop
-shared-slice-read-brought c = omega arith
+shared-slice-read-brought c = omega (arith, c .before .before .before .within-room .ensures)
 
 mul-brought-2 : tie.Need-mul-brought-2 Inv-loop μ-loop
 mul-brought-2 c = search needs
 
 array-write-brought : tie.Need-array-write-brought Inv-loop μ-loop
-array-write-brought c = search needs
+array-write-brought c = omega (arith, c .before .before .before .within-room .ensures)
 
 add-i : tie.Need-add-i Inv-loop μ-loop
-add-i c = search needs
+add-i c = omega (arith, c .before .before .before .within-room .ensures)
 
 loop-less : tie.Need-loop-less Inv-loop μ-loop
-loop-less c = search needs
+loop-less c = omega arith
 
 loop-again : tie.Need-loop-again Inv-loop μ-loop
 loop-again c =
     let k = c .before .before .loop in
-    let ws = now (c .before .before .before .before .args .words) in
-    let d : List ℕ = replicate 122 0 in
-    let l : length d ≡ 122 = length-replicate {A = ℕ} 122 0 in
-    (omega arith, one-more d 0 ws (k .i) (k .i) (getD ws (k .i) 0) (k .brought) (k .inv .1) (omega arith) (omega arith) (omega arith) (omega arith))
+    let ws = now (c .before .before .before .before .before .before .args .words) in
+    let d : List ℕ = replicate 130 0 in
+    let l : length d ≡ 130 = length-replicate {A = ℕ} 130 0 in
+    let n = c .before .before .before .within-room .ensures in
+    (omega arith, one-more d 0 ws (k .i) (k .i) (getD ws (k .i) 0) (k .brought) (k .inv .1) (omega arith) (omega arith) (omega (arith, n)) (omega (arith, n)))
 
 returns-2 : tie.Need-returns-2 Inv-loop μ-loop
 unfolding broughtBy
 returns-2 c =
     let k = c .before .loop in
-    let ws = now (c .before .before .before .args .words) in
-    let d : List ℕ = replicate 122 0 in
-    let l : length d ≡ 122 = length-replicate {A = ℕ} 122 0 in
-    rw (eq-eqb (length ws) 122 (omega arith), copied d ws (k .brought) (k .i) (omega arith) (omega arith) (k .inv .1))
+    let ws = now (c .before .before .before .before .before .args .words) in
+    let n = c .before .before .within-room .ensures in
+    rw (eq-eqb (length ws) (c .before .before .before .before .before .args .number) (omega arith), copied ws (k .brought) (k .i) (omega (arith, n)) (k .inv .1))
 
 pub bring-spec : {M : Type 1} → statement M
 bring-spec =
@@ -69,6 +72,7 @@ bring-spec =
     Inv-loop
     μ-loop
     returns
+    within-room-requires
     loop-holds
     mul-brought
     shared-slice-read-brought

@@ -6,7 +6,7 @@ use borrow.Author.Needs.{needs}
 use Rattle.modes.specs.declared.Mode.{Mode}
 use Rattle.channels.specs.Operations.{overcurrentAt}
 use Rattle.channels.specs.declared.Channels.{Channels}
-use Rattle.state.specs.Change.{enteringOf}
+use Rattle.change.specs.Change.{enteringOf}
 use Rattle.state.specs.declared.parts.Profile.{Profile}
 use Rattle.board.proofs.channels_after.Statement.{statement}
 use Rattle.board.proofs.channels_after.Tie as tie

@@ -1,63 +1,89 @@
--- The length, then the header, then the board's list of codes, and behind them what the table says of the code.
+-- The length and the mode, then the header, then the list of codes, and behind them what the table says of the code.
 use mathlib.Core.Path.{_≡_, sym, _∙_}
 use mathlib.Core.Bool.{true, false}
 use borrow.Author.Tests.{not-true, not-false}
-use Rattle.command.specs.Decode.{decodeBy}
-use borrow.Author.Needs.{needs}
+use Rattle.command.specs.Decode.{decodeOf}
 use Rattle.command.proofs.Laws.{with-answer}
+use borrow.Author.Needs.{needs}
 use Rattle.command.proofs.decode.Statement.{statement}
 use Rattle.command.proofs.decode.Tie as tie
+use Rattle.command.proofs.decode.Reads as reads
+use Rattle.command.proofs.decode.Lts as lts
+use Rattle.command.proofs.by_list.Reads as by-list-reads
+use Rattle.command.proofs.header_of.Reads as header-of-reads
+use Rattle.command.proofs.is_for.Reads as is-for-reads
+use Rattle.command.proofs.listed_as.Reads as listed-as-reads
+use Rattle.command.proofs.too_short.Reads as too-short-reads
+use Rattle.kinds.proofs.lists.Reads as lists-reads
+use Rattle.wire.proofs.byte.Reads as byte-reads
 
+-- src/lib.rt:276:9
 byte-requires : tie.Need-byte-requires
 byte-requires c κs = search needs
 
+-- src/lib.rt:277:9
 too-short-requires : tie.Need-too-short-requires
 too-short-requires c κs = search needs
 
+-- src/lib.rt:278:23
+header-of-requires : tie.Need-header-of-requires
+header-of-requires c κs = search needs
+
+-- src/lib.rt:278:9
 is-for-requires : tie.Need-is-for-requires
 is-for-requires c κs = search needs
 
-is-listed-requires : tie.Need-is-listed-requires
-is-listed-requires c κs = search needs
+-- src/lib.rt:279:9
+lists-requires : tie.Need-lists-requires
+lists-requires c κs = search needs
 
+-- src/lib.rt:281:9
 returns : tie.Need-returns
-unfolding decodeBy
+unfolding decodeOf
 returns c =
-    let short : c .before .before .before .too-short .result ≡ true = search needs in
     let a = c .before .before .before .before .before .before .before .args in
-    with-answer (a .codes .now) (a .header) (a .transfer .now) (rw (sym (c .before .before .before .too-short .ensures) ∙ short))
+    with-answer (a .kind) (a .bid) (a .in-startup) (a .transfer .now) (rw (sym (c .before .before .before .before .too-short .ensures) ∙ c .if1 .taken))
 
+-- src/lib.rt:284:9
 returns-2 : tie.Need-returns-2
-unfolding decodeBy
+unfolding decodeOf
 returns-2 c =
-    let long : c .before .before .before .before .too-short .result ≡ false = search needs in
-    let foreign : c .before .before .before .is-for .result ≡ false = not-true (c .before .before .before .is-for .result) (search needs) in
     let a = c .before .before .before .before .before .before .before .before .args in
-    with-answer (a .codes .now) (a .header) (a .transfer .now) (rw (sym (c .before .before .before .before .too-short .ensures) ∙ long, sym (c .before .before .before .is-for .ensures) ∙ foreign))
+    with-answer (a .kind) (a .bid) (a .in-startup) (a .transfer .now) (rw (sym (c .before .before .before .before .before .too-short .ensures) ∙ c .before .if1 .left, c .if2 .taken))
 
+-- src/lib.rt:287:9
 returns-3 : tie.Need-returns-3
-unfolding decodeBy
+unfolding decodeOf
 returns-3 c =
-    let long : c .before .before .before .before .before .too-short .result ≡ false = search needs in
-    let ours : c .before .before .before .before .is-for .result ≡ true = not-false (c .before .before .before .before .is-for .result) (search needs) in
-    let unlisted : c .before .before .before .is-listed .result ≡ false = not-true (c .before .before .before .is-listed .result) (search needs) in
     let a = c .before .before .before .before .before .before .before .before .before .args in
-    with-answer (a .codes .now) (a .header) (a .transfer .now) (rw (sym (c .before .before .before .before .before .too-short .ensures) ∙ long, sym (c .before .before .before .before .is-for .ensures) ∙ ours, sym (c .before .before .before .before .before .before .byte .ensures), sym (c .before .before .before .is-listed .ensures) ∙ unlisted))
+    let foreign : c .before .before .before .before .is-for .result ≡ false = not-true (c .before .before .before .before .is-for .result) (c .if3 .taken) in
+    with-answer (a .kind) (a .bid) (a .in-startup) (a .transfer .now) (rw (sym (c .before .before .before .before .before .before .too-short .ensures) ∙ c .before .before .if1 .left, c .before .if2 .left, ← c .before .before .before .before .before .header-of .ensures, sym (c .before .before .before .before .is-for .ensures) ∙ foreign))
 
+-- src/lib.rt:290:9
+returns-4 : tie.Need-returns-4
+unfolding decodeOf
+returns-4 c =
+    let a = c .before .before .before .before .before .before .before .before .before .before .args in
+    let ours : c .before .before .before .before .before .is-for .result ≡ true = not-false (c .before .before .before .before .before .is-for .result) (c .before .if3 .left) in
+    let unlisted : c .before .before .before .before .lists .result ≡ false = not-true (c .before .before .before .before .lists .result) (c .if4 .taken) in
+    with-answer (a .kind) (a .bid) (a .in-startup) (a .transfer .now) (rw (sym (c .before .before .before .before .before .before .before .too-short .ensures) ∙ c .before .before .before .if1 .left, c .before .before .if2 .left, ← c .before .before .before .before .before .before .header-of .ensures, sym (c .before .before .before .before .before .is-for .ensures) ∙ ours, sym (c .before .before .before .before .before .before .before .before .byte .ensures), sym (c .before .before .before .before .lists .ensures) ∙ unlisted))
+
+-- src/lib.rt:292:13
 listed-as-requires : tie.Need-listed-as-requires
 listed-as-requires c κs = search needs
 
+-- src/lib.rt:292:5
 by-list-requires : tie.Need-by-list-requires
 by-list-requires c κs = search needs
 
-returns-4 : tie.Need-returns-4
-unfolding decodeBy
-returns-4 c =
-    let long : c .before .before .before .before .before .before .before .too-short .result ≡ false = search needs in
-    let ours : c .before .before .before .before .before .before .is-for .result ≡ true = not-false (c .before .before .before .before .before .before .is-for .result) (search needs) in
-    let listed : c .before .before .before .before .before .is-listed .result ≡ true = not-false (c .before .before .before .before .before .is-listed .result) (search needs) in
-    let a = c .before .before .before .before .before .before .before .before .before .before .before .args in
-    with-answer (a .codes .now) (a .header) (a .transfer .now) (rw (sym (c .before .before .before .before .before .before .before .too-short .ensures) ∙ long, sym (c .before .before .before .before .before .before .is-for .ensures) ∙ ours, sym (c .before .before .before .before .before .before .before .before .byte .ensures), sym (c .before .before .before .before .before .is-listed .ensures) ∙ listed, c .by-list .ensures, c .before .listed-as .ensures))
+-- src/lib.rt:272:1
+returns-5 : tie.Need-returns-5
+unfolding decodeOf
+returns-5 c =
+    let a = c .before .before .before .before .before .before .before .before .before .before .before .before .args in
+    let ours : c .before .before .before .before .before .before .before .is-for .result ≡ true = not-false (c .before .before .before .before .before .before .before .is-for .result) (c .before .before .before .if3 .left) in
+    let listed : c .before .before .before .before .before .before .lists .result ≡ true = not-false (c .before .before .before .before .before .before .lists .result) (c .before .before .if4 .left) in
+    with-answer (a .kind) (a .bid) (a .in-startup) (a .transfer .now) (rw (sym (c .before .before .before .before .before .before .before .before .before .too-short .ensures) ∙ c .before .before .before .before .before .if1 .left, c .before .before .before .before .if2 .left, ← c .before .before .before .before .before .before .before .before .header-of .ensures, sym (c .before .before .before .before .before .before .before .is-for .ensures) ∙ ours, sym (c .before .before .before .before .before .before .before .before .before .before .byte .ensures), sym (c .before .before .before .before .before .before .lists .ensures) ∙ listed, c .by-list .ensures, c .before .listed-as .ensures))
 
 pub decode-spec : {M : Type 1} → statement M
 decode-spec =
@@ -65,11 +91,13 @@ decode-spec =
     (tie.spec
     byte-requires
     too-short-requires
+    header-of-requires
     is-for-requires
-    is-listed-requires
+    lists-requires
     returns
     returns-2
     returns-3
+    returns-4
     listed-as-requires
     by-list-requires
-    returns-4)
+    returns-5)

@@ -9,7 +9,7 @@ only-fed-requires c κs = search needs
 
 returns : tie.Need-returns
 unfolding housekeepingOf acceptedWith refusedOf
-returns c = rw (c .only-fed .ensures)
+returns c = rw (c .before .only-fed .ensures)
 
 pub housekeeping-spec : {M : Type 1} → statement M
 housekeeping-spec = tie.close (tie.spec only-fed-requires returns)

@@ -8,7 +8,7 @@ kept-requires c κs = search needs
 
 returns : tie.Need-returns
 unfolding refusedOf
-returns c = rw (c .before .kept .ensures)
+returns c = rw (c .before .before .kept .ensures)
 
 pub only-fed-spec : {M : Type 1} → statement M
 only-fed-spec = tie.close (tie.spec kept-requires returns)

@@ -4,8 +4,8 @@ use borrow.Author.Needs.{needs}
 use Rattle.effects.proofs.switched_mode.Statement.{statement}
 use Rattle.effects.proofs.switched_mode.Tie as tie
 
-enum-known-change : tie.Need-enum-known-change
-enum-known-change c = search needs
+enum-known-asked : tie.Need-enum-known-asked
+enum-known-asked c = search needs
 
 mode-requires : tie.Need-mode-requires
 mode-requires c κs = search needs
@@ -27,7 +27,7 @@ only-fed-requires c κs = search needs
 
 returns : tie.Need-returns
 unfolding switchedModeOf
-returns c = rw (c .before .before .before .before .before .change .given .1, c .accepted .ensures, c .before .entering .ensures, c .before .before .before .mode .ensures, c .before .before .mode2 .ensures)
+returns c = rw (c .before .before .before .before .before .asked .given .1, c .accepted .ensures, c .before .entering .ensures, c .before .before .before .mode .ensures, c .before .before .mode2 .ensures)
 
 returns-2 : tie.Need-returns-2
 unfolding switchedModeOf
@@ -37,7 +37,7 @@ pub switched-mode-spec : {M : Type 1} → statement M
 switched-mode-spec =
     tie.close
     (tie.spec
-    enum-known-change
+    enum-known-asked
     mode-requires
     mode-requires-2
     entering-requires

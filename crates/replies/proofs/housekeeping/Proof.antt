@@ -1,78 +1,64 @@
--- Five words, the channel words and the other words are one row behind the six bytes. The first five are told one by
--- one, so that another order shows two different numbers.
-use native.Mathlib.Omega.{arith}
-use mathlib.Core.Path.{_≡_, refl}
-use lib.ListN.{length, drop, length-drop}
-use lib.Seq.{take-all}
-use Rattle.wire.proofs.LittleEndian.{cons-eq}
+-- Five words, the channel words and the other words are one row behind the six bytes.
 use Rattle.wire.proofs.Room.{after-replyOf}
-use Rattle.replies.specs.Layouts.{channelWords}
-use Rattle.replies.proofs.Parts.{start, after-words, same-row, first-five, housekeeping-row}
+use Rattle.replies.proofs.Parts.{after-words, housekeeping-row}
 use borrow.Author.Needs.{needs}
 use Rattle.replies.proofs.housekeeping.Statement.{statement}
 use Rattle.replies.proofs.housekeeping.Tie as tie
+use Rattle.replies.proofs.housekeeping.Reads as reads
+use Rattle.replies.proofs.housekeeping.Lts as lts
+use Rattle.replies.proofs.channel_words.Reads as channel-words-reads
+use Rattle.replies.proofs.longer.Reads as longer-reads
+use Rattle.wire.proofs.first_words.Reads as first-words-reads
+use Rattle.wire.proofs.rest_words.Reads as rest-words-reads
+use Rattle.wire.proofs.reply.Reply.append_words.Reads as append-words-reads
 
+-- src/lib.rt:58:16
 channel-words-requires : tie.Need-channel-words-requires
 channel-words-requires c κs = search needs
 
+-- src/lib.rt:59:5
 longer-requires : tie.Need-longer-requires
 longer-requires c κs = search needs
 
-sub-append-words : tie.Need-sub-append-words
-sub-append-words c = search needs
+-- src/lib.rt:60:23
+first-words-requires : tie.Need-first-words-requires
+first-words-requires c κs = search needs
 
-part-append-words-start : tie.Need-part-append-words-start
-part-append-words-start c = search needs
-
-part-append-words-end : tie.Need-part-append-words-end
-part-append-words-end c = search needs
-
+-- src/lib.rt:59:5
 append-words-requires : tie.Need-append-words-requires
 append-words-requires c κs = search needs
 
+-- src/lib.rt:61:23
 slice-aggregate-append-words : tie.Need-slice-aggregate-append-words
 slice-aggregate-append-words c = search needs
 
+-- src/lib.rt:59:5
 append-words-requires-2 : tie.Need-append-words-requires-2
 append-words-requires-2 c κs = search needs
 
-sub-append-words-2 : tie.Need-sub-append-words-2
-sub-append-words-2 c = search needs
+-- src/lib.rt:62:23
+rest-words-requires : tie.Need-rest-words-requires
+rest-words-requires c κs = search needs
 
-part-append-words-start-2 : tie.Need-part-append-words-start-2
-part-append-words-start-2 c = search needs
-
-part-append-words-end-2 : tie.Need-part-append-words-end-2
-part-append-words-end-2 c = search needs
-
+-- src/lib.rt:59:5
 append-words-requires-3 : tie.Need-append-words-requires-3
 append-words-requires-3 c κs = search needs
 
--- told at the start, where it is near
-all-words : (c : tie.Start) → length (c .args .t6) ≡ 122
-all-words c = search needs
-
+-- src/lib.rt:48:1
 returns : tie.Need-returns
-unfolding channelWords
-returns c =
-    let a = c .before .before .before .before .before .before .before .before .before .before .args in
-    let l = all-words (c .before .before .before .before .before .before .before .before .before .before) in
-    rw (
+returns c = rw (
       c .append-words3 .ensures,
-      c .before .before .before .append-words2 .ensures,
-      c .before .before .before .before .before .append-words .ensures,
-      c .before .before .before .before .before .before .before .before .longer .ensures,
+      c .before .before .append-words2 .ensures,
+      c .before .before .before .before .append-words .ensures,
+      c .before .before .before .before .before .before .longer .ensures,
       after-replyOf,
       after-words,
       after-words,
-      c .before .before .before .before .before .before .before .before .before .channel-words .ensures,
+      c .before .before .before .before .before .before .before .channel-words .ensures,
+      c .before .before .before .before .before .first-words .ensures,
+      c .before .rest-words .ensures,
       housekeeping-row,
-      first-five (a .t6) (omega arith),
-      take-all 117 (drop 5 (a .t6)) (omega (arith, length-drop 5 (a .t6))),
     )
-    (same-row (start (a .board) (a .code) (a .stat))
-    (cons-eq (omega arith) (cons-eq (omega arith) (cons-eq (omega arith) (cons-eq (omega arith) (cons-eq (omega arith)
-    (cons-eq (omega arith) (cons-eq (omega arith) (cons-eq (omega arith) (cons-eq (omega arith) refl))))))))))
 
 pub housekeeping-spec : {M : Type 1} → statement M
 housekeeping-spec =
@@ -80,14 +66,10 @@ housekeeping-spec =
     (tie.spec
     channel-words-requires
     longer-requires
-    sub-append-words
-    part-append-words-start
-    part-append-words-end
+    first-words-requires
     append-words-requires
     slice-aggregate-append-words
     append-words-requires-2
-    sub-append-words-2
-    part-append-words-start-2
-    part-append-words-end-2
+    rest-words-requires
     append-words-requires-3
     returns)

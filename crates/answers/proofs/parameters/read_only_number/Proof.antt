@@ -5,6 +5,9 @@ use borrow.Author.Needs.{needs}
 use Rattle.answers.proofs.parameters.read_only_number.Statement.{statement}
 use Rattle.answers.proofs.parameters.read_only_number.Tie as tie
 
+stid-requires : tie.Need-stid-requires
+stid-requires c κs = search needs
+
 cast-result : tie.Need-cast-result
 cast-result c = search needs
 
@@ -14,11 +17,11 @@ cast-result-2 c = search needs
 cast-result-3 : tie.Need-cast-result-3
 cast-result-3 c = search needs
 
-cause-number-requires : tie.Need-cause-number-requires
-cause-number-requires c κs = search needs
-
 cast-result-4 : tie.Need-cast-result-4
 cast-result-4 c = search needs
+
+cause-number-requires : tie.Need-cause-number-requires
+cause-number-requires c κs = search needs
 
 cast-result-5 : tie.Need-cast-result-5
 cast-result-5 c = search needs
@@ -35,33 +38,36 @@ cast-result-8 c = search needs
 cast-result-9 : tie.Need-cast-result-9
 cast-result-9 c = search needs
 
-safety-low-requires : tie.Need-safety-low-requires
-safety-low-requires c κs = search needs
-
 cast-result-10 : tie.Need-cast-result-10
 cast-result-10 c = search needs
 
-safety-high-requires : tie.Need-safety-high-requires
-safety-high-requires c κs = search needs
+safety-low-requires : tie.Need-safety-low-requires
+safety-low-requires c κs = search needs
 
 cast-result-11 : tie.Need-cast-result-11
 cast-result-11 c = search needs
 
+safety-high-requires : tie.Need-safety-high-requires
+safety-high-requires c κs = search needs
+
 cast-result-12 : tie.Need-cast-result-12
 cast-result-12 c = search needs
-
-timeout-requires : tie.Need-timeout-requires
-timeout-requires c κs = search needs
 
 cast-result-13 : tie.Need-cast-result-13
 cast-result-13 c = search needs
 
+timeout-requires : tie.Need-timeout-requires
+timeout-requires c κs = search needs
+
 cast-result-14 : tie.Need-cast-result-14
 cast-result-14 c = search needs
 
+cast-result-15 : tie.Need-cast-result-15
+cast-result-15 c = search needs
+
 returns : tie.Need-returns
 unfolding readOnlyNumber numberIn
-returns c = rw (c .match .keys1)
+returns c = rw (c .before .match .keys1, c .stid .ensures)
 
 returns-2 : tie.Need-returns-2
 unfolding readOnlyNumber numberIn
@@ -135,24 +141,26 @@ pub read-only-number-spec : {M : Type 1} → statement M
 read-only-number-spec =
     tie.close
     (tie.spec
+    stid-requires
     cast-result
     cast-result-2
     cast-result-3
-    cause-number-requires
     cast-result-4
+    cause-number-requires
     cast-result-5
     cast-result-6
     cast-result-7
     cast-result-8
     cast-result-9
-    safety-low-requires
     cast-result-10
-    safety-high-requires
+    safety-low-requires
     cast-result-11
+    safety-high-requires
     cast-result-12
-    timeout-requires
     cast-result-13
+    timeout-requires
     cast-result-14
+    cast-result-15
     returns
     returns-2
     returns-3

@@ -1,51 +1,62 @@
 -- Rule by rule, the first that is broken decides.
-use native.Mathlib.Omega.{arith}
 use mathlib.Core.Path.{sym, _∙_}
-use borrow.Author.Tests.{le-leb, lt-leb, eq-eqb, ne-eqb, not-true, not-false}
+use borrow.Author.Tests.{not-true, not-false}
 use Rattle.state.specs.Start.{keepsTheRules}
 use borrow.Author.Needs.{needs}
 use Rattle.state.proofs.starting.keeps_the_rules.Statement.{statement}
 use Rattle.state.proofs.starting.keeps_the_rules.Tie as tie
+use Rattle.state.proofs.starting.keeps_the_rules.Reads as reads
+use Rattle.state.proofs.starting.keeps_the_rules.Lts as lts
+use Rattle.kinds.proofs.is_served.Reads as is-served-reads
+use Rattle.state.proofs.starting.bid_in_range.Reads as bid-in-range-reads
+use Rattle.state.proofs.starting.channels_in_place.Reads as channels-in-place-reads
+use Rattle.state.proofs.starting.stored_in_range.Reads as stored-in-range-reads
 
+-- src/starting.rt:115:9
+is-served-requires : tie.Need-is-served-requires
+is-served-requires c κs = search needs
+
+-- src/starting.rt:116:9
 returns : tie.Need-returns
 unfolding keepsTheRules
-returns c = rw (lt-leb 1 (c .before .before .args .profile .bid) (omega arith))
+returns c = rw (sym (c .before .is-served .ensures) ∙ not-true (c .before .is-served .result) (c .if1 .taken))
 
+-- src/starting.rt:118:9
+bid-in-range-requires : tie.Need-bid-in-range-requires
+bid-in-range-requires c κs = search needs
+
+-- src/starting.rt:119:9
 returns-2 : tie.Need-returns-2
 unfolding keepsTheRules
-returns-2 c = rw (le-leb 1 (c .before .before .before .before .args .profile .bid) (omega arith), lt-leb (c .before .before .before .before .args .profile .bid) 8 (omega arith))
+returns-2 c = rw (sym (c .before .before .before .is-served .ensures) ∙ not-false (c .before .before .before .is-served .result) (c .before .before .if1 .left), sym (c .before .bid-in-range .ensures) ∙ not-true (c .before .bid-in-range .result) (c .if2 .taken))
 
+-- src/starting.rt:121:9
+channels-in-place-requires : tie.Need-channels-in-place-requires
+channels-in-place-requires c κs = search needs
+
+-- src/starting.rt:122:9
 returns-3 : tie.Need-returns-3
 unfolding keepsTheRules
-returns-3 c = rw (le-leb 1 (c .before .before .before .before .before .before .args .profile .bid) (omega arith), le-leb (c .before .before .before .before .before .before .args .profile .bid) 8 (omega arith), eq-eqb (c .before .before .before .before .before .before .args .profile .fitted) 0 (omega arith))
+returns-3 c = rw (sym (c .before .before .before .before .before .is-served .ensures) ∙ not-false (c .before .before .before .before .before .is-served .result) (c .before .before .before .before .if1 .left), sym (c .before .before .before .bid-in-range .ensures) ∙ not-false (c .before .before .before .bid-in-range .result) (c .before .before .if2 .left), sym (c .before .channels-in-place .ensures) ∙ not-true (c .before .channels-in-place .result) (c .if3 .taken))
 
-within-requires : tie.Need-within-requires
-within-requires c κs = search needs
+-- src/starting.rt:124:5
+stored-in-range-requires : tie.Need-stored-in-range-requires
+stored-in-range-requires c κs = search needs
 
+-- src/starting.rt:111:1
 returns-4 : tie.Need-returns-4
 unfolding keepsTheRules
-returns-4 c = rw (le-leb 1 (c .before .before .before .before .before .before .before .before .args .profile .bid) (omega arith), le-leb (c .before .before .before .before .before .before .before .before .args .profile .bid) 8 (omega arith), ne-eqb (c .before .before .before .before .before .before .before .before .args .profile .fitted) 0 (λ e. omega arith), sym (c .before .within .ensures) ∙ not-true (c .before .within .result) (c .if4 .taken))
-
-in-range-requires : tie.Need-in-range-requires
-in-range-requires c κs = search needs
-
-returns-5 : tie.Need-returns-5
-unfolding keepsTheRules
-returns-5 c = rw (le-leb 1 (c .before .before .before .before .before .before .before .before .before .before .args .profile .bid) (omega arith), le-leb (c .before .before .before .before .before .before .before .before .before .before .args .profile .bid) 8 (omega arith), ne-eqb (c .before .before .before .before .before .before .before .before .before .before .args .profile .fitted) 0 (λ e. omega arith), sym (c .before .before .before .within .ensures) ∙ not-false (c .before .before .before .within .result) (c .before .before .if4 .left), c .before .if5 .taken, c .in-range .ensures)
-
-returns-6 : tie.Need-returns-6
-unfolding keepsTheRules
-returns-6 c = rw (le-leb 1 (c .before .before .before .before .before .before .before .before .before .args .profile .bid) (omega arith), le-leb (c .before .before .before .before .before .before .before .before .before .args .profile .bid) 8 (omega arith), ne-eqb (c .before .before .before .before .before .before .before .before .before .args .profile .fitted) 0 (λ e. omega arith), sym (c .before .before .within .ensures) ∙ not-false (c .before .before .within .result) (c .before .if4 .left), c .if5 .left)
+returns-4 c = rw (sym (c .before .before .before .before .before .before .is-served .ensures) ∙ not-false (c .before .before .before .before .before .before .is-served .result) (c .before .before .before .before .before .if1 .left), sym (c .before .before .before .before .bid-in-range .ensures) ∙ not-false (c .before .before .before .before .bid-in-range .result) (c .before .before .before .if2 .left), sym (c .before .before .channels-in-place .ensures) ∙ not-false (c .before .before .channels-in-place .result) (c .before .if3 .left), c .stored-in-range .ensures)
 
 pub keeps-the-rules-spec : {M : Type 1} → statement M
 keeps-the-rules-spec =
     tie.close
     (tie.spec
+    is-served-requires
     returns
+    bid-in-range-requires
     returns-2
+    channels-in-place-requires
     returns-3
-    within-requires
-    returns-4
-    in-range-requires
-    returns-5
-    returns-6)
+    stored-in-range-requires
+    returns-4)

@@ -1,0 +1,136 @@
+// What an answered transfer leaves to be read, and what it leaves of the memory.
+ghost use mathlib.Core.Path.{_≡_};
+ghost use lib.ListN.{take};
+ghost use Rattle.wire.specs.Replies.{replyOf};
+ghost use Rattle.replies.specs.Layouts.{housekeepingReply};
+ghost use Rattle.effects.specs.Effects.{newWhere};
+ghost use Rattle.answering.specs.Answering.{statTold, replyTo, alters, isRestart, memoryAfter};
+use answers::Outcome;
+use answers::Received;
+use answers::header;
+use answers::stat;
+use answers::value_read;
+use channels::Channels;
+use command::Header;
+use effects::Layout;
+use effects::MemoryChange;
+use memory::Memory;
+use state::Board;
+use wire::Reply;
+
+// The status code of what a tick tells of its transfer; 0 stands where there is no answer, and is never sent.
+fn stat_told(outcome: Outcome) -> u8
+    ensures { λ r. ⌜ r ≡ statTold outcome ⌝ }
+{
+    match outcome {
+        Outcome::WrongWordCount => 0,
+        Outcome::NoTransfer => 0,
+        Outcome::Answered(answer) => stat(answer),
+    }
+}
+
+// The status of an accepted 0x50: NEW where words came since the last one.
+fn new_where(fresh: bool) -> u8
+    ensures { λ r. ⌜ r ≡ newWhere fresh ⌝ }
+{
+    if fresh {
+        return 0x80;
+    }
+    0x00
+}
+
+// The reply of 0x50 of a board with these channels and the first of these words, as many as count.
+fn housekeeping(
+    own: Header,
+    code: u8,
+    stat: u8,
+    c: Channels,
+    words: [u16; 130],
+    count: usize,
+) -> Reply
+    ensures { λ r. ⌜ r ≡ replyOf (housekeepingReply own code stat (c .on) (c .latched) (take count words)) ⌝ }
+{
+    let counted = wire::first_words(&words, count);
+    replies::housekeeping(own, code, stat, c.on(), c.latched(), counted)
+}
+
+// The reply of a board whose memory is as after the command and whose words are as new as before it, with the board's
+// own header and not the one that was received.
+pub fn reply_to(b: Board, received: Received, outcome: Outcome, layout: Layout) -> Reply
+    ensures { λ r. ⌜ r ≡ replyTo (received .code) outcome layout b ⌝ }
+{
+    let own = header(b.profile);
+    let c = b.channels;
+    match layout {
+        Layout::Short => replies::short(own, received.code, stat_told(outcome)),
+        Layout::Faults => replies::faults(
+            own,
+            received.code,
+            0x80,
+            c.on(),
+            c.latched(),
+            c.counts(),
+        ),
+        Layout::Housekeeping => {
+            let m = b.measured;
+            let words = m.words;
+            let profile = b.profile;
+            let kind = profile.kind;
+            let count = kinds::word_count(kind);
+            let stat = new_where(m.fresh.raw);
+            housekeeping(own, received.code, stat, c, words, count)
+        }
+        Layout::Parameter(id) => {
+            let value = value_read(b.profile, b.memory, b.resets, id);
+            replies::parameter(own, received.code, 0x80, id, value)
+        }
+    }
+}
+
+// Whether the memory may be altered, other than by starting over.
+pub fn is_altering(change: MemoryChange) -> bool
+    ensures { λ r. ⌜ r ≡ alters change ⌝ }
+{
+    match change {
+        MemoryChange::AsBefore => false,
+        MemoryChange::Set(_, _) => true,
+        MemoryChange::ResetOne(_) => true,
+        MemoryChange::Defaults => true,
+        MemoryChange::Load => true,
+        MemoryChange::Save(_) => true,
+        MemoryChange::Restart => false,
+    }
+}
+
+// Whether the board starts over.
+pub fn is_restart(change: MemoryChange) -> bool
+    ensures { λ r. ⌜ r ≡ isRestart change ⌝ }
+{
+    match change {
+        MemoryChange::AsBefore => false,
+        MemoryChange::Set(_, _) => false,
+        MemoryChange::ResetOne(_) => false,
+        MemoryChange::Defaults => false,
+        MemoryChange::Load => false,
+        MemoryChange::Save(_) => false,
+        MemoryChange::Restart => true,
+    }
+}
+
+// The memory after a command that does not start the board over. A save that is refused leaves it.
+pub fn memory_after(m: Memory, change: MemoryChange) -> Memory
+    ensures { λ r. ⌜ r ≡ memoryAfter change m ⌝ }
+{
+    match change {
+        MemoryChange::AsBefore => m,
+        MemoryChange::Set(id, v) => m.set(id, v),
+        MemoryChange::ResetOne(id) => m.reset_one(id),
+        MemoryChange::Defaults => m.to_defaults(),
+        MemoryChange::Load => m.load(),
+        MemoryChange::Save(checksum) => {
+            let s = m.save(checksum);
+            s.memory
+        }
+        MemoryChange::Restart => m,
+    }
+}
