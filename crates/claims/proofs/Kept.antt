@@ -44,7 +44,7 @@ use Rattle.answers.specs.declared.Commanded.{Commanded}
 use Rattle.effects.specs.Effects.{isNominal, switchedOf, groupOnOf, groupOffOf, groupStateOf, channelOnOf, channelOffOf, cancelledOf, switchedModeOf, faultsOf, housekeepingOf, parameterAnswered, rememberedOf, savedIn, restartedOf, runOf}
 use Rattle.commands.specs.Step.{isStartup, turnedDown, decodedOf, transferredOf, commandedOf}
 use Rattle.board.specs.Tick.{watchedAs, allowedCount, tickOf}
-use Rattle.text.specs.declared.framing.Due.{Due}
+use Rattle.framing.specs.declared.Due.{Due}
 use Rattle.unit.specs.Machine.{begunOf, toldBy, toldOf}
 use Rattle.unit.specs.declared.Machine.{Machine}
 use Rattle.unit.specs.declared.Told.{Told}

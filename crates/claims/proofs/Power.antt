@@ -24,7 +24,7 @@ use Rattle.state.specs.Start.{freshOf, commandResetOf}
 use Rattle.state.specs.declared.parts.Board.{Board}
 use Rattle.state.specs.declared.parts.Profile.{Profile}
 use Rattle.answers.specs.Answers.{headerOf}
-use Rattle.text.specs.declared.reading.Line.the-variants.{Command}
+use Rattle.reading.specs.declared.Line.the-variants.{Command}
 use Rattle.unit.specs.Machine.{toldOf}
 use Rattle.unit.specs.declared.Machine.{Machine}
 use Rattle.groups.specs.Resets.{tellsWatchdogReset, tellsReset, startsOver}

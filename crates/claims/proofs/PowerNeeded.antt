@@ -47,7 +47,7 @@ use Rattle.commands.specs.Step.{isStartup, decodedOf, transferredOf, commandedO
 use Rattle.board.specs.Tick.{broughtBy, risenOf, changedOf, trippedOf, watchedAs, watchedIn, tickWith, allowedCount, tickOf}
 use Rattle.board.specs.declared.Ticked.{Ticked}
 use Rattle.unit.specs.Machine.{noMachine, begunOf, toldBy, toldOf}
-use Rattle.text.specs.declared.framing.Due.the-variants.{Nothing}
+use Rattle.framing.specs.declared.Due.the-variants.{Nothing}
 use Rattle.unit.specs.declared.Machine.{Machine}
 use Rattle.unit.specs.declared.Told.{Told}
 use Rattle.groups.specs.Resets.{tellsWatchdogReset, tellsCommandReset, tellsReset}

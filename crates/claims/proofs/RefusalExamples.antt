@@ -19,7 +19,7 @@ use Rattle.change.specs.Change.{isDark, timerAfter}
 use Rattle.answers.specs.Answers.{notThisBoardOf}
 use Rattle.commands.specs.Step.{isStartup, turnedDown, decodedOf, transferredOf, commandedOf}
 use Rattle.board.specs.Tick.{risenOf, changedOf, trippedOf, watchedIn, tickWith, allowedCount, tickOf}
-use Rattle.text.specs.declared.framing.Due.the-variants.{Nothing}
+use Rattle.framing.specs.declared.Due.the-variants.{Nothing}
 use Rattle.unit.specs.Machine.{toldOf}
 use Rattle.unit.specs.declared.Machine.{Machine}
 use Rattle.unit.specs.Runs.{Sample, told}

@@ -36,7 +36,7 @@ use Rattle.answers.specs.declared.Answer.the-variants.{Accepted, FewerThanFourB
 use Rattle.effects.specs.Effects.{isNominal, switchedOf, groupOnOf, switchedModeOf, faultsOf, runOf}
 use Rattle.commands.specs.Step.{isStartup, decodedOf, transferredOf, commandedOf}
 use Rattle.board.specs.Tick.{broughtBy, risenOf, changedOf, trippedOf, watchedIn, tickWith, allowedCount, tickOf}
-use Rattle.text.specs.declared.framing.Due.the-variants.{Nothing}
+use Rattle.framing.specs.declared.Due.the-variants.{Nothing}
 use Rattle.unit.specs.Machine.{noMachine, begunOf, toldOf}
 use Rattle.unit.specs.declared.Machine.{Machine}
 use Rattle.unit.specs.declared.Told.{Told}

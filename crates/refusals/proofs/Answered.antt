@@ -16,7 +16,7 @@ use Rattle.answers.specs.declared.Commanded.{Commanded}
 use Rattle.commands.specs.Step.{commandedOf}
 use Rattle.board.specs.Tick.{watchedAs, watchedIn, tickWith, allowedCount, tickOf}
 use Rattle.board.proofs.Laws.{number-9}
-use Rattle.text.specs.declared.framing.Due.{Due}
+use Rattle.framing.specs.declared.Due.{Due}
 use Rattle.unit.specs.Machine.{toldBy, toldOf}
 use Rattle.unit.specs.declared.Machine.{Machine}
 use Rattle.unit.specs.declared.Told.{Told}

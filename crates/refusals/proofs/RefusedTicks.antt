@@ -19,7 +19,7 @@ use Rattle.answers.specs.declared.Outcome.the-variants.{NoTransfer, Answered}
 use Rattle.answers.specs.declared.Commanded.{Commanded}
 use Rattle.commands.specs.Step.{commandedOf}
 use Rattle.board.specs.Tick.{watchedAs}
-use Rattle.text.specs.declared.framing.Due.{Due}
+use Rattle.framing.specs.declared.Due.{Due}
 use Rattle.unit.specs.Machine.{toldBy}
 use Rattle.unit.specs.declared.Machine.{Machine}
 use Rattle.unit.specs.Runs.{Sample, told, afterStep3}

@@ -20,10 +20,10 @@ use Rattle.state.proofs.Laws as state
 use Rattle.board.specs.Tick.{allowedCount, tickOf}
 use Rattle.board.proofs.Laws as board
 use Rattle.board.proofs.Happened as happened
-use Rattle.text.proofs.Enclosing.{laid-short}
-use Rattle.text.proofs.FramingLaws.{number-13-framing}
-use Rattle.text.proofs.Given as text
-use Rattle.text.proofs.Leaves.{refused-leaves}
+use Rattle.reading.proofs.Given as read
+use Rattle.reading.proofs.Leaves.{refused-leaves}
+use Rattle.framing.proofs.Enclosing.{laid-short}
+use Rattle.framing.proofs.FramingLaws.{number-13-framing}
 use Rattle.unit.specs.Machine.{begunBy, begunOf, toldOf, heardOf, dueOf}
 use Rattle.unit.specs.declared.Machine.{Machine}
 use Rattle.unit.specs.Runs.{Sample, happens}
@@ -95,8 +95,8 @@ reading : Reads
 unfolding heardOf
 reading =
     record {
-      given = λ m received scratch. text.given (m .board .form) received (length scratch);
-      only = λ m received scratch line g. sym (text.given-only (m .board .form) received (length scratch) line g);
+      given = λ m received scratch. read.given (m .board .form) received (length scratch);
+      only = λ m received scratch line g. sym (read.given-only (m .board .form) received (length scratch) line g);
       leaves = λ m received scratch n. (unit.refused-line-leaves received (length scratch) m n, refused-leaves scratch (m .board .form) received n);
     }
 

@@ -7,7 +7,7 @@ use Prim.Native.Nat.{ℕ, _≤_}
 use mathlib.Core.{Path._≡_, Bool.false, List.[], Option.some}
 use Rattle.watchdog.specs.declared.Event.the-variants.{NoEvent, WatchdogReset}
 use Rattle.state.specs.{Parts.withReply, Parts.withTimer, declared.parts.Board.Board}
-use Rattle.text.specs.declared.framing.Due.the-variants.{Reply}
+use Rattle.framing.specs.declared.Due.the-variants.{Reply}
 use Rattle.unit.specs.{declared.Machine.Machine, Runs.Sample, Runs.told, Runs.afterStep3}
 use Rattle.refusals.specs.{Conditions.metIn, Conditions.tickAnswer, Refused.refusal}
 

@@ -10,8 +10,8 @@ use Rattle.hex.specs.Hex.{laid}
 use Rattle.watchdog.specs.declared.Event.the-variants.{NoEvent}
 use Rattle.memory.specs.{Memory.emptyStore, declared.Store.Store}
 use Rattle.state.specs.{Start.startNumber, declared.parts.Profile.Profile}
-use Rattle.text.specs.{Answers.lineNumber, Answers.framedNumber, Framing.framedOf, Given.GivenWhen, Lines.lineHeld}
-use Rattle.text.specs.declared.reading.Line.{Line}
+use Rattle.reading.specs.{Answers.lineNumber, Given.GivenWhen, Lines.lineHeld, declared.Line.Line}
+use Rattle.framing.specs.{Answers.framedNumber, Framing.framedOf}
 use Rattle.unit.specs.{Machine.begunOf, Machine.heardOf, Machine.dueOf, declared.Machine.Machine, Runs.Sample, Runs.told}
 use Rattle.script.specs.Printing.{page}
 use Rattle.session.specs.Sessions.{profileIn, Open, opens, noSession, openedNumber, openedOf}

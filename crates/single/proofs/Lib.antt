@@ -10,7 +10,9 @@ pub mod Watchdog
 pub mod Value
 pub mod Settings
 pub mod Image
-pub mod Text
+pub mod Frames
+pub mod Reading
+pub mod Framing
 pub mod Grammar
 pub mod Sheet
 pub mod Command

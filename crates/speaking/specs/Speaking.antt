@@ -3,7 +3,8 @@
 use Prim.Native.Nat.{ℕ}
 use mathlib.Core.List.{List, [], _∷_, _++_}
 use Rattle.wire.specs.declared.forms.Form.{Form}
-use Rattle.text.specs.{declared.reading.Line.Line, declared.framing.Framed.Framed}
+use Rattle.reading.specs.declared.Line.{Line}
+use Rattle.framing.specs.declared.Framed.{Framed}
 use Rattle.script.specs.Printing.{hexOf, fieldOf}
 
 -- form raw; form ascii

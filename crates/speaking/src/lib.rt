@@ -3,12 +3,12 @@ ghost use mathlib.Core.Path.{_≡_};
 ghost use mathlib.Core.List.{_++_};
 ghost use Rattle.script.specs.Printing.{page, typed, fieldOf};
 ghost use Rattle.speaking.specs.Speaking.{formName, commandText, lineText, wholeText, heardLine, framedText, framedLine};
+use framing::Framed;
+use reading::Line;
 use script::printing::field;
 use script::printing::put;
 use script::printing::string;
 use script::printing::text;
-use text::Framed;
-use text::Line;
 use wire::Form;
 
 // The name of a form.

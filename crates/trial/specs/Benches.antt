@@ -5,7 +5,8 @@ use mathlib.Core.{Bool.Bool, Bool.true, Bool.false, Bool.cond, List.List, List.[
 use lib.ListN.{length, take, replicate}
 use Rattle.wire.specs.{Numbers.signed, Replies.found, declared.forms.Form.Form}
 use Rattle.hex.specs.Hex.{laid}
-use Rattle.text.specs.{Lines.lineHeld, Lines.payloadIn, Framing.framedOf, declared.reading.Line.Line}
+use Rattle.reading.specs.{Lines.lineHeld, Lines.payloadIn, declared.Line.Line}
+use Rattle.framing.specs.Framing.{framedOf}
 use Rattle.image.specs.Image.{settingsOf}
 use Rattle.memory.specs.{Memory.emptyStore, declared.Store.Store}
 use Rattle.state.specs.{declared.parts.Profile.Profile, declared.starting.StartAnswer.StartAnswer}

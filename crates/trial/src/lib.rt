@@ -10,6 +10,7 @@ ghost use Rattle.trial.specs.Benches.{emptyBench, left, printed, okText,
 use lines::Asked;
 use lines::Look;
 use memory::Store;
+use reading::Line;
 use script::printing::bytes;
 use script::printing::put;
 use script::printing::text;
@@ -17,7 +18,6 @@ use script::reading::lent_part;
 use script::reading::lent_words;
 use state::Profile;
 use state::StartAnswer;
-use text::Line;
 use unit::Machine;
 
 // A machine on the bench, once one was started, and the words for its next tick.

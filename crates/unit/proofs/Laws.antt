@@ -36,14 +36,14 @@ use Rattle.effects.specs.Effects.{runOf, restartedOf}
 use Rattle.commands.specs.Step.{isStartup, decodedOf, transferredOf, commandedOf}
 use Rattle.board.specs.Tick.{risenOf, changedOf, trippedOf, watchedAs, watchedIn, tickWith, allowedCount, tickOf}
 use Rattle.board.proofs.Happened.{told, found, own-reply, form-after, reset-form}
-use Rattle.text.specs.Answers.{lineNumber}
-use Rattle.text.specs.Lines.{lineOf, switchText}
-use Rattle.text.specs.Framing.{replyFrame, written, framedOf}
-use Rattle.text.specs.declared.reading.Line.{Line}
-use Rattle.text.specs.declared.reading.Line.the-variants.{Command, Switch, NoFrame, TooLong, NotOfForm, ScratchTooShort}
-use Rattle.text.specs.declared.framing.Due.the-variants.{Nothing, Reply, Echo}
-use Rattle.text.specs.declared.framing.Framed.the-variants.{Written}
-use Rattle.text.proofs.FramingLaws.{nothing-due}
+use Rattle.reading.specs.Answers.{lineNumber}
+use Rattle.reading.specs.Lines.{lineOf, switchText}
+use Rattle.reading.specs.declared.Line.{Line}
+use Rattle.reading.specs.declared.Line.the-variants.{Command, Switch, NoFrame, TooLong, NotOfForm, ScratchTooShort}
+use Rattle.framing.specs.Framing.{replyFrame, written, framedOf}
+use Rattle.framing.specs.declared.Due.the-variants.{Nothing, Reply, Echo}
+use Rattle.framing.specs.declared.Framed.the-variants.{Written}
+use Rattle.framing.proofs.FramingLaws.{nothing-due}
 use Rattle.unit.specs.declared.Machine.{Machine}
 use Rattle.unit.specs.Machine.{begunOf, dueBy, dueAfter, toldOf, afterLine, heardOf, dueOf}
 

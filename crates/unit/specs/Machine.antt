@@ -12,9 +12,10 @@ use Rattle.state.specs.declared.starting.StartAnswer.the-variants.{Accepted, Pr
 use Rattle.answers.specs.declared.Outcome.{Outcome}
 use Rattle.answers.specs.declared.Outcome.the-variants.{WrongWordCount, NoTransfer, Answered}
 use Rattle.board.specs.{Tick.tickOf, declared.Ticked.Ticked}
-use Rattle.text.specs.{Lines.lineOf, Framing.dueText, declared.reading.Line.Line, declared.framing.Due.Due}
-use Rattle.text.specs.declared.reading.Line.the-variants.{Command, Switch, NoFrame, TooLong, NotOfForm, ScratchTooShort}
-use Rattle.text.specs.declared.framing.Due.the-variants.{Nothing, Reply, Echo}
+use Rattle.reading.specs.{Lines.lineOf, declared.Line.Line}
+use Rattle.reading.specs.declared.Line.the-variants.{Command, Switch, NoFrame, TooLong, NotOfForm, ScratchTooShort}
+use Rattle.framing.specs.{Framing.dueText, declared.Due.Due}
+use Rattle.framing.specs.declared.Due.the-variants.{Nothing, Reply, Echo}
 use Rattle.unit.specs.{declared.Machine.Machine, declared.Begun.Begun, declared.Told.Told, declared.Heard.Heard}
 
 -- ---- starting

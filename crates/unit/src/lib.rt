@@ -5,22 +5,23 @@ ghost use lib.ListN.{length};
 ghost use Rattle.wire.specs.Replies.{found};
 ghost use Rattle.hex.specs.Hex.{laid};
 ghost use Rattle.hex.specs.Answers.{shortNumber};
-ghost use Rattle.text.specs.Lines.{lineHeld, payloadIn};
-ghost use Rattle.text.specs.Framing.{framedOf};
-ghost use Rattle.text.specs.Frames.{frameOf};
-ghost use Rattle.text.specs.Answers.{lineNumber, lineTells, framedNumber, placeBehind, readingNumber};
+ghost use Rattle.frames.specs.Frames.{frameOf};
+ghost use Rattle.reading.specs.Lines.{lineHeld, payloadIn};
+ghost use Rattle.reading.specs.Answers.{lineNumber, lineTells, placeBehind, readingNumber};
+ghost use Rattle.framing.specs.Framing.{framedOf};
+ghost use Rattle.framing.specs.Answers.{framedNumber};
 ghost use Rattle.state.specs.Start.{keepsTheRules, startNumber};
 ghost use Rattle.answers.specs.Answers.{toldNumber};
 ghost use Rattle.board.specs.Tick.{allowedCount, tells};
 ghost use Rattle.unit.specs.Machine.{noMachine, begunOf, dueBy, dueAfter, toldOf, afterLine, heardOf, dueOf};
 use answers::Outcome;
+use framing::Due;
+use framing::Framed;
 use memory::Store;
+use reading::Line;
 use state::Board;
 use state::Profile;
 use state::StartAnswer;
-use text::Due;
-use text::Framed;
-use text::Line;
 use watchdog::Event;
 
 // A board, and what its text line has to say.
@@ -171,7 +172,7 @@ pub fn read_line(m: Machine, received: &[u8], scratch: &mut [u8]) -> Heard
 {
     let b = m.board;
     let form = b.form;
-    let line = text::read(form, received, scratch);
+    let line = reading::read(form, received, scratch);
     Heard {
         machine: after_line(m, line),
         line,
@@ -191,7 +192,7 @@ pub fn payload<'a>(
 {
     let b = m.board;
     let form = b.form;
-    text::payload(form, received, scratch, start, end)
+    reading::payload(form, received, scratch, start, end)
 }
 
 // Frames what the text line has to say into the front of a lent buffer: the reply of the latest tick, the echo of a
@@ -207,5 +208,5 @@ pub fn frame(m: Machine, out: &mut [u8]) -> Framed
     let form = b.form;
     let reply = b.reply;
     let bytes = reply.bytes;
-    text::frame(due, form, wire::first(&bytes, reply.len), out)
+    framing::frame(due, form, wire::first(&bytes, reply.len), out)
 }

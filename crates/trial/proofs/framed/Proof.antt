@@ -4,7 +4,7 @@ use mathlib.Core.Path.{_≡_, ap, _∙_}
 use mathlib.Core.List.{List}
 use lib.ListN.{length, take}
 use Rattle.hex.specs.Hex.{laid}
-use Rattle.text.specs.Framing.{framedOf}
+use Rattle.framing.specs.Framing.{framedOf}
 use Rattle.unit.specs.Machine.{dueOf}
 use Rattle.trial.specs.Benches.{framingLine}
 use Rattle.trial.proofs.Fronts.{lent, untouched, whole, front}

@@ -3,7 +3,7 @@ use Prim.Native.Nat.{ℕ}
 use mathlib.Core.Path.{_≡_, ap, _∙_}
 use mathlib.Core.List.{List}
 use lib.ListN.{length, take}
-use Rattle.text.specs.Lines.{lineHeld}
+use Rattle.reading.specs.Lines.{lineHeld}
 use Rattle.unit.specs.Machine.{heardOf}
 use Rattle.trial.specs.Benches.{receivedOf}
 use Rattle.trial.proofs.Fronts.{lent, untouched, whole, front}

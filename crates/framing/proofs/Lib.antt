@@ -1,0 +1,3 @@
+pub mod Enclosing
+pub mod FramingLaws
+pub mod Numbers

@@ -1,0 +1,4 @@
+pub mod Same
+pub mod Given
+pub mod Numbers
+pub mod Leaves

@@ -1,6 +1,0 @@
-pub mod Frames
-pub mod First
-pub mod Lines
-pub mod Given
-pub mod Framing
-pub mod Answers
