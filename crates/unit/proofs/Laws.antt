@@ -2,12 +2,13 @@
 -- read, and a refused call leaves the machine as it was. Assumes nothing.
 use Prim.Native.Nat.{ℕ}
 use mathlib.Core.Path.{_≡_, refl, ap, _∙_}
-use mathlib.Core.Bool.{Bool, true, false, cond}
+use mathlib.Core.Bool.{Bool, true, false}
 use mathlib.Core.List.{List}
 use native.Mathlib.Omega.{arith}
 use lib.IntN.{ℤ}
 use lib.ListN.{length}
 use mathlib.Core.Logic.{_⊎_}
+use Rattle.laws.proofs.Cases.{cases}
 use Rattle.wire.specs.Replies.{shown}
 use Rattle.wire.specs.declared.reply.Reply as reply
 use Rattle.wire.specs.declared.forms.Form.{Form}
@@ -22,18 +23,17 @@ use Rattle.command.specs.declared.Command.the-variants.{SystemReset}
 use Rattle.command.specs.declared.Decoded.the-variants.{Run}
 use Rattle.memory.specs.declared.Store.{Store}
 use Rattle.memory.specs.Limits.{timeoutOf, limitsOf}
-use Rattle.state.specs.Parts.{modeOf, withForm, withReply}
+use Rattle.state.specs.Parts.{modeOf, wordCount, withForm, withReply}
 use Rattle.state.specs.declared.parts.Board.{Board}
-use Rattle.state.specs.Start.{commandResetOf, freshOf, keepsTheRules, startOf}
+use Rattle.state.specs.Start.{freshOf, keepsTheRules, startOf}
 use Rattle.state.specs.declared.parts.Profile.{Profile}
 use Rattle.state.specs.declared.starting.StartAnswer.the-variants.{Accepted}
-use Rattle.answers.specs.Answers.{headerOf, silentOf}
-use Rattle.answers.specs.declared.Answer.{Answer}
-use Rattle.answers.specs.declared.Answer.the-variants.{FewerThanFourBytes, InStartup}
-use Rattle.answers.specs.declared.Outcome.the-variants.{Answered}
 use Rattle.answers.specs.declared.Commanded.{Commanded}
 use Rattle.effects.specs.Effects.{runOf, restartedOf}
-use Rattle.commands.specs.Step.{isStartup, decodedOf, transferredOf, commandedOf}
+use Rattle.asking.specs.Checks.{isStartup}
+use Rattle.commands.specs.Step.{commandedOf}
+use Rattle.commands.proofs.Stepwise.{turnedDown, decodedOf, steppedOf}
+use Rattle.commands.proofs.Told.{stepwise}
 use Rattle.board.specs.Tick.{risenOf, changedOf, trippedOf, watchedAs, watchedIn, tickWith, allowedCount, tickOf}
 use Rattle.board.proofs.Happened.{told, found, own-reply, form-after, reset-form}
 use Rattle.reading.specs.Answers.{lineNumber}
@@ -49,27 +49,33 @@ use Rattle.unit.specs.Machine.{begunOf, dueBy, dueAfter, toldOf, afterLi
 
 -- ---- a tick
 
+-- a transfer that is a reset to a board of a profile, whatever its mode
+abbrev pub resetIs : Profile → List ℕ → Type 0
+resetIs p s = decodeOf (p .kind) (p .bid) false s ≡ Run SystemReset
+
+-- in startup no reply is made
+silent-in-startup : (rail : ℤ) (limits : Limits) (s : List ℕ) (b : Board) → isStartup (modeOf b) ≡ true → steppedOf rail limits s b .replied ≡ false
+unfolding steppedOf decodedOf decodeOf turnedDown
+silent-in-startup rail limits s b starting = rw starting (cases (fewerThanFour s) (λ short. rw short) (λ long. rw long))
+
 -- the step of a transfer that is a reset makes no reply, in startup neither
-restart-is-silent : (rail : ℤ) (limits : Limits) (sent : Bool) (s : List ℕ) (b : Board) → decodeOf (headerOf (b .profile)) s ≡ Run SystemReset → commandedOf rail limits sent s b .replied ≡ false
-unfolding commandedOf transferredOf decodedOf runOf restartedOf
+restart-is-silent : (rail : ℤ) (limits : Limits) (sent : Bool) (s : List ℕ) (b : Board) → resetIs (b .profile) s → commandedOf rail limits sent s b .replied ≡ false
+unfolding commandedOf steppedOf decodedOf runOf restartedOf
 restart-is-silent rail limits false s b e = refl
-restart-is-silent rail limits true s b e = rw e (go (fewerThanFour s) (isStartup (modeOf b)))
-  where
-    go : (short starting : Bool) → cond short (silentOf (Answered FewerThanFourBytes) b) (cond starting (silentOf (Answered InStartup) b) (silentOf (Answered Answer.Accepted) (commandResetOf b))) .replied ≡ false
-    go true starting = refl
-    go false true = refl
-    go false false = refl
+restart-is-silent rail limits true s b e =
+    rw (stepwise rail limits s b)
+    (cases (isStartup (modeOf b)) (λ starting. silent-in-startup rail limits s b starting) (λ started. rw (started, e)))
 
 module _ (rail : ℤ) (named : ℕ) (words : List ℕ) (sent : Bool) (s : List ℕ) (m : Machine) where
   abbrev after : Machine
   after = toldOf rail named words sent s m .machine
 
   -- a tick that did not happen leaves the machine, with what it had to say
-  pub refused-tick-leaves : allowedCount (length words) ≡ false → after ≡ m
+  pub refused-tick-leaves : allowedCount (wordCount (m .board)) (length words) ≡ false → after ≡ m
   unfolding toldOf tickOf
   refused-tick-leaves wrong = rw wrong
 
-  module _ (allowed : allowedCount (length words) ≡ true) where
+  module _ (allowed : allowedCount (wordCount (m .board)) (length words) ≡ true) where
     due-told : after .due ≡ dueBy (toldOf rail named words sent s m .replied)
     unfolding toldOf
     due-told =
@@ -113,7 +119,7 @@ module _ (rail : ℤ) (named : ℕ) (words : List ℕ) (sent : Bool) (s : List �
         go c WatchdogReset e = refl
 
     -- and a transfer that asks for a reset leaves none
-    pub command-reset-loses-the-reply : decodeOf (headerOf (m .board .profile)) s ≡ Run SystemReset → toldOf rail named words sent s m .replied ≡ false
+    pub command-reset-loses-the-reply : resetIs (m .board .profile) s → toldOf rail named words sent s m .replied ≡ false
     unfolding toldOf tickOf tickWith watchedIn risenOf changedOf trippedOf
     command-reset-loses-the-reply e =
         let limits = limitsOf (m .board .memory) in
@@ -125,7 +131,7 @@ module _ (rail : ℤ) (named : ℕ) (words : List ℕ) (sent : Bool) (s : List �
         still PeripheralReset c q = q
         still WatchdogReset c q = refl
 
-        restarts : (limits : Limits) → decodeOf (headerOf (m .board .profile)) s ≡ Run SystemReset
+        restarts : (limits : Limits) → resetIs (m .board .profile) s
             → commandedOf rail limits sent s (trippedOf named (changedOf rail limits (risenOf words (m .board)))) .replied ≡ false
         restarts limits e = restart-is-silent rail limits sent s (trippedOf named (changedOf rail limits (risenOf words (m .board)))) e
 

@@ -22,9 +22,9 @@ pub record Sample : Type 0 where
 abbrev pub told : Machine → Sample → Told
 told m i = toldOf (i .rail) (i .named) (i .words) (i .sent) (i .transfer) m
 
--- it happens: the words lent are none or 122
-abbrev pub happens : Sample → Bool
-happens i = allowedCount (length (i .words))
+-- it happens on a board with that number of words: those lent are none or all
+abbrev pub happens : ℕ → Sample → Bool
+happens number i = allowedCount number (length (i .words))
 
 -- the board as steps 2, 3 and 4 of such a tick leave it
 abbrev pub afterStep2 : Machine → Sample → Board

@@ -1,6 +1,6 @@
 // What a bench calls, in one place. Every call takes a machine by value, and hands it back where it changes.
 ghost use mathlib.Core.Path.{_≡_};
-ghost use mathlib.Core.Bool.{cond, not};
+ghost use mathlib.Core.Bool.{cond};
 ghost use lib.ListN.{length};
 ghost use Rattle.wire.specs.Replies.{found};
 ghost use Rattle.hex.specs.Hex.{laid};
@@ -12,7 +12,7 @@ ghost use Rattle.framing.specs.Framing.{framedOf};
 ghost use Rattle.framing.specs.Answers.{framedNumber};
 ghost use Rattle.state.specs.Start.{keepsTheRules, startNumber};
 ghost use Rattle.answers.specs.Answers.{toldNumber};
-ghost use Rattle.board.specs.Tick.{allowedCount, tells};
+ghost use Rattle.board.specs.Tick.{tickNumber};
 ghost use Rattle.unit.specs.Machine.{noMachine, begunOf, dueBy, dueAfter, toldOf, afterLine, heardOf, dueOf};
 use answers::Outcome;
 use framing::Due;
@@ -107,8 +107,8 @@ fn due_after(outcome: Outcome, replied: bool, due: Due) -> Due
 }
 
 // One tick: the rail in millivolts, the channels that reported overcurrent, the words lent, and no transfer or one.
-// With no transfer its slice is not looked at. Words that are neither none nor all are refused, and the machine stays
-// as it was.
+// With no transfer its slice is not looked at. Words that are neither none nor as many as the board has are refused, and
+// the machine stays as it was.
 pub fn tick(
     m: Machine,
     rail: i16,
@@ -118,7 +118,7 @@ pub fn tick(
     transfer: &[u8],
 ) -> Told
     ensures { λ r. ⌜ r ≡ toldOf rail overcurrent (now (words .entry)) sent (now (transfer .entry)) m ⌝ }
-    ensures number { λ r. ⌜ tells 9 (toldNumber (r .outcome)) ≡ not (allowedCount (length (now (words .entry)))) ⌝ }
+    ensures number { λ r. ⌜ toldNumber (r .outcome) ≡ tickNumber rail overcurrent (now (words .entry)) sent (now (transfer .entry)) (m .board) ⌝ }
 {
     let t = board::tick(m.board, rail, overcurrent, words, sent, transfer);
     let board = t.board;

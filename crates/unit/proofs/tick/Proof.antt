@@ -16,7 +16,7 @@ returns : tie.Need-returns
 unfolding toldOf
 returns c =
     let ticked = rw (toZ-ofZ w16 (c .before .before .before .before .before .args .rail) (c .before .before .before .before .before .fits .rail)) at (c .before .before .tick .ensures .0) in
-    (rw (c .due-after .ensures, ← ticked), c .before .before .tick .ensures .1)
+    (rw (c .due-after .ensures, ← ticked), rw (toZ-ofZ w16 (c .before .before .before .before .before .args .rail) (c .before .before .before .before .before .fits .rail)) at (c .before .before .tick .ensures .1))
 
 pub tick-spec : {M : Type 1} → statement M
 tick-spec = tie.close (tie.spec tick-requires due-after-requires returns)
