@@ -3,18 +3,13 @@ use channels::Channels;
 use memory::Memory;
 use memory::Store;
 use state::Measured;
-use state::Profile;
 use state::Resets;
 use unit::Machine;
 
 // A machine that has just been started, all of its channels fitted and nothing stored.
 // argued: an instrument; its digest is compared with the second program's
 fn started() -> Machine {
-    let profile = Profile {
-        fitted: 0xFFFFFFFF,
-        forced: 0x0000000F,
-        bid: 1,
-    };
+    let profile = state::distribution(1, 0xFFFFFFFF, 0x0000000F);
     let begun = unit::start(unit::unstarted(), profile, Store::empty());
     begun.machine
 }
@@ -41,12 +36,12 @@ fn resets_taken(digest: u32, r: Resets) -> u32 {
     pattern::taken(d, answers::cause_number(cause))
 }
 
-// A digest that took in the measured words of a board, and whether they are new.
+// A digest that took in the measured words of a board, and whether they are new as raw readings.
 // argued: an instrument; its digest is compared with the second program's
 fn measured_taken(digest: u32, m: Measured) -> u32 {
     let words = m.words;
-    let d = pattern::words_taken(digest, &words);
-    if m.fresh {
+    let d = pattern::words_taken(digest, pattern::counted(&words));
+    if m.fresh.raw {
         return pattern::taken(d, 1);
     }
     pattern::taken(d, 0)

@@ -7,7 +7,7 @@ use Rattle.pattern.specs.{declared.line.Asked.Asked, declared.line.Count
 
 -- the letters of the table: pnfhgsocwmz
 unfoldable pub kinds : List ℕ
-kinds = 112 ∷ 110 ∷ 102 ∷ 104 ∷ 103 ∷ 115 ∷ 111 ∷ 99 ∷ 119 ∷ 109 ∷ 122 ∷ []
+kinds = 0x70 ∷ 0x6E ∷ 0x66 ∷ 0x68 ∷ 0x67 ∷ 0x73 ∷ 0x6F ∷ 0x63 ∷ 0x77 ∷ 0x6D ∷ 0x7A ∷ []
 
 unfoldable pub isIn : ℕ → List ℕ → Bool
 isIn letter [] = false

@@ -2,7 +2,9 @@
 -- is what was drawn for the tick. Assumes nothing: these are definitions.
 use Prim.Native.Nat.{ℕ, zero, suc, _+_, _-_, _*_, _/_, _%_}
 use mathlib.Core.{Bool.cond, List.List, List.[], List._∷_, List._++_}
-use lib.{Dec.ltb, Dec.eqb, IntN.pos, ListN.length, ListN.getD, ListN.drop, ListN.set}
+use lib.{Dec.ltb, Dec.eqb, IntN.pos, ListN.length, ListN.getD, ListN.take, ListN.drop, ListN.set}
+use Rattle.kinds.specs.Kinds.{boardOf}
+use Rattle.kinds.specs.declared.Kind.the-variants.{Distribution}
 use Rattle.pattern.specs.{Pattern.waking, Pattern.nextOf, Pattern.drawOf, declared.ticks.Transfer.Transfer}
 use Rattle.pattern.specs.declared.ticks.Brought.{Brought}
 
@@ -24,7 +26,7 @@ namedOf kind r = cond (eqb kind 99) (r * 65537) 0
 
 -- a transfer to this board: the head with a code, and what is behind it
 abbrev to : ℕ → List ℕ → List ℕ
-to code behind = 0x11 ∷ 0x07 ∷ code ∷ 0x01 ∷ behind
+to code behind = boardOf Distribution .stid ∷ 0x07 ∷ code ∷ 0x01 ∷ behind
 
 -- a draw as two bytes, the lower first, before others
 abbrev two : ℕ → List ℕ → List ℕ
@@ -65,14 +67,18 @@ unfoldable pub numbersFrom : ℕ → ℕ → List ℕ
 numbersFrom i zero = []
 numbersFrom i (suc n) = i ∷ numbersFrom (i + 1) n
 
--- the 122 words at first, each its own place
+-- how many words the board has
+abbrev pub wordCount : ℕ
+wordCount = boardOf Distribution .words
+
+-- the room for words at first, each its own place
 abbrev pub wordsFirst : List ℕ
-wordsFirst = numbersFrom 0 122
+wordsFirst = numbersFrom 0 130
 
 -- before a tick with words (w) one of them becomes the draw
 abbrev pub changedOf : ℕ → ℕ → List ℕ → List ℕ
-changedOf kind r words = cond (eqb kind 119) (set words (r % 122) r) words
+changedOf kind r words = cond (eqb kind 119) (set words (r % wordCount) r) words
 
--- and all of them are lent, else none
+-- and all that the board has are lent, else none
 abbrev pub lentOf : ℕ → List ℕ → List ℕ
-lentOf kind words = cond (eqb kind 119) words []
+lentOf kind words = cond (eqb kind 119) (take wordCount words) []

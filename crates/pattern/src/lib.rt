@@ -13,6 +13,7 @@ pub use line::asked_by;
 pub use ticks::Brought;
 pub use ticks::brought_by;
 pub use ticks::change;
+pub use ticks::counted;
 pub use ticks::first_words;
 pub use ticks::is_waking;
 pub use ticks::lent;

@@ -1,8 +1,10 @@
 // What the tick of a turn brings, from the number that is drawn for it.
 ghost use mathlib.Core.Path.{_≡_};
 ghost use lib.Dec.{ltb};
+ghost use lib.ListN.{take};
 ghost use Rattle.pattern.specs.Pattern.{waking, turnsOf, placeOf, nextOf, drawOf};
-ghost use Rattle.pattern.specs.Ticks.{mixedOf, kindOf, namedOf, framedOf, sentOf, transferOf, broughtOf, wordsFirst, changedOf, lentOf};
+ghost use Rattle.pattern.specs.Ticks.{mixedOf, kindOf, namedOf, framedOf, sentOf, transferOf, broughtOf, wordCount, wordsFirst, changedOf, lentOf};
+use kinds::Kind;
 
 // The bytes of a transfer, of which so many are sent; there is no transfer where that is none.
 struct Transfer {
@@ -102,7 +104,8 @@ fn named(kind: u8, drawn: u16) -> u32
 fn framed(length: usize, code: u8, a: u8, b: u8, c: u8, d: u8) -> Transfer
     ensures { λ r. ⌜ r ≡ framedOf length code a b c d ⌝ }
 {
-    let bytes = [0x11, 7, code, 1, a, b, c, d];
+    let stid = kinds::stid(Kind::Distribution);
+    let bytes = [stid, 7, code, 1, a, b, c, d];
     Transfer { length, bytes }
 }
 
@@ -153,41 +156,56 @@ pub fn brought_by(run: u8, turn: u64, x: u64) -> Brought
     }
 }
 
-// The words before the first tick: each is its own place.
-pub fn first_words() -> [u16; 122]
+// The room for words before the first tick: each is its own place.
+pub fn first_words() -> [u16; 130]
     ensures { λ r. ⌜ r ≡ wordsFirst ⌝ }
 {
-    let mut words = [0u16; 122];
-    let mut left = 122;
+    let mut words = [0u16; 130];
+    let mut left = 130;
     while 0 < left {
-        let i = 122 - left;
+        let i = 130 - left;
         words[i] = i as u16;
         left -= 1;
     }
     words
 }
 
+// How many words the board has.
+fn word_count() -> usize
+    ensures { λ r. ⌜ r ≡ wordCount ⌝ }
+{
+    kinds::word_count(Kind::Distribution)
+}
+
 // The words as a tick lends them: where it lends any, one of them has become the draw.
-pub fn change(words: &mut [u16; 122], kind: u8, drawn: u16)
+pub fn change(words: &mut [u16; 130], kind: u8, drawn: u16)
     ensures { λ _. ⌜ now (words .exit) ≡ changedOf kind drawn (now (words .entry)) ⌝ }
 {
     if kind == b'w' {
-        words[(drawn % 122) as usize] = drawn;
+        let place = drawn as usize % word_count();
+        words[place] = drawn;
     }
 }
 
-// All words or none, by the kind of a tick.
+// The words that the board has, of a room for words.
+pub fn counted(words: &[u16]) -> &[u16]
+    ensures { λ r. ⌜ now r ≡ take wordCount (now (words .entry)) ⌝ }
+{
+    wire::first_words(words, word_count())
+}
+
+// All words of the board or none, by the kind of a tick.
 fn all_or_none(words: &[u16], kind: u8) -> &[u16]
     ensures { λ r. ⌜ now r ≡ lentOf kind (now (words .entry)) ⌝ }
 {
     if kind == b'w' {
-        return words;
+        return counted(words);
     }
     &words[..0]
 }
 
 // The words that a tick lends.
-pub fn lent(words: &[u16; 122], kind: u8) -> &[u16]
+pub fn lent(words: &[u16; 130], kind: u8) -> &[u16]
     ensures { λ r. ⌜ now r ≡ lentOf kind (now (words .entry)) ⌝ }
 {
     all_or_none(words, kind)

@@ -5,43 +5,30 @@ use Rattle.asking.specs.Asked.{askedOf}
 use borrow.Author.Needs.{needs}
 use Rattle.asking.proofs.asked_of.Statement.{statement}
 use Rattle.asking.proofs.asked_of.Tie as tie
-use Rattle.asking.proofs.asked_of.Reads as reads
-use Rattle.asking.proofs.asked_of.Lts as lts
-use Rattle.asking.proofs.is_startup.Reads as is-startup-reads
-use Rattle.asking.proofs.refused_by.Reads as refused-by-reads
-use Rattle.command.proofs.decode.Reads as decode-reads
 
--- src/lib.rt:55:9
 returns : tie.Need-returns
 unfolding askedOf
 returns c = rw (c .if1 .taken)
 
--- src/lib.rt:57:9
 is-startup-requires : tie.Need-is-startup-requires
 is-startup-requires c κs = search needs
 
--- src/lib.rt:58:11
 decode-requires : tie.Need-decode-requires
 decode-requires c κs = search needs
 
--- src/lib.rt:59:22
 enum-known-c : tie.Need-enum-known-c
 enum-known-c c = search needs
 
--- src/lib.rt:60:26
 enum-known-r : tie.Need-enum-known-r
 enum-known-r c = search needs
 
--- src/lib.rt:60:32
 refused-by-requires : tie.Need-refused-by-requires
 refused-by-requires c κs = search needs
 
--- src/lib.rt:51:1
 returns-2 : tie.Need-returns-2
 unfolding askedOf
 returns-2 c = rw (c .before .before .before .before .before .if1 .left, ← c .before .before .before .before .is-startup .ensures, sym (c .before .before .before .decode .ensures .0), c .before .c .given .1)
 
--- src/lib.rt:51:1
 returns-3 : tie.Need-returns-3
 unfolding askedOf
 returns-3 c = rw (c .before .before .before .before .before .before .if1 .left, ← c .before .before .before .before .before .is-startup .ensures, sym (c .before .before .before .before .decode .ensures .0), c .before .before .r .given .1, c .refused-by .ensures)

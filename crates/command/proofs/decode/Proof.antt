@@ -7,51 +7,34 @@ use Rattle.command.proofs.Laws.{with-answer}
 use borrow.Author.Needs.{needs}
 use Rattle.command.proofs.decode.Statement.{statement}
 use Rattle.command.proofs.decode.Tie as tie
-use Rattle.command.proofs.decode.Reads as reads
-use Rattle.command.proofs.decode.Lts as lts
-use Rattle.command.proofs.by_list.Reads as by-list-reads
-use Rattle.command.proofs.header_of.Reads as header-of-reads
-use Rattle.command.proofs.is_for.Reads as is-for-reads
-use Rattle.command.proofs.listed_as.Reads as listed-as-reads
-use Rattle.command.proofs.too_short.Reads as too-short-reads
-use Rattle.kinds.proofs.lists.Reads as lists-reads
-use Rattle.wire.proofs.byte.Reads as byte-reads
 
--- src/lib.rt:276:9
 byte-requires : tie.Need-byte-requires
 byte-requires c κs = search needs
 
--- src/lib.rt:277:9
 too-short-requires : tie.Need-too-short-requires
 too-short-requires c κs = search needs
 
--- src/lib.rt:278:23
 header-of-requires : tie.Need-header-of-requires
 header-of-requires c κs = search needs
 
--- src/lib.rt:278:9
 is-for-requires : tie.Need-is-for-requires
 is-for-requires c κs = search needs
 
--- src/lib.rt:279:9
 lists-requires : tie.Need-lists-requires
 lists-requires c κs = search needs
 
--- src/lib.rt:281:9
 returns : tie.Need-returns
 unfolding decodeOf
 returns c =
     let a = c .before .before .before .before .before .before .before .args in
     with-answer (a .kind) (a .bid) (a .in-startup) (a .transfer .now) (rw (sym (c .before .before .before .before .too-short .ensures) ∙ c .if1 .taken))
 
--- src/lib.rt:284:9
 returns-2 : tie.Need-returns-2
 unfolding decodeOf
 returns-2 c =
     let a = c .before .before .before .before .before .before .before .before .args in
     with-answer (a .kind) (a .bid) (a .in-startup) (a .transfer .now) (rw (sym (c .before .before .before .before .before .too-short .ensures) ∙ c .before .if1 .left, c .if2 .taken))
 
--- src/lib.rt:287:9
 returns-3 : tie.Need-returns-3
 unfolding decodeOf
 returns-3 c =
@@ -59,7 +42,6 @@ returns-3 c =
     let foreign : c .before .before .before .before .is-for .result ≡ false = not-true (c .before .before .before .before .is-for .result) (c .if3 .taken) in
     with-answer (a .kind) (a .bid) (a .in-startup) (a .transfer .now) (rw (sym (c .before .before .before .before .before .before .too-short .ensures) ∙ c .before .before .if1 .left, c .before .if2 .left, ← c .before .before .before .before .before .header-of .ensures, sym (c .before .before .before .before .is-for .ensures) ∙ foreign))
 
--- src/lib.rt:290:9
 returns-4 : tie.Need-returns-4
 unfolding decodeOf
 returns-4 c =
@@ -68,15 +50,12 @@ returns-4 c =
     let unlisted : c .before .before .before .before .lists .result ≡ false = not-true (c .before .before .before .before .lists .result) (c .if4 .taken) in
     with-answer (a .kind) (a .bid) (a .in-startup) (a .transfer .now) (rw (sym (c .before .before .before .before .before .before .before .too-short .ensures) ∙ c .before .before .before .if1 .left, c .before .before .if2 .left, ← c .before .before .before .before .before .before .header-of .ensures, sym (c .before .before .before .before .before .is-for .ensures) ∙ ours, sym (c .before .before .before .before .before .before .before .before .byte .ensures), sym (c .before .before .before .before .lists .ensures) ∙ unlisted))
 
--- src/lib.rt:292:13
 listed-as-requires : tie.Need-listed-as-requires
 listed-as-requires c κs = search needs
 
--- src/lib.rt:292:5
 by-list-requires : tie.Need-by-list-requires
 by-list-requires c κs = search needs
 
--- src/lib.rt:272:1
 returns-5 : tie.Need-returns-5
 unfolding decodeOf
 returns-5 c =

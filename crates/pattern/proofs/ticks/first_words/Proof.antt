@@ -13,13 +13,13 @@ use Rattle.pattern.proofs.ticks.first_words.Statement.{statement}
 use Rattle.pattern.proofs.ticks.first_words.Tie as tie
 
 abbrev Inv-loop : tie.InvT-loop
-Inv-loop words₀ left₀ words left = (left ≤ 122) × (length words ≡ 122) × (sets words (122 - left) (numbersFrom (122 - left) left) ≡ numbersFrom 0 122)
+Inv-loop words₀ left₀ words left = (left ≤ 130) × (length words ≡ 130) × (sets words (130 - left) (numbersFrom (130 - left) left) ≡ numbersFrom 0 130)
 
 abbrev μ-loop : tie.MeasureT-loop
 μ-loop words₀ left₀ words left = left
 
 loop-holds : tie.Need-loop-holds Inv-loop μ-loop
-loop-holds c = (search needs, refl, covering _ (numbersFrom 0 122) (numbers-length 0 122))
+loop-holds c = (search needs, refl, covering _ (numbersFrom 0 130) (numbers-length 0 130))
 
 sub-i : tie.Need-sub-i Inv-loop μ-loop
 sub-i c = search needs
@@ -42,14 +42,14 @@ loop-less c = search needs
 loop-again : tie.Need-loop-again Inv-loop μ-loop
 loop-again c =
     let l = c .before .loop in
-    let j : ℕ = 122 - l .left in
-    let e : 122 - (l .left - 1) ≡ j + 1 = omega arith in
+    let j : ℕ = 130 - l .left in
+    let e : 130 - (l .left - 1) ≡ j + 1 = omega arith in
     (omega arith, simp length-set (l .inv .1), rw e (sets-turn (l .words) j (numbers-turn j (l .left) (omega arith)) refl ∙ l .inv .2))
 
 returns : tie.Need-returns Inv-loop μ-loop
 returns c =
     let l = c .before .loop in
-    sym (ap (sets (l .words) (122 - l .left)) (numbers-end (122 - l .left) (l .left) (omega arith))) ∙ l .inv .2
+    sym (ap (sets (l .words) (130 - l .left)) (numbers-end (130 - l .left) (l .left) (omega arith))) ∙ l .inv .2
 
 pub first-words-spec : {M : Type 1} → statement M
 first-words-spec =

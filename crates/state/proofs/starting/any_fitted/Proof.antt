@@ -4,15 +4,11 @@ use borrow.Author.Tests.{eq-eqb, ne-eqb}
 use Rattle.state.specs.Start.{anyFitted}
 use Rattle.state.proofs.starting.any_fitted.Statement.{statement}
 use Rattle.state.proofs.starting.any_fitted.Tie as tie
-use Rattle.state.proofs.starting.any_fitted.Reads as reads
-use Rattle.state.proofs.starting.any_fitted.Lts as lts
 
--- src/starting.rt:87:9
 returns : tie.Need-returns
 unfolding anyFitted
 returns c = rw (eq-eqb (c .before .args .places) 0 (omega arith))
 
--- src/starting.rt:83:1
 returns-2 : tie.Need-returns-2
 unfolding anyFitted
 returns-2 c = rw (ne-eqb (c .before .args .places) 0 (λ e. omega arith))

@@ -6,20 +6,14 @@ use Rattle.state.specs.Start.{bidInRange}
 use borrow.Author.Needs.{needs}
 use Rattle.state.proofs.starting.bid_in_range.Statement.{statement}
 use Rattle.state.proofs.starting.bid_in_range.Tie as tie
-use Rattle.state.proofs.starting.bid_in_range.Reads as reads
-use Rattle.state.proofs.starting.bid_in_range.Lts as lts
-use Rattle.kinds.proofs.last_bid.Reads as last-bid-reads
 
--- src/starting.rt:76:9
 returns : tie.Need-returns
 unfolding bidInRange
 returns c = rw (lt-leb 1 (c .before .before .args .profile .bid) (omega arith))
 
--- src/starting.rt:79:20
 last-bid-requires : tie.Need-last-bid-requires
 last-bid-requires c κs = search needs
 
--- src/starting.rt:72:1
 returns-2 : tie.Need-returns-2
 unfolding bidInRange
 returns-2 c = rw (le-leb 1 (c .before .before .before .before .args .profile .bid) (omega arith), ← c .before .last-bid .ensures)

@@ -5,39 +5,27 @@ use Rattle.state.specs.Start.{channelsInPlace}
 use borrow.Author.Needs.{needs}
 use Rattle.state.proofs.starting.channels_in_place.Statement.{statement}
 use Rattle.state.proofs.starting.channels_in_place.Tie as tie
-use Rattle.state.proofs.starting.channels_in_place.Reads as reads
-use Rattle.state.proofs.starting.channels_in_place.Lts as lts
-use Rattle.channels.proofs.within.Reads as within-reads
-use Rattle.kinds.proofs.places.Reads as places-reads
-use Rattle.state.proofs.starting.any_fitted.Reads as any-fitted-reads
 
--- src/starting.rt:98:9
 places-requires : tie.Need-places-requires
 places-requires c κs = search needs
 
--- src/starting.rt:99:9
 any-fitted-requires : tie.Need-any-fitted-requires
 any-fitted-requires c κs = search needs
 
--- src/starting.rt:100:9
 returns : tie.Need-returns
 unfolding channelsInPlace
 returns c = rw (← c .before .before .places .ensures, sym (c .before .any-fitted .ensures) ∙ not-true (c .before .any-fitted .result) (c .if1 .taken))
 
--- src/starting.rt:102:9
 within-requires : tie.Need-within-requires
 within-requires c κs = search needs
 
--- src/starting.rt:103:9
 returns-2 : tie.Need-returns-2
 unfolding channelsInPlace
 returns-2 c = rw (← c .before .before .before .before .places .ensures, sym (c .before .before .before .any-fitted .ensures) ∙ not-false (c .before .before .before .any-fitted .result) (c .before .before .if1 .left), sym (c .before .within .ensures) ∙ not-true (c .before .within .result) (c .if2 .taken))
 
--- src/starting.rt:105:5
 within-requires-2 : tie.Need-within-requires-2
 within-requires-2 c κs = search needs
 
--- src/starting.rt:94:1
 returns-3 : tie.Need-returns-3
 unfolding channelsInPlace
 returns-3 c = rw (← c .before .before .before .before .before .places .ensures, sym (c .before .before .before .before .any-fitted .ensures) ∙ not-false (c .before .before .before .before .any-fitted .result) (c .before .before .before .if1 .left), sym (c .before .before .within .ensures) ∙ not-false (c .before .before .within .result) (c .before .if2 .left), c .within2 .ensures)

@@ -5,45 +5,31 @@ use Rattle.state.specs.Start.{keepsTheRules}
 use borrow.Author.Needs.{needs}
 use Rattle.state.proofs.starting.keeps_the_rules.Statement.{statement}
 use Rattle.state.proofs.starting.keeps_the_rules.Tie as tie
-use Rattle.state.proofs.starting.keeps_the_rules.Reads as reads
-use Rattle.state.proofs.starting.keeps_the_rules.Lts as lts
-use Rattle.kinds.proofs.is_served.Reads as is-served-reads
-use Rattle.state.proofs.starting.bid_in_range.Reads as bid-in-range-reads
-use Rattle.state.proofs.starting.channels_in_place.Reads as channels-in-place-reads
-use Rattle.state.proofs.starting.stored_in_range.Reads as stored-in-range-reads
 
--- src/starting.rt:115:9
 is-served-requires : tie.Need-is-served-requires
 is-served-requires c κs = search needs
 
--- src/starting.rt:116:9
 returns : tie.Need-returns
 unfolding keepsTheRules
 returns c = rw (sym (c .before .is-served .ensures) ∙ not-true (c .before .is-served .result) (c .if1 .taken))
 
--- src/starting.rt:118:9
 bid-in-range-requires : tie.Need-bid-in-range-requires
 bid-in-range-requires c κs = search needs
 
--- src/starting.rt:119:9
 returns-2 : tie.Need-returns-2
 unfolding keepsTheRules
 returns-2 c = rw (sym (c .before .before .before .is-served .ensures) ∙ not-false (c .before .before .before .is-served .result) (c .before .before .if1 .left), sym (c .before .bid-in-range .ensures) ∙ not-true (c .before .bid-in-range .result) (c .if2 .taken))
 
--- src/starting.rt:121:9
 channels-in-place-requires : tie.Need-channels-in-place-requires
 channels-in-place-requires c κs = search needs
 
--- src/starting.rt:122:9
 returns-3 : tie.Need-returns-3
 unfolding keepsTheRules
 returns-3 c = rw (sym (c .before .before .before .before .before .is-served .ensures) ∙ not-false (c .before .before .before .before .before .is-served .result) (c .before .before .before .before .if1 .left), sym (c .before .before .before .bid-in-range .ensures) ∙ not-false (c .before .before .before .bid-in-range .result) (c .before .before .if2 .left), sym (c .before .channels-in-place .ensures) ∙ not-true (c .before .channels-in-place .result) (c .if3 .taken))
 
--- src/starting.rt:124:5
 stored-in-range-requires : tie.Need-stored-in-range-requires
 stored-in-range-requires c κs = search needs
 
--- src/starting.rt:111:1
 returns-4 : tie.Need-returns-4
 unfolding keepsTheRules
 returns-4 c = rw (sym (c .before .before .before .before .before .before .is-served .ensures) ∙ not-false (c .before .before .before .before .before .before .is-served .result) (c .before .before .before .before .before .if1 .left), sym (c .before .before .before .before .bid-in-range .ensures) ∙ not-false (c .before .before .before .before .bid-in-range .result) (c .before .before .before .if2 .left), sym (c .before .before .channels-in-place .ensures) ∙ not-false (c .before .before .channels-in-place .result) (c .before .if3 .left), c .stored-in-range .ensures)

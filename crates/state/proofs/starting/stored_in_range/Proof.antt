@@ -2,19 +2,13 @@
 use borrow.Author.Needs.{needs}
 use Rattle.state.proofs.starting.stored_in_range.Statement.{statement}
 use Rattle.state.proofs.starting.stored_in_range.Tie as tie
-use Rattle.state.proofs.starting.stored_in_range.Reads as reads
-use Rattle.state.proofs.starting.stored_in_range.Lts as lts
-use Rattle.settings.proofs.in_range.Reads as in-range-reads
 
--- src/starting.rt:105:9
 in-range-requires : tie.Need-in-range-requires
 in-range-requires c κs = search needs
 
--- src/starting.rt:105:9
 returns : tie.Need-returns
 returns c = rw (c .before .if1 .taken, c .in-range .ensures)
 
--- src/starting.rt:101:1
 returns-2 : tie.Need-returns-2
 returns-2 c = search needs
 

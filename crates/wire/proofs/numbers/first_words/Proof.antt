@@ -8,8 +8,6 @@ use lib.Seq.{take-all}
 use borrow.Author.Needs.{needs}
 use Rattle.wire.proofs.numbers.first_words.Statement.{statement}
 use Rattle.wire.proofs.numbers.first_words.Tie as tie
-use Rattle.wire.proofs.numbers.first_words.Reads as reads
-use Rattle.wire.proofs.numbers.first_words.Lts as lts
 
 sub-result : tie.Need-sub-result
 sub-result c = search needs

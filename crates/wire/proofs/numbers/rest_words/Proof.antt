@@ -8,8 +8,6 @@ use Rattle.laws.proofs.Lists.{drop-end}
 use borrow.Author.Needs.{needs}
 use Rattle.wire.proofs.numbers.rest_words.Statement.{statement}
 use Rattle.wire.proofs.numbers.rest_words.Tie as tie
-use Rattle.wire.proofs.numbers.rest_words.Reads as reads
-use Rattle.wire.proofs.numbers.rest_words.Lts as lts
 
 mul-result : tie.Need-mul-result
 mul-result c = search needs
