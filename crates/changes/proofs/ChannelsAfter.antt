@@ -8,6 +8,7 @@ use native.Mathlib.Omega.{arith}
 use Rattle.channels.specs.Chan.{chan}
 use Rattle.command.specs.Decode.{codeOf}
 use Rattle.memory.specs.Limits.{limitsOf}
+use Rattle.state.specs.Parts.{wordCount}
 use Rattle.state.specs.declared.parts.Board.{Board}
 use Rattle.answers.specs.Answers.{toldNumber}
 use Rattle.answers.specs.declared.Commanded.{Commanded}
@@ -43,7 +44,7 @@ module _ (m : Machine) (i : Sample) where
       go (obeying t obeyed) n = absurd (false≢true (sym n ∙ rw t))
 
   -- and so does a tick without a reset by the watchdog
-  left : happens i ≡ true → isAccepted (toldNumber (commanded m i .outcome)) ≡ false → tellsWatchdogReset m i ≡ false → told m i .machine .board .channels ≡ afterStep3 m i .channels
+  left : happens (wordCount (m .board)) i ≡ true → isAccepted (toldNumber (commanded m i .outcome)) ≡ false → tellsWatchdogReset m i ≡ false → told m i .machine .board .channels ≡ afterStep3 m i .channels
   left a n w = ap (λ (b : Board). b .channels) (leaves-step-4 m i a w) ∙ kept n
 
   -- without a transfer nothing is accepted

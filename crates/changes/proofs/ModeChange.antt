@@ -12,7 +12,7 @@ use Rattle.modes.specs.Commands.{toNominal, toSafety, leaves}
 use Rattle.modes.specs.declared.Mode.{Mode}
 use Rattle.modes.specs.declared.Mode.the-variants.{Startup, Nominal, Safety, Emergency}
 use Rattle.modes.specs.declared.ModeAge.{ModeAge}
-use Rattle.command.specs.Codes.{isIn}
+use Rattle.kinds.specs.Kinds.{isIn}
 use Rattle.command.specs.Decode.{codeOf}
 use Rattle.state.specs.declared.parts.Board.{Board}
 use Rattle.answers.specs.Answers.{toldNumber}

@@ -4,11 +4,12 @@ use mathlib.Core.Path.{_≡_, refl, ap, _∙_}
 use mathlib.Core.Bool.{false, _&&_}
 use lib.Dec.{eqb}
 use Rattle.laws.proofs.Cases.{cases}
-use Rattle.command.specs.Codes.{isIn}
+use Rattle.kinds.specs.Kinds.{isIn}
 use Rattle.command.specs.Decode.{codeOf}
 use Rattle.memory.specs.Limits.{limitsOf}
 use Rattle.memory.specs.declared.Memory.{Memory}
 use Rattle.memory.proofs.Laws.{load-leaves-store}
+use Rattle.state.specs.Parts.{wordCount}
 use Rattle.state.specs.Start.{freshOf, watchdogResetOf}
 use Rattle.state.specs.declared.parts.Board.{Board}
 use Rattle.answers.specs.Answers.{toldNumber}
@@ -54,14 +55,14 @@ module _ (m : Machine) (i : Sample) where
   unfolding tellsReset tellsCommandReset
   in-force r n =
       let w = neither (tellsWatchdogReset m i) _ r in
-      cases (happens i)
+      cases (happens (wordCount (m .board)) i)
       (λ a. ap (λ (b : Board). b .memory .current) (leaves-step-4 m i a (w .0)) ∙ step-current (step m i) (rw (tells m i a) at n) (rw (tells m i a) at (w .1)))
       (λ a. ap (λ (b : Board). b .memory .current) (leaves-all m i a))
 
   -- a reset by the watchdog comes after step 4, and leaves the store
   stored : acceptsOneOf savingCommands m i ≡ false → told m i .machine .board .memory .store ≡ m .board .memory .store
   stored n =
-      cases (happens i)
+      cases (happens (wordCount (m .board)) i)
       (λ a.
       let kept = step-store (step m i) (rw (tells m i a) at n) in
       cases (tellsWatchdogReset m i)

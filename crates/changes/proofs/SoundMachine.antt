@@ -2,14 +2,13 @@
 -- of a tick keeps both. Assumes nothing.
 use Prim.Native.Nat.{ℕ, _<_}
 use mathlib.Core.Path.{_≡_, refl, sym, _∙_, subst}
-use mathlib.Core.Bool.{Bool, true, false, cond, not, _&&_, and-false}
+use mathlib.Core.Bool.{Bool, true, false, cond, _&&_, and-false}
 use mathlib.Core.List.{List, [], _∷_}
-use lib.Dec.{eqb, leb}
 use lib.IntN.{ℤ}
 use Rattle.laws.proofs.Cases.{cases}
 use Rattle.modes.specs.declared.Mode.{Mode}
 use Rattle.modes.specs.declared.Limits.{Limits}
-use Rattle.channels.specs.Sets.{has, isWithin}
+use Rattle.channels.specs.Sets.{has}
 use Rattle.channels.specs.Chan.{Chan, chan}
 use Rattle.channels.specs.Operations.{onAndCleared, offAndCleared, offAndLatchKept, tripped, forceEnabled, commandEnabled, clearOne, cleared}
 use Rattle.channels.specs.declared.Channels.{Channels}
@@ -18,7 +17,9 @@ use Rattle.command.specs.Decode.{codeOf}
 use Rattle.memory.specs.Limits.{limitsOf}
 use Rattle.memory.specs.declared.Store.{Store}
 use Rattle.change.specs.Change.{isDark, fromNominalToSafety, enteringOf}
-use Rattle.state.specs.Start.{freshOf, neverReset, watchdogResetOf, storedInRange, keepsTheRules, startOf}
+use Rattle.kinds.specs.Kinds.{isServed}
+use Rattle.state.specs.Parts.{wordCount}
+use Rattle.state.specs.Start.{freshOf, neverReset, watchdogResetOf, storedInRange, bidInRange, channelsInPlace, keepsTheRules, startOf}
 use Rattle.state.specs.declared.parts.Board.{Board}
 use Rattle.state.specs.declared.parts.Profile.{Profile}
 use Rattle.state.specs.declared.parts.Resets.{Resets}
@@ -172,7 +173,7 @@ reset-sound b u = fresh (b .profile) (b .memory .store) _ (u .range .store)
 ticked : (m : Machine) (i : Sample) → Sound (m .board) → Sound (told m i .machine .board)
 ticked m i u =
     let v = obeyed-sound m i (settled m i u) in
-    cases (happens i)
+    cases (happens (wordCount (m .board)) i)
     (λ a.
     cases (tellsWatchdogReset m i)
     (λ w. subst Sound (sym (reset-is-told m i .by-watchdog w)) (reset-sound (afterStep4 m i) v))
@@ -204,7 +205,7 @@ run m (call ∷ calls) u = run (afterCall m call) calls (called m call u)
 -- ---- the rules of a start
 -- those of a profile and that of a store
 abbrev keeps : Profile → Bool
-keeps p = leb 1 (p .bid) && leb (p .bid) 8 && not (eqb (p .fitted) 0) && isWithin (p .forced) (p .fitted)
+keeps p = isServed (p .kind) && bidInRange p && channelsInPlace p
 
 -- together they are the rules
 rules-are : (p : Profile) (store : Store) → keepsTheRules p store ≡ (keeps p && storedInRange store)

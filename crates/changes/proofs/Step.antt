@@ -10,6 +10,7 @@ use lib.IntN.{ℤ}
 use lib.ListN.{length}
 use borrow.Author.Tests.{eqb-true}
 use Rattle.laws.proofs.Cases.{cases}
+use Rattle.kinds.specs.Kinds.{boardOf, isIn}
 use Rattle.wire.specs.Replies.{replyOf}
 use Rattle.value.specs.declared.Parsed.{Parsed}
 use Rattle.value.specs.Values.{readOf}
@@ -21,13 +22,12 @@ use Rattle.modes.specs.declared.Limits.{Limits}
 use Rattle.modes.specs.declared.ModeAnswer as change
 use Rattle.channels.specs.declared.Channels.{Channels}
 use Rattle.command.specs.Table.{commandTable, find}
-use Rattle.command.specs.Codes.{isIn, baseCodes}
-use Rattle.command.specs.Decode.{fewerThanFour, headerIs, codeOf, byteAfter, idOf, valuePart, getBy, getting, valued, setBy, setting, resetBy, resetting, carried, listed, decodeBy, decodeOf}
+use Rattle.command.specs.Decode.{fewerThanFour, headerIs, codeOf, byteAfter, idOf, valuePart, getBy, getting, valued, setBy, setting, resetBy, resetting, carried, listed, decodeOf}
 use Rattle.command.specs.declared.Decoded.{Decoded}
 use Rattle.command.specs.declared.Decoded.the-variants.{Refused}
 use Rattle.command.specs.declared.Refusal.{Refusal}
-use Rattle.command.specs.declared.Refusal.the-variants.{FewerThanFourBytes, NotThisBoard, CodeNotListed, TooShort, WrongKey, WrongParameter, NotANumber}
-use Rattle.command.proofs.Laws.{none, _and_, by-code}
+use Rattle.command.specs.declared.Refusal.the-variants.{FewerThanFourBytes, InStartup, NotThisBoard, CodeNotListed, TooShort, WrongKey, WrongParameter, NotANumber}
+use Rattle.command.proofs.Laws.{none, _and_, at-code, tableCodes, has-a-command}
 use Rattle.memory.specs.Memory.{loadOf, savedOf}
 use Rattle.memory.specs.declared.Memory.{Memory}
 use Rattle.memory.proofs.Laws.{load-leaves-store, set-leaves-store, reset-leaves-store, defaults-leave-store, save-leaves-current}
@@ -39,7 +39,10 @@ use Rattle.answers.specs.Answers.{toldNumber, headerOf, new, acceptedWith, acce
 use Rattle.answers.specs.declared.Answer.{Answer}
 use Rattle.answers.specs.declared.Commanded.{Commanded}
 use Rattle.effects.specs.Effects.{isNominal, switchedOf, groupOnOf, groupOffOf, groupStateOf, channelOnOf, channelOffOf, cancelledOf, switchedModeOf, faultsOf, housekeepingOf, parameterAnswered as parameterRun, rememberedOf, savedIn, restartedOf, runOf}
-use Rattle.commands.specs.Step.{isStartup, turnedDown, decodedOf, transferredOf, commandedOf}
+use Rattle.asking.specs.Checks.{isStartup}
+use Rattle.commands.specs.Step.{commandedOf}
+use Rattle.commands.proofs.Stepwise.{turnedDown, decodedOf, steppedOf}
+use Rattle.commands.proofs.Told.{stepwise}
 use Rattle.groups.specs.Resets.{isAccepted}
 use Rattle.groups.proofs.Counts.{not-accepted}
 use Rattle.changes.specs.SettingsChange.{settingCommands, savingCommands}
@@ -86,6 +89,7 @@ module _ (rail : ℤ) (limits : Limits) (s : List ℕ) (b : Board) where
   turned-down : (k : ℕ) (r : Refusal) → Does k (turnedDown k r b)
   unfolding turnedDown notThisBoardOf refusedOf
   turned-down k FewerThanFourBytes = refusing 0 refl (record { phase = refl; memory = refl; channels = refl })
+  turned-down k InStartup = refusing 1 refl (record { phase = refl; memory = refl; channels = refl })
   turned-down k NotThisBoard = refusing 2 refl (record { phase = refl; memory = refl; channels = refl })
   turned-down k CodeNotListed = refusing 3 refl (record { phase = refl; memory = refl; channels = refl })
   turned-down k TooShort = refusing 4 refl (record { phase = refl; memory = refl; channels = refl })
@@ -248,7 +252,7 @@ module _ (rail : ℤ) (limits : Limits) (s : List ℕ) (b : Board) where
         faults = λ e. both refl e;
       })
 
-  -- ---- every command of the list
+  -- ---- every command of the table
   abbrev Run-does : ℕ → Decoded → Type 0
   Run-does k d = Does k (decodedOf rail limits k d b)
 
@@ -301,11 +305,11 @@ module _ (rail : ℤ) (limits : Limits) (s : List ℕ) (b : Board) where
   unfolding loadOf
   load-store = load-leaves-store (b .memory .store)
 
-  -- by the base list, code by code
-  in-list : (code : ℕ) → isIn code baseCodes ≡ true → Run-does code (listed (find commandTable code) s)
-  unfolding listed find commandTable baseCodes isIn carried getting setting resetting decodedOf runOf groupOnOf groupOffOf groupStateOf channelOnOf channelOffOf cancelledOf acceptedOf acceptedWith housekeepingOf
+  -- by the table, code by code
+  in-list : (code : ℕ) → isIn code tableCodes ≡ true → Run-does code (listed (find commandTable code) s)
+  unfolding listed find commandTable isIn carried getting setting resetting decodedOf runOf groupOnOf groupOffOf groupStateOf channelOnOf channelOffOf cancelledOf acceptedOf acceptedWith housekeepingOf
   in-list code h =
-      by-code (λ k. Run-does k (listed (find commandTable k) s)) code baseCodes
+      at-code (λ k. Run-does k (listed (find commandTable k) s)) code tableCodes h
       (keyed 0xAA 5 0xA6 _ restarted
       and plain 0x02 4 _ (plainly 0x02 _ refl refl refl refl refl)
       and plain 0x04 4 _ (plainly 0x04 _ refl refl refl refl refl)
@@ -327,22 +331,19 @@ module _ (rail : ℤ) (limits : Limits) (s : List ℕ) (b : Board) where
       and keyed 0x92 5 0xA7 _ (remembered 0x92 _ refl refl load-store (λ r. load (b .memory) r))
       and keyed 0x94 7 0xA7 _ (save _)
       and none)
-      (λ e. absurd (false≢true (sym e ∙ h)))
 
-  -- ---- every transfer
-  decoded : Run-does (codeOf s) (decodeOf (headerOf (b .profile)) s)
-  unfolding decodeOf decodeBy decodedOf
-  decoded =
-      behind (codeOf s) (fewerThanFour s) FewerThanFourBytes _
-      (behind (codeOf s) (not (headerIs (headerOf (b .profile)) s)) NotThisBoard _
-      (cases (isIn (codeOf s) baseCodes) (λ here. rw here (in-list (codeOf s) here)) (λ other. rw other (turned-down (codeOf s) CodeNotListed))))
-
-  -- checks 1 and 2, and then the decoder's
+  -- ---- every transfer: the checks of the decoder, and then its code, where the board has that
   pub does : Does (codeOf s) (commandedOf rail limits true s b)
-  unfolding commandedOf transferredOf
+  unfolding commandedOf steppedOf decodeOf decodedOf
   does =
-      either (codeOf s) (fewerThanFour s) (refusing 0 refl (record { phase = refl; memory = refl; channels = refl }))
-      (either (codeOf s) (isStartup (modeOf b)) (refusing 1 refl (record { phase = refl; memory = refl; channels = refl })) decoded)
+      let code = codeOf s in
+      rw (stepwise rail limits s b)
+      (behind code (fewerThanFour s) FewerThanFourBytes _
+      (behind code (isStartup (modeOf b)) InStartup _
+      (behind code (not (headerIs (headerOf (b .profile)) s)) NotThisBoard _
+      (cases (isIn code (boardOf (b .profile .kind) .codes))
+      (λ here. rw here (in-list code (has-a-command (b .profile .kind) code here)))
+      (λ none-such. rw none-such (turned-down code CodeNotListed))))))
 
   -- ---- a transfer or none, by whether it was accepted
   pub data Takes (c : Commanded) : Type 0 where

@@ -1,4 +1,4 @@
--- A tick that happens is its command step, and then the watchdog, which after an accepted command tells nothing.
+-- A tick that happens (wordCount (m .board)) is its command step, and then the watchdog, which after an accepted command tells nothing.
 -- Assumes nothing.
 use Prim.Native.Nat.{ℕ, _≤_, _<_}
 use mathlib.Core.Path.{_≡_, refl, sym, ap, _∙_}
@@ -11,7 +11,7 @@ use lib.Dec.{eqb}
 use borrow.Author.Tests.{eqb-true}
 use Rattle.laws.proofs.Cases.{cases}
 use Rattle.laws.proofs.Lists.{lt-or-le}
-use Rattle.command.specs.Codes.{isIn}
+use Rattle.kinds.specs.Kinds.{isIn}
 use Rattle.command.specs.Decode.{codeOf}
 use Rattle.watchdog.specs.Watchdog as dog
 use Rattle.watchdog.specs.declared.Event.{Event}
@@ -20,7 +20,9 @@ use Rattle.watchdog.proofs.Laws.{early, disabled}
 use Rattle.memory.specs.Limits.{timeoutOf, limitsOf}
 use Rattle.answers.specs.Answers.{toldNumber}
 use Rattle.answers.specs.declared.Commanded.{Commanded}
+use Rattle.state.specs.Parts.{wordCount}
 use Rattle.commands.specs.Step.{commandedOf}
+use Rattle.commands.proofs.Told.{same-number}
 use Rattle.board.specs.Tick.{watchedAs, watchedIn, tickWith, tickOf}
 use Rattle.board.proofs.Laws.{number-9}
 use Rattle.unit.specs.Machine.{toldOf}
@@ -33,10 +35,6 @@ use Rattle.changes.specs.Accepted.{acceptsOneOf}
 use Rattle.changes.proofs.Step.{Takes, leaving, obeying, takes}
 
 -- ---- what is told
--- two answers that are the same have the same number
-same-number : (n k : ℕ) → some n ≡ some k → n ≡ k
-same-number n k e = cc
-
 -- the one answer that is an acceptance
 pub is-accepted : (o : Option ℕ) → isAccepted o ≡ true → o ≡ some 0
 is-accepted none e = absurd (false≢true e)
@@ -92,27 +90,27 @@ module _ (m : Machine) (i : Sample) where
   step = takes (i .rail) (limitsOf (m .board .memory)) (i .transfer) (afterStep3 m i) (i .sent)
 
   -- one that does not happen
-  pub leaves-all : happens i ≡ false → told m i .machine .board ≡ m .board
+  pub leaves-all : happens (wordCount (m .board)) i ≡ false → told m i .machine .board ≡ m .board
   leaves-all e = ap (λ (x : Machine). x .board) (refused-tick-leaves (i .rail) (i .named) (i .words) (i .sent) (i .transfer) m e)
 
   -- it is told by 9
-  tells-9 : happens i ≡ false → toldNumber (told m i .outcome) ≡ some 9
+  tells-9 : happens (wordCount (m .board)) i ≡ false → toldNumber (told m i .outcome) ≡ some 9
   unfolding toldOf
   tells-9 e = number-9 (i .rail) (i .named) (i .words) (i .sent) (i .transfer) (m .board) e
 
   -- one that does tells what its command step tells
-  pub tells : happens i ≡ true → told m i .outcome ≡ commanded .outcome
+  pub tells : happens (wordCount (m .board)) i ≡ true → told m i .outcome ≡ commanded .outcome
   unfolding toldOf tickOf tickWith
   tells a = rw a (watched-tells commanded)
 
   -- and leaves what that leaves, unless it tells of a reset by the watchdog
-  pub leaves-step-4 : happens i ≡ true → tellsWatchdogReset m i ≡ false → told m i .machine .board ≡ afterStep4 m i
+  pub leaves-step-4 : happens (wordCount (m .board)) i ≡ true → tellsWatchdogReset m i ≡ false → told m i .machine .board ≡ afterStep4 m i
   unfolding toldOf tellsWatchdogReset tickOf tickWith
   leaves-step-4 a e = rw a (not-reset commanded (rw a at e))
 
   -- a tick that tells a number up to 7 happened
-  pub happened : (n : ℕ) → n ≤ 7 → toldNumber (told m i .outcome) ≡ some n → happens i ≡ true
-  happened n h q = cases (happens i) (λ a. a) (λ a. absurd (omega (arith, same-number 9 n (sym (tells-9 a) ∙ q))))
+  pub happened : (n : ℕ) → n ≤ 7 → toldNumber (told m i .outcome) ≡ some n → happens (wordCount (m .board)) i ≡ true
+  happened n h q = cases (happens (wordCount (m .board)) i) (λ a. a) (λ a. absurd (omega (arith, same-number 9 n (sym (tells-9 a) ∙ q))))
 
   -- without a transfer no number is told
   no-answer : i .sent ≡ false → toldNumber (commanded .outcome) ≡ none

@@ -2,7 +2,8 @@
 -- Assumes nothing: these are definitions.
 use Prim.Native.Nat.{ℕ}
 use mathlib.Core.{Bool.Bool, Bool._&&_, List.List}
-use Rattle.command.specs.{Codes.isIn, Decode.codeOf}
+use Rattle.kinds.specs.Kinds.{isIn}
+use Rattle.command.specs.Decode.{codeOf}
 use Rattle.answers.specs.Answers.{toldNumber}
 use Rattle.unit.specs.{declared.Machine.Machine, Runs.Sample, Runs.told}
 use Rattle.groups.specs.Resets.{isAccepted}

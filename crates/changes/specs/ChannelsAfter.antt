@@ -6,6 +6,7 @@ use Prim.Native.Nat.{ℕ, _≤_, _<_}
 use mathlib.Core.{Path._≡_, Bool.true, Bool.false, Option.Option, Option.some}
 use Rattle.channels.specs.Chan.{chan}
 use Rattle.command.specs.Decode.{codeOf}
+use Rattle.state.specs.Parts.{wordCount}
 use Rattle.answers.specs.Answers.{toldNumber}
 use Rattle.unit.specs.{declared.Machine.Machine, Runs.Sample, Runs.told, Runs.happens, Runs.afterStep3}
 use Rattle.groups.specs.{Groups.sentences, Groups.madeBy, Resets.tellsWatchdogReset}
@@ -18,4 +19,4 @@ pub record ChannelsAfter (m : Machine) (i : Sample) : Type 0 where
   pub accepted : answer m i ≡ some 0 → (c : ℕ) → c < 32
       → chan (told m i .machine .board .channels) c ≡ madeBy (sentences (afterStep3 m i) (i .transfer) c) (codeOf (i .transfer)) (chan (afterStep3 m i .channels) c)
   pub refused : (n : ℕ) → 1 ≤ n → n ≤ 7 → answer m i ≡ some n → tellsWatchdogReset m i ≡ false → told m i .machine .board .channels ≡ afterStep3 m i .channels
-  pub no-transfer : happens i ≡ true → i .sent ≡ false → tellsWatchdogReset m i ≡ false → told m i .machine .board .channels ≡ afterStep3 m i .channels
+  pub no-transfer : happens (wordCount (m .board)) i ≡ true → i .sent ≡ false → tellsWatchdogReset m i ≡ false → told m i .machine .board .channels ≡ afterStep3 m i .channels

@@ -9,6 +9,7 @@ use mathlib.Core.{Path._≡_, Bool.true, Bool.false, List.List, List.[], List._�
 use Rattle.modes.specs.Table.{Row, from_when_to_, modeTable, same, stepOf, olderOf}
 use Rattle.modes.specs.{Commands.toNominal, Commands.toSafety, Commands.leaves, declared.ModeAge.ModeAge, declared.Limits.Limits}
 use Rattle.memory.specs.Limits.{limitsOf}
+use Rattle.state.specs.Parts.{wordCount}
 use Rattle.unit.specs.{declared.Machine.Machine, Runs.Sample, Runs.told, Runs.happens, Runs.afterStep3}
 use Rattle.groups.specs.Resets.{tellsReset}
 use Rattle.changes.specs.Accepted.{acceptsOneOf}
@@ -40,7 +41,7 @@ pub record ByARow (m : Machine) (i : Sample) : Type 0 where
 
 -- nothing but the table has a say in the mode
 pub record TableAlone (m : Machine) (i : Sample) : Type 0 where
-  pub happening : happens i ≡ true
+  pub happening : happens (wordCount (m .board)) i ≡ true
   pub no-reset : tellsReset m i ≡ false
   pub no-command : acceptsOneOf modeCommands m i ≡ false
 

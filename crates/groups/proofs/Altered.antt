@@ -9,6 +9,7 @@ use lib.IntN.{ℤ}
 use native.Mathlib.Omega.{arith}
 use borrow.Author.Tests.{ltb-false, eqb-true, eq-eqb}
 use Rattle.laws.proofs.Cases.{cases}
+use Rattle.kinds.specs.Kinds.{isIn}
 use Rattle.modes.specs.Table.{same}
 use Rattle.modes.specs.declared.Mode.the-variants.{Nominal}
 use Rattle.modes.specs.declared.Limits.{Limits}
@@ -16,14 +17,13 @@ use Rattle.channels.specs.Sets.{has}
 use Rattle.channels.specs.Chan.{Chan, chan}
 use Rattle.channels.specs.Operations.{onAndCleared, offAndCleared, wrongToSwitchOn, wrongToSwitchOff}
 use Rattle.channels.specs.declared.Channels.{Channels}
-use Rattle.command.specs.Codes.{isIn}
 use Rattle.command.specs.Decode.{codeOf, byteAfter}
-use Rattle.command.specs.Checks.{Check, _when_, first}
+use Rattle.command.specs.Checks.{Check, _when_, first, checks}
 use Rattle.state.specs.Parts.{modeOf}
 use Rattle.state.specs.declared.parts.Board.{Board}
 use Rattle.commands.specs.Step.{commandedOf}
-use Rattle.order.specs.Checks.{channelWrong, checksBy, checksOf}
-use Rattle.order.proofs.Order.{in-order}
+use Rattle.asking.specs.Checks.{channelWrong, checksOf}
+use Rattle.commands.proofs.Told.{same-number, number-told}
 use Rattle.groups.specs.Groups.{isFitted, isCommandEnabled, obeyed, Answers, Sentence, at_each_becomes_, sentences, madeBy, namedBy}
 use Rattle.groups.specs.Altered.{altering, before, afterwards, Altered}
 use Rattle.groups.proofs.Groups.{Leaves, refusing, accepting, leaves, groups}
@@ -118,10 +118,9 @@ module _ (rail : ℤ) (limits : Limits) (s : List ℕ) (b : Board) where
 
   -- an accepted command has passed the check of its channel
   channel-right : Answers rail limits s b 0 → channelWrong (codeOf s) (b .profile) (byteAfter s) ≡ false
-  unfolding commandedOf checksOf checksBy
+  unfolding commandedOf checksOf checks
   channel-right a =
-      let p = in-order rail limits b s in
-      let z : first (checksOf rail limits b s) ≡ 0 = cc in
+      let z : first (checksOf rail limits b s) ≡ 0 = same-number _ 0 (sym (number-told rail limits s b) ∙ a) in
       none-here 6 _ _ (past 6 _ _ (past 4 _ _ (past 6 _ _ (past 6 _ _ (past 5 _ _ (past 4 _ _ (past 3 _ _ (past 2 _ _ (past 1 _ _ (past 0 _ _ z))))))))))
 
   -- a channel that is not wrong to switch on is there and fitted; one that is not wrong to switch off is

@@ -25,6 +25,7 @@ use Rattle.watchdog.specs.declared.Event.the-variants.{NoEvent, PeripheralReset
 use Rattle.memory.specs.Limits.{timeoutOf, limitsOf}
 use Rattle.memory.specs.declared.Store.{Store}
 use Rattle.change.specs.Change.{isDark, fromNominalToSafety, enteringOf}
+use Rattle.state.specs.Parts.{wordCount}
 use Rattle.state.specs.Start.{freshOf, watchdogResetOf, commandResetOf, keepsTheRules, startOf}
 use Rattle.state.specs.declared.parts.Board.{Board}
 use Rattle.state.specs.declared.parts.Profile.{Profile}
@@ -155,7 +156,7 @@ happened-counts m i c h x e =
 -- any tick: one that does not happen leaves the count
 ticked-counts : (m : Machine) (i : Sample) (c : ℕ) → c < 32 → countIn c (told m i .machine .board) ≡ countNext (tellsReset m i) (takesOff c m i) (countIn c (m .board))
 unfolding toldOf tellsReset tellsWatchdogReset tellsCommandReset tickOf tickWith
-ticked-counts m i c h = cases (happens i) (λ e. rw e (happened-counts m i c h _ refl)) (λ e. rw e)
+ticked-counts m i c h = cases (happens (wordCount (m .board)) i) (λ e. rw e (happened-counts m i c h _ refl)) (λ e. rw e)
 
 -- ---- a read of the text line
 heard-counts : (c : ℕ) (l : Line) (m : Machine) → countIn c (afterLine l m .board) ≡ countIn c (m .board)

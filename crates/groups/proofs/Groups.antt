@@ -1,5 +1,5 @@
--- Why a command alters the channels that document 01 names for it and no others. Each command of the base list is run
--- on any board; the laws of `channels` say what its operation makes of one channel, and that is what the sentences say.
+-- Why a command alters the channels that document 01 names for it and no others. Each command of the table is run on
+-- any board; the laws of `channels` say what its operation makes of one channel, and that is what the sentences say.
 -- Assumes nothing.
 use Prim.Native.Nat.{ℕ, suc, _<_}
 use mathlib.Core.Path.{_≡_, refl, sym, ap, _∙_, subst}
@@ -11,6 +11,7 @@ use lib.IntN.{ℤ}
 use lib.ListN.{length, replicate}
 use native.Mathlib.Omega.{arith}
 use Rattle.laws.proofs.Cases.{cases}
+use Rattle.kinds.specs.Kinds.{boardOf, isIn}
 use Rattle.wire.specs.Numbers.{number}
 use Rattle.value.specs.declared.Parsed.{Parsed}
 use Rattle.value.specs.Values.{readOf}
@@ -30,25 +31,27 @@ use Rattle.channels.proofs.Sets.{allBelow-each}
 use Rattle.channels.proofs.Whole.{Held}
 use Rattle.channels.proofs.Laws as channel
 use Rattle.command.specs.Table.{commandTable, find}
-use Rattle.command.specs.Codes.{isIn, baseCodes}
-use Rattle.command.specs.Decode.{fewerThanFour, headerIs, codeOf, byteAfter, idOf, valuePart, groupIn, getBy, getting, valued, setBy, setting, resetBy, resetting, carried, listed, decodeBy, decodeOf}
+use Rattle.command.specs.Decode.{fewerThanFour, headerIs, codeOf, byteAfter, idOf, valuePart, groupIn, getBy, getting, valued, setBy, setting, resetBy, resetting, carried, headerOf, listed, decodeOf}
 use Rattle.command.specs.declared.Group.{Group}
 use Rattle.command.specs.declared.Decoded.{Decoded}
 use Rattle.command.specs.declared.Decoded.the-variants.{Refused}
 use Rattle.command.specs.declared.Refusal.{Refusal}
-use Rattle.command.specs.declared.Refusal.the-variants.{FewerThanFourBytes, NotThisBoard, CodeNotListed, TooShort, WrongKey, WrongParameter, NotANumber}
-use Rattle.command.proofs.Laws.{none, _and_, by-code}
+use Rattle.command.specs.declared.Refusal.the-variants.{FewerThanFourBytes, InStartup, NotThisBoard, CodeNotListed, TooShort, WrongKey, WrongParameter, NotANumber}
+use Rattle.command.proofs.Laws.{none, _and_, at-code, tableCodes, has-a-command}
 use Rattle.memory.specs.Memory.{savedOf}
 use Rattle.memory.specs.declared.Memory.{Memory}
 use Rattle.state.specs.Parts.{modeOf}
 use Rattle.state.specs.Start.{freshOf, commandResetOf}
 use Rattle.change.specs.Change.{isDark, fromNominalToSafety, enteringOf}
 use Rattle.state.specs.declared.parts.Board.{Board}
-use Rattle.answers.specs.Answers.{toldNumber, headerOf, acceptedWith, acceptedOf, refusedOf, notThisBoardOf}
+use Rattle.answers.specs.Answers.{toldNumber, acceptedWith, acceptedOf, refusedOf, notThisBoardOf}
 use Rattle.answers.specs.declared.Answer.{Answer}
 use Rattle.answers.specs.declared.Commanded.{Commanded}
 use Rattle.effects.specs.Effects.{isNominal, switchedOf, groupOnOf, groupOffOf, groupStateOf, channelOnOf, channelOffOf, cancelledOf, switchedModeOf, faultsOf, housekeepingOf, parameterAnswered as parameterRun, rememberedOf, savedIn, restartedOf, runOf}
-use Rattle.commands.specs.Step.{isStartup, turnedDown, decodedOf, transferredOf, commandedOf}
+use Rattle.asking.specs.Checks.{isStartup}
+use Rattle.commands.specs.Step.{commandedOf}
+use Rattle.commands.proofs.Stepwise.{turnedDown, decodedOf, steppedOf}
+use Rattle.commands.proofs.Told.{stepwise}
 use Rattle.groups.specs.Groups.{maskIn, isSpokenOf, sentences, madeBy, Groups}
 
 -- ---- the mask of a transfer, and the channels that it speaks of, are the decoder's
@@ -123,6 +126,7 @@ module _ (rail : ℤ) (limits : Limits) (s : List ℕ) (b : Board) where
   turned-down : (k : ℕ) (r : Refusal) → Leaves k (turnedDown k r b)
   unfolding turnedDown notThisBoardOf refusedOf
   turned-down k FewerThanFourBytes = refusing 0 refl (record { channels = refl; profile = refl; phase = refl })
+  turned-down k InStartup = refusing 1 refl (record { channels = refl; profile = refl; phase = refl })
   turned-down k NotThisBoard = refusing 2 refl (record { channels = refl; profile = refl; phase = refl })
   turned-down k CodeNotListed = refusing 3 refl (record { channels = refl; profile = refl; phase = refl })
   turned-down k TooShort = refusing 4 refl (record { channels = refl; profile = refl; phase = refl })
@@ -297,7 +301,7 @@ module _ (rail : ℤ) (limits : Limits) (s : List ℕ) (b : Board) where
         reset = λ _. refl;
       })
 
-  -- ---- every command of the list
+  -- ---- every command of the table
   abbrev Run-leaves : ℕ → Decoded → Type 0
   Run-leaves k d = Leaves k (decodedOf rail limits k d b)
 
@@ -343,11 +347,11 @@ module _ (rail : ℤ) (limits : Limits) (s : List ℕ) (b : Board) where
   keyed : (k needed key : ℕ) (d : Decoded) → Run-leaves k d → Run-leaves k (cond (ltb (length s) needed) (Refused TooShort) (cond (not (eqb (byteAfter s) key)) (Refused WrongKey) d))
   keyed k needed key d p = plain k needed _ (behind k (not (eqb (byteAfter s) key)) WrongKey d p)
 
-  -- by the base list, code by code
-  in-list : (code : ℕ) → isIn code baseCodes ≡ true → Run-leaves code (listed (find commandTable code) s)
-  unfolding listed find commandTable baseCodes carried getting setting resetting decodedOf runOf acceptedOf acceptedWith faultsOf housekeepingOf toSafety toNominal madeBy sentences
+  -- by the table, code by code
+  in-list : (code : ℕ) → isIn code tableCodes ≡ true → Run-leaves code (listed (find commandTable code) s)
+  unfolding listed find commandTable carried getting setting resetting decodedOf runOf acceptedOf acceptedWith faultsOf housekeepingOf toSafety toNominal madeBy sentences
   in-list code h =
-      by-code (λ k. Run-leaves k (listed (find commandTable k) s)) code baseCodes
+      at-code (λ k. Run-leaves k (listed (find commandTable k) s)) code tableCodes h
       (keyed 0xAA 5 0xA6 _ restarted
       and plain 0x02 4 _ (plainly 0x02 _ refl refl refl refl (λ c. refl) refl)
       and plain 0x04 4 _ cancelled
@@ -368,23 +372,19 @@ module _ (rail : ℤ) (limits : Limits) (s : List ℕ) (b : Board) where
       and keyed 0x92 5 0xA7 _ (remembered 0x92 _ (λ c. refl) refl)
       and keyed 0x94 7 0xA7 _ (saved _)
       and none)
-      (λ e. absurd (false≢true (sym e ∙ h)))
 
-  -- ---- every transfer
-  decoded : Run-leaves (codeOf s) (decodeOf (headerOf (b .profile)) s)
-  unfolding decodeOf decodeBy decodedOf
-  decoded =
-      behind (codeOf s) (fewerThanFour s) FewerThanFourBytes _
-      (behind (codeOf s) (not (headerIs (headerOf (b .profile)) s)) NotThisBoard _
-      (cases (isIn (codeOf s) baseCodes) (λ here. rw here (in-list (codeOf s) here)) (λ other. rw other (turned-down (codeOf s) CodeNotListed))))
-
-  -- checks 1 and 2, and then the decoder's
+  -- ---- every transfer: the checks of the decoder, and then its code, where the board has that
   pub leaves : Leaves (codeOf s) (commandedOf rail limits true s b)
-  unfolding commandedOf transferredOf
+  unfolding commandedOf steppedOf decodeOf decodedOf
   leaves =
-      either (codeOf s) (fewerThanFour s) (refusing 0 refl (record { channels = refl; profile = refl; phase = refl }))
-      (either (codeOf s) (isStartup (modeOf b)) (refusing 1 refl (record { channels = refl; profile = refl; phase = refl }))
-      decoded)
+      let code = codeOf s in
+      rw (stepwise rail limits s b)
+      (behind code (fewerThanFour s) FewerThanFourBytes _
+      (behind code (isStartup (modeOf b)) InStartup _
+      (behind code (not (headerIs (headerOf (b .profile .kind) (b .profile .bid)) s)) NotThisBoard _
+      (cases (isIn code (boardOf (b .profile .kind) .codes))
+      (λ here. rw here (in-list code (has-a-command (b .profile .kind) code here)))
+      (λ none-such. rw none-such (turned-down code CodeNotListed))))))
 
 -- ---- the claim
 pub groups : (rail : ℤ) (limits : Limits) (s : List ℕ) (b : Board) → Groups rail limits s b

@@ -25,6 +25,7 @@ use Rattle.watchdog.specs.declared.Event.{Event}
 use Rattle.watchdog.specs.declared.Event.the-variants.{NoEvent, PeripheralReset, WatchdogReset}
 use Rattle.memory.specs.Limits.{timeoutOf, limitsOf}
 use Rattle.memory.specs.Memory.{oneMore}
+use Rattle.state.specs.Parts.{wordCount}
 use Rattle.state.specs.Start.{freshOf, byWatchdog, byCommand, watchdogResetOf, commandResetOf}
 use Rattle.state.specs.declared.parts.Cause.{Cause}
 use Rattle.state.specs.declared.parts.Resets.{Resets}
@@ -212,19 +213,19 @@ unfolding commandResetOf freshOf byCommand oneMore
 command-counts b = refl
 
 module _ (m : Machine) (i : Sample) where
-  exactly : happens i ≡ true → tellsReset m i ≡ startsOver (told m i .machine .board)
+  exactly : happens (wordCount (m .board)) i ≡ true → tellsReset m i ≡ startsOver (told m i .machine .board)
   unfolding toldOf tellsReset tellsWatchdogReset tellsCommandReset tickOf tickWith
   exactly e = rw e (happened m i _ refl)
 
   by-watchdog : tellsWatchdogReset m i ≡ true → told m i .machine .board ≡ watchdogResetOf (afterStep4 m i)
   unfolding toldOf tellsWatchdogReset tickOf tickWith
-  by-watchdog e = cases (happens i) (λ a. rw a (watchdog-resets _ (rw a at e))) (λ a. failed (rw a at e))
+  by-watchdog e = cases (happens (wordCount (m .board)) i) (λ a. rw a (watchdog-resets _ (rw a at e))) (λ a. failed (rw a at e))
 
   by-command : tellsCommandReset m i ≡ true → told m i .machine .board ≡ commandResetOf (afterStep3 m i)
   unfolding toldOf tellsCommandReset tickOf tickWith
-  by-command e = cases (happens i) (λ a. rw a (commanded-reset m i _ refl (rw a at e))) (λ a. failed (rw a at e))
+  by-command e = cases (happens (wordCount (m .board)) i) (λ a. rw a (commanded-reset m i _ refl (rw a at e))) (λ a. failed (rw a at e))
 
-  not-happened : happens i ≡ false → tellsReset m i ≡ false
+  not-happened : happens (wordCount (m .board)) i ≡ false → tellsReset m i ≡ false
   unfolding toldOf tellsReset tellsWatchdogReset tellsCommandReset tickOf tickWith
   not-happened e = rw e
 

@@ -24,6 +24,7 @@ use Rattle.watchdog.specs.declared.Event.the-variants.{NoEvent, PeripheralReset
 use Rattle.memory.specs.Limits.{timeoutOf, limitsOf}
 use Rattle.memory.specs.declared.Store.{Store}
 use Rattle.change.specs.Change.{isDark, fromNominalToSafety, enteringOf}
+use Rattle.state.specs.Parts.{wordCount}
 use Rattle.state.specs.Start.{freshOf, watchdogResetOf, keepsTheRules, startOf}
 use Rattle.state.specs.declared.parts.Board.{Board}
 use Rattle.state.specs.declared.parts.Profile.{Profile}
@@ -133,7 +134,7 @@ unfolding tickOf tickWith
 ticked rail named words sent s p b u =
     let limits = limitsOf (b .memory) in
     let found = trippedOf named (changedOf rail limits (risenOf words b)) in
-    cases (allowedCount (length words))
+    cases (allowedCount (wordCount b) (length words))
     (λ allowed. rw allowed (watched p (commandedOf rail limits sent s found) (commanded rail limits sent s p found (settled rail limits named words p b u))))
     (λ not-allowed. rw not-allowed u)
 

@@ -5,10 +5,11 @@
 use Prim.Native.Nat.{ℕ, _<_}
 use mathlib.Core.{Path._≡_, Bool.true, Bool.false, List.List, List.[], List._∷_}
 use lib.{Dec.eqb, IntN.ℤ}
+use Rattle.kinds.specs.Kinds.{isIn}
 use Rattle.modes.specs.{Table.same, declared.Limits.Limits}
 use Rattle.modes.specs.declared.Mode.the-variants.{Nominal}
 use Rattle.channels.specs.{Sets.has, Chan.Chan, Chan.chan, Operations.onAndCleared, Operations.offAndCleared}
-use Rattle.command.specs.{Codes.isIn, Decode.codeOf, Decode.byteAfter}
+use Rattle.command.specs.Decode.{codeOf, byteAfter}
 use Rattle.state.specs.{Parts.modeOf, declared.parts.Board.Board}
 use Rattle.groups.specs.Groups.{obeyed, Answers, sentences, namedBy, isCommandEnabled, isFitted}
 

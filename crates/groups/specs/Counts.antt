@@ -8,7 +8,7 @@ use mathlib.Core.List.{List, [], _∷_}
 use lib.ListN.{getD}
 use Rattle.channels.specs.Sets.{has, bit}
 use Rattle.memory.specs.declared.Store.{Store}
-use Rattle.state.specs.{Start.keepsTheRules, declared.parts.Profile.Profile}
+use Rattle.state.specs.{Parts.wordCount, Start.keepsTheRules, declared.parts.Profile.Profile}
 use Rattle.unit.specs.{Machine.begunOf, declared.Machine.Machine}
 use Rattle.unit.specs.Runs.{Sample, Call, tick, line, afterCall, after, happens, afterStep2}
 use Rattle.groups.specs.Resets.{tellsReset}
@@ -16,7 +16,7 @@ use Rattle.groups.specs.Resets.{tellsReset}
 -- ---- one tick
 -- step 3 takes channel c off: it is named, and it is on
 abbrev pub takesOff : ℕ → Machine → Sample → Bool
-takesOff c m i = happens i && (has (i .named) c && has (afterStep2 m i .channels .on) c)
+takesOff c m i = happens (wordCount (m .board)) i && (has (i .named) c && has (afterStep2 m i .channels .on) c)
 
 -- ---- a run
 -- a tick of the run tells of a reset, by the watchdog or by an accepted 0xAA

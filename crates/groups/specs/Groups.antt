@@ -1,10 +1,10 @@
 -- Demand 2, groups: what a command does to the channels. Document 01 has, for each command, the channels that it is
--- about and what becomes of them; every other channel stays as it is, and so do all where the command is refused. Mask,
--- fitted and forced channels may be any, the board need not be one that can be reached, and rail and limits are any.
--- `board` is the board as the command finds it, `s` the bytes of the transfer, `has set c` says that channel c is in
--- the set, and `chan channels c` is channel c: whether it is on, whether it is latched, and its count. A channel that
--- becomes `onAndCleared` is on, `offAndCleared` off, both with no latch; `offAndLatchKept` is off with its latch as it
--- was; and all three keep the count. Assumes nothing: these are definitions.
+-- about and what becomes of them; every other channel stays as it is, and so do all where the command is refused. The
+-- board may be of any kind and need not be one that can be reached, its fitted and forced channels are any, and so are
+-- mask, rail and limits. `board` is the board as the command finds it, `s` the bytes of the transfer, `has set c` says
+-- that channel c is in the set, and `chan channels c` is channel c: whether it is on, whether it is latched, and its
+-- count. A channel that becomes `onAndCleared` is on, `offAndCleared` off, both with no latch; `offAndLatchKept` is off
+-- with its latch as it was; and all three keep the count. Assumes nothing: these are definitions.
 use Prim.Native.Nat.{ℕ, suc, _<_}
 use mathlib.Core.{Path._≡_, Bool.Bool, Bool.true, Bool.false, Bool.cond, Bool.not, Bool._&&_, Bool._||_}
 use mathlib.Core.{List.List, List.[], List._∷_, Option.some}

@@ -15,7 +15,7 @@ use Rattle.command.specs.Decode.{codeOf}
 use Rattle.watchdog.specs.declared.Event.{Event}
 use Rattle.watchdog.specs.declared.Event.the-variants.{NoEvent, PeripheralReset, WatchdogReset}
 use Rattle.memory.specs.Memory.{loadedFrom}
-use Rattle.state.specs.{Start.watchdogResetOf, Start.commandResetOf, declared.parts.Board.Board}
+use Rattle.state.specs.{Parts.wordCount, Start.watchdogResetOf, Start.commandResetOf, declared.parts.Board.Board}
 use Rattle.state.specs.declared.parts.Cause.the-variants.{Watchdog, Commanded}
 use Rattle.answers.specs.Answers.{toldNumber}
 use Rattle.unit.specs.{declared.Machine.Machine, Runs.Sample, Runs.told, Runs.happens, Runs.afterStep3, Runs.afterStep4}
@@ -44,8 +44,9 @@ tellsReset m i = tellsWatchdogReset m i || tellsCommandReset m i
 abbrev pub startsOver : Board → Bool
 startsOver b = same (b .phase .mode) Startup && eqb (b .phase .age) 0
 
--- what a reset leaves of a board, part by part; the profile and the store outlive it, and so do the reset counts, of
--- which `ResetIsTold` speaks
+-- what a reset leaves of a board, part by part: of the measured words the whole room is 0, and none is new, as a raw
+-- reading or as an engineering one. The profile and the store outlive it, and so do the reset counts, of which
+-- `ResetIsTold` speaks.
 pub record StartedOver (before after : Board) : Type 0 where
   pub startup : after .phase ≡ entered Startup
   pub timer : after .timer ≡ 0
@@ -53,14 +54,14 @@ pub record StartedOver (before after : Board) : Type 0 where
   pub settings : after .memory ≡ loadedFrom (before .memory .store)
   pub channels : (c : ℕ) → c < 32 → chan (after .channels) c ≡ record { on = false; latched = false; count = 0 }
   pub profile : after .profile ≡ before .profile
-  pub words : after .measured ≡ record { words = replicate 122 0; fresh = false }
+  pub words : after .measured ≡ record { words = replicate 130 0; fresh = record { raw = false; engineering = false } }
   pub form : after .form ≡ Raw
 
 pub record ResetIsTold (m : Machine) (i : Sample) : Type 0 where
-  pub exactly : happens i ≡ true → tellsReset m i ≡ startsOver (told m i .machine .board)
+  pub exactly : happens (wordCount (m .board)) i ≡ true → tellsReset m i ≡ startsOver (told m i .machine .board)
   pub by-watchdog : tellsWatchdogReset m i ≡ true → told m i .machine .board ≡ watchdogResetOf (afterStep4 m i)
   pub by-command : tellsCommandReset m i ≡ true → told m i .machine .board ≡ commandResetOf (afterStep3 m i)
-  pub not-happened : happens i ≡ false → tellsReset m i ≡ false
+  pub not-happened : happens (wordCount (m .board)) i ≡ false → tellsReset m i ≡ false
   -- the same, part by part; of the reset counts that of its kind is one more, 65,535 at most, and its kind is the cause
   pub watchdog-parts : tellsWatchdogReset m i ≡ true → StartedOver (afterStep4 m i) (told m i .machine .board)
   pub watchdog-counts : tellsWatchdogReset m i ≡ true → told m i .machine .board .resets
