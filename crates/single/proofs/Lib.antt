@@ -1,6 +1,7 @@
 pub mod Pages
 pub mod Seen
 pub mod Left
+pub mod Kinds
 pub mod Wire
 pub mod Hex
 pub mod Crc
@@ -19,8 +20,11 @@ pub mod Command
 pub mod Memory
 pub mod Replies
 pub mod State
+pub mod Change
 pub mod Answers
 pub mod Effects
+pub mod Asking
+pub mod Answering
 pub mod Commands
 pub mod Board
 pub mod Unit

@@ -13,6 +13,7 @@ use Rattle.pattern.proofs.place.Reads as place
 use Rattle.pattern.proofs.brought_by.Reads as brought-by
 use Rattle.pattern.proofs.first_words.Reads as first-words
 use Rattle.pattern.proofs.change.Reads as change
+use Rattle.pattern.proofs.counted.Reads as counted
 use Rattle.pattern.proofs.lent.Reads as lent
 
 pub single-taken : Single taken.Post (λ κ r s. r)
@@ -47,6 +48,9 @@ single-first-words κ a r r′ s s′ p q = p ∙ sym q
 
 pub held-change : Single change.Post (λ κ r s. now (s .0))
 held-change κ a r r′ s s′ p q = p ∙ sym q
+
+pub single-counted : Single counted.Post (λ κ r s. now r)
+single-counted κ a r r′ s s′ p q = p ∙ sym q
 
 pub single-lent : Single lent.Post (λ κ r s. now r)
 single-lent κ a r r′ s s′ p q = p ∙ sym q

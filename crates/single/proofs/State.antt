@@ -2,9 +2,7 @@
 use mathlib.Core.Path.{sym, _∙_}
 use denote.Ref.{now}
 use Rattle.single.specs.Single.{Single}
-use Rattle.state.proofs.entering.Reads as entering
-use Rattle.state.proofs.timer_after.Reads as timer-after
-use Rattle.state.proofs.resets_after.Reads as resets-after
+use Rattle.state.proofs.distribution.Reads as distribution
 use Rattle.state.proofs.read.Reads as read
 use Rattle.state.proofs.with_form.Reads as with-form
 use Rattle.state.proofs.unstarted.Reads as unstarted
@@ -12,14 +10,8 @@ use Rattle.state.proofs.start.Reads as start
 use Rattle.state.proofs.watchdog_reset.Reads as watchdog-reset
 use Rattle.state.proofs.command_reset.Reads as command-reset
 
-pub single-entering : Single entering.Post (λ κ r s. r)
-single-entering κ a r r′ s s′ p q = p ∙ sym q
-
-pub single-timer-after : Single timer-after.Post (λ κ r s. r)
-single-timer-after κ a r r′ s s′ p q = p ∙ sym q
-
-pub single-resets-after : Single resets-after.Post (λ κ r s. r)
-single-resets-after κ a r r′ s s′ p q = p ∙ sym q
+pub single-distribution : Single distribution.Post (λ κ r s. r)
+single-distribution κ a r r′ s s′ p q = p ∙ sym q
 
 pub held-read : Single read.Post (λ κ r s. now (s .1 .0))
 held-read κ a r r′ s s′ p q = p ∙ sym q
