@@ -4,7 +4,7 @@ use Prim.Native.Nat.{ℕ, zero, suc, _+_, _-_}
 use mathlib.Core.{Bool.Bool, Bool.cond, Bool._||_, List.List, List.[], List._∷_, List._++_}
 use lib.{Dec.eqb, Dec.ltb, IntN.ℤ, ListN.length}
 use Rattle.memory.specs.Memory.{emptyStore}
-use Rattle.state.specs.{Start.keepsTheRules, declared.parts.Profile.Profile}
+use Rattle.state.specs.{Parts.distributionBoard, Start.keepsTheRules, declared.parts.Profile.Profile}
 use Rattle.state.specs.declared.starting.StartAnswer as start
 use Rattle.unit.specs.{Machine.noMachine, Machine.begunOf, Machine.toldOf, declared.Machine.Machine, declared.Begun.Begun}
 use Rattle.unit.specs.declared.Told.{Told}
@@ -32,7 +32,7 @@ linesFrom n m (t ∷ ts) = lineOf n (tickOn m t) ++ linesFrom (n + 1) (tickOn m 
 
 -- nothing is stored
 abbrev pub profileIn : Top → Profile
-profileIn top = record { fitted = top .fitted; forced = top .forced; bid = top .bid }
+profileIn top = distributionBoard (top .bid) (top .fitted) (top .forced)
 
 abbrev pub beginning : Profile → Begun
 beginning profile = begunOf noMachine profile emptyStore

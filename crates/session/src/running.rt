@@ -11,6 +11,7 @@ use sheet::Head;
 use sheet::TickLine;
 use state::Profile;
 use state::StartAnswer;
+use state::distribution;
 use unit::Machine;
 
 // The machine of a sheet, how many ticks the sheet has and how many are left, and the place of the next tick's line.
@@ -100,12 +101,7 @@ pub fn open(s: &[u8], out: &mut [u8]) -> Opened
             printed: 0,
         };
     };
-    let profile = Profile {
-        fitted,
-        forced,
-        bid,
-    };
-    started(profile, ticks, first, out)
+    started(distribution(bid, fitted, forced), ticks, first, out)
 }
 
 // Prints the line of a refused sheet into the front of the lent buffer, and nothing for a session that runs. A buffer

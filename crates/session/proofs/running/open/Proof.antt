@@ -11,6 +11,7 @@ use Rattle.session.proofs.running.open.Lts as lts
 use Rattle.session.proofs.running.none.Reads as none-reads
 use Rattle.session.proofs.running.started.Reads as started-reads
 use Rattle.sheet.proofs.read.Reads as read-reads
+use Rattle.state.proofs.distribution.Reads as distribution-reads
 
 read-requires : tie.Need-read-requires
 read-requires c κs = search needs
@@ -31,6 +32,9 @@ returns c =
     let not-read = refused (a .s .now) (sym (c .before .enum-told .given .1) ∙ c .before .before .before .read .ensures .0) in
     with-number _ (a .out .now) _ (a .s .now) (rw (not-read, c .none .ensures))
 
+distribution-requires : tie.Need-distribution-requires
+distribution-requires c κs = search needs
+
 started-requires : tie.Need-started-requires
 started-requires c κs = search needs
 
@@ -40,9 +44,10 @@ same-length c = search needs
 returns-2 : tie.Need-returns-2
 unfolding openedOf
 returns-2 c =
-    let called = c .before .before .before .before .before .before .before .before .before .before .args in
-    let a = accepted (called .s .now) _ _ _ _ _ (sym (c .before .before .before .before .before .bid .given .1) ∙ c .before .before .before .before .before .before .before .read .ensures .0) in
-    with-number _ (called .out .now) _ (called .s .now) (rw (a .read, a .its-bid, a .its-fitted, a .its-forced, a .its-count, a .its-first) (c .before .before .started .ensures))
+    let called = c .before .before .before .before .before .before .before .before .before .before .before .args in
+    let a = accepted (called .s .now) _ _ _ _ _ (sym (c .before .before .before .before .before .before .bid .given .1) ∙ c .before .before .before .before .before .before .before .before .read .ensures .0) in
+    let begun = rw (c .before .before .before .before .distribution .ensures) at (c .before .before .started .ensures) in
+    with-number _ (called .out .now) _ (called .s .now) (rw (a .read, a .its-bid, a .its-fitted, a .its-forced, a .its-count, a .its-first) begun)
 
 pub open-spec : {M : Type 1} → statement M
 open-spec =
@@ -53,6 +58,7 @@ open-spec =
     enum-told
     none-requires
     returns
+    distribution-requires
     started-requires
     same-length
     returns-2)
