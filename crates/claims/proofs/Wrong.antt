@@ -35,13 +35,13 @@ use Rattle.answers.specs.declared.Answer.{Answer}
 use Rattle.answers.specs.declared.Answer.the-variants.{Accepted, FewerThanFourBytes, InStartup, NotThisBoard, CodeNotListed, TooShort, NotAvailable, Wrong}
 use Rattle.effects.specs.Effects.{isNominal, switchedOf, groupOnOf, switchedModeOf, faultsOf, runOf}
 use Rattle.commands.specs.Step.{isStartup, decodedOf, transferredOf, commandedOf}
+use Rattle.commands.proofs.Told.{same-number}
 use Rattle.board.specs.Tick.{broughtBy, risenOf, changedOf, trippedOf, watchedIn, tickWith, allowedCount, tickOf}
 use Rattle.framing.specs.declared.Due.the-variants.{Nothing}
 use Rattle.unit.specs.Machine.{noMachine, begunOf, toldOf}
 use Rattle.unit.specs.declared.Machine.{Machine}
 use Rattle.unit.specs.declared.Told.{Told}
 use Rattle.unit.specs.Runs.{Sample, told, happens, tick, after, Reached}
-use Rattle.refusals.proofs.Conditions.{same-number}
 use Rattle.refusals.proofs.Answered.{exactly-when}
 use Rattle.groups.specs.Resets.{isByWatchdog}
 use Rattle.claims.specs.Wrong as wrong

@@ -11,9 +11,11 @@ use Rattle.watchdog.specs.Watchdog as dog
 use Rattle.watchdog.specs.declared.Event.{Event}
 use Rattle.watchdog.specs.declared.Event.the-variants.{NoEvent, PeripheralReset, WatchdogReset}
 use Rattle.memory.specs.Limits.{timeoutOf, limitsOf}
+use Rattle.state.specs.Parts.{wordCount}
 use Rattle.answers.specs.Answers.{toldNumber}
 use Rattle.answers.specs.declared.Commanded.{Commanded}
 use Rattle.commands.specs.Step.{commandedOf}
+use Rattle.commands.proofs.Told.{same-number}
 use Rattle.board.specs.Tick.{watchedAs, watchedIn, tickWith, allowedCount, tickOf}
 use Rattle.board.proofs.Laws.{number-9}
 use Rattle.framing.specs.declared.Due.{Due}
@@ -23,7 +25,6 @@ use Rattle.unit.specs.declared.Told.{Told}
 use Rattle.unit.specs.Runs.{Sample, told, afterStep3}
 use Rattle.refusals.specs.Conditions.{Given, answer, metIn, tickAnswer, ExactlyWhen}
 use Rattle.refusals.proofs.Conditions as conditions
-use Rattle.refusals.proofs.Conditions.{same-number}
 
 -- ---- a tick that happens is its command step and then the watchdog
 abbrev pub happening : Commanded → Event
@@ -36,7 +37,7 @@ abbrev pub given : Machine → Sample → Commanded
 given m i = commandedOf (i .rail) (limitsOf (m .board .memory)) (i .sent) (i .transfer) (afterStep3 m i)
 
 module _ (m : Machine) (i : Sample) where
-  pub told-is : allowedCount (length (i .words)) ≡ true → told m i ≡ watched (m .due) (given m i)
+  pub told-is : allowedCount (wordCount (m .board)) (length (i .words)) ≡ true → told m i ≡ watched (m .due) (given m i)
   unfolding toldOf tickOf tickWith watchedIn
   told-is allowed = rw allowed
 
@@ -49,30 +50,30 @@ module _ (m : Machine) (i : Sample) where
       go PeripheralReset = refl
       go WatchdogReset = refl
 
-  pub answer-is : allowedCount (length (i .words)) ≡ true → i .sent ≡ true → tickAnswer m i ≡ answer (metIn m i)
+  pub answer-is : allowedCount (wordCount (m .board)) (length (i .words)) ≡ true → i .sent ≡ true → tickAnswer m i ≡ answer (metIn m i)
   answer-is allowed sent = ap (λ (r : Told). toldNumber (r .outcome)) (told-is allowed) ∙ ap toldNumber (outcome-kept (m .due) (given m i)) ∙ rw sent
 
-  told-9 : allowedCount (length (i .words)) ≡ false → tickAnswer m i ≡ some 9
+  told-9 : allowedCount (wordCount (m .board)) (length (i .words)) ≡ false → tickAnswer m i ≡ some 9
   unfolding toldOf
   told-9 wrong = number-9 (i .rail) (i .named) (i .words) (i .sent) (i .transfer) (m .board) wrong
 
   -- a tick that tells a number up to 7 happened and had a transfer
-  pub happens : (n : ℕ) → n ≤ 7 → tickAnswer m i ≡ some n → allowedCount (length (i .words)) ≡ true
-  happens n h q = cases (allowedCount (length (i .words))) (λ e. e) (λ e. absurd (omega (arith, same-number 9 n (sym (told-9 e) ∙ q))))
+  pub happens : (n : ℕ) → n ≤ 7 → tickAnswer m i ≡ some n → allowedCount (wordCount (m .board)) (length (i .words)) ≡ true
+  happens n h q = cases (allowedCount (wordCount (m .board)) (length (i .words))) (λ e. e) (λ e. absurd (omega (arith, same-number 9 n (sym (told-9 e) ∙ q))))
 
-  unasked : allowedCount (length (i .words)) ≡ true → i .sent ≡ false → tickAnswer m i ≡ none
+  unasked : allowedCount (wordCount (m .board)) (length (i .words)) ≡ true → i .sent ≡ false → tickAnswer m i ≡ none
   unfolding commandedOf
   unasked allowed e = ap (λ (r : Told). toldNumber (r .outcome)) (told-is allowed) ∙ ap toldNumber (outcome-kept (m .due) (given m i)) ∙ rw e
 
-  pub sends : (n : ℕ) → allowedCount (length (i .words)) ≡ true → tickAnswer m i ≡ some n → i .sent ≡ true
+  pub sends : (n : ℕ) → allowedCount (wordCount (m .board)) (length (i .words)) ≡ true → tickAnswer m i ≡ some n → i .sent ≡ true
   sends n allowed q =
       cases (i .sent) (λ e. e) (λ e. let z : none ≡ some n = sym (unasked allowed e) ∙ q in let y : _≡_ {A = ℕ} 0 1 = cc in absurd (omega arith))
 
 -- ---- the answers of ticks
-pub told-so : (m : Machine) (i : Sample) (n : ℕ) → allowedCount (length (i .words)) ≡ true → i .sent ≡ true → Given (metIn m i) n → tickAnswer m i ≡ some n
+pub told-so : (m : Machine) (i : Sample) (n : ℕ) → allowedCount (wordCount (m .board)) (length (i .words)) ≡ true → i .sent ≡ true → Given (metIn m i) n → tickAnswer m i ≡ some n
 told-so m i n allowed sent g = answer-is m i allowed sent ∙ conditions.answered (metIn m i) n g
 
-pub only-told : (m : Machine) (i : Sample) (n : ℕ) → n ≤ 7 → tickAnswer m i ≡ some n → (allowedCount (length (i .words)) ≡ true) × (i .sent ≡ true) × Given (metIn m i) n
+pub only-told : (m : Machine) (i : Sample) (n : ℕ) → n ≤ 7 → tickAnswer m i ≡ some n → (allowedCount (wordCount (m .board)) (length (i .words)) ≡ true) × (i .sent ≡ true) × Given (metIn m i) n
 only-told m i n h q =
     let allowed = happens m i n h q in
     let sent = sends m i n allowed q in

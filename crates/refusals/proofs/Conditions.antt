@@ -4,7 +4,7 @@ use mathlib.Core.Path.{_≡_, refl, sym, ap, subst, _∙_}
 use mathlib.Core.Bool.{Bool, true, false, not, _&&_, _||_, false≢true}
 use mathlib.Core.List.{List, [], _∷_}
 use mathlib.Core.Logic.{⊎-elim}
-use mathlib.Core.Option.{Option, some}
+use mathlib.Core.Option.{some}
 use native.Mathlib.Omega.{arith}
 use lib.Dec.{eqb, ltb}
 use lib.Ieee.{binary32, binary64}
@@ -12,6 +12,7 @@ use lib.ListN.{length, drop, length-drop}
 use borrow.Author.Tests.{eqb-true, eqb-false, eq-eqb, ne-eqb, ltb-true, ltb-false, lt-ltb, le-ltb}
 use Rattle.laws.proofs.Cases.{cases}
 use Rattle.laws.proofs.Lists.{lt-or-le}
+use Rattle.kinds.specs.Kinds.{isIn}
 use Rattle.wire.specs.Numbers.{number}
 use Rattle.wire.specs.Floats.{nanPattern}
 use Rattle.value.specs.Types.{width}
@@ -21,17 +22,19 @@ use Rattle.value.specs.declared.ValueType.the-variants.{Int8, Uint8, Int16, Uin
 use Rattle.settings.specs.Table.{parameterOf}
 use Rattle.settings.specs.declared.Parameter.{Parameter}
 use Rattle.settings.specs.declared.Parameter.the-variants.{ReadWrite, ReadOnly, Unknown}
-use Rattle.command.specs.Codes.{isIn, baseCodes}
+use Rattle.modes.specs.declared.Mode.{Mode}
+use Rattle.modes.specs.declared.Mode.the-variants.{Startup, Nominal, Safety, Emergency}
 use Rattle.command.specs.Table as commandTable
 use Rattle.command.specs.Decode.{fewerThanFour, valuePart}
 use Rattle.command.specs.Checks as checks
 use Rattle.command.specs.Checks.{Check, _when_, first}
-use Rattle.command.proofs.Laws.{none, _and_}
-use Rattle.order.specs.Checks.{unavailable, channelCodes, channelWrong, checksumWrong, checksBy, checksOf}
-use Rattle.order.proofs.Order.{at-code, in-order}
+use Rattle.command.proofs.Laws.{none, _and_, at-code, tableCodes, has-a-command}
+use Rattle.state.specs.Parts.{modeOf}
+use Rattle.asking.specs.Checks.{_is_, isStartup, unavailable, channelCodes, channelWrong, checksumWrong, checksOf}
 use Rattle.commands.specs.Step.{commandedOf}
+use Rattle.commands.proofs.Told.{same-number, number-told}
 use Rattle.refusals.specs.Conditions as claim
-use Rattle.refusals.specs.Conditions.{Sent, _at_, code, id, lengths, neededBy, codesIn, valueShort, keyWrong, isNaN, valueNaN, refusals, noneOf, answerTable, condition, Given, answer}
+use Rattle.refusals.specs.Conditions.{Sent, _at_, code, id, kind, lengths, neededBy, valueShort, keyWrong, isNaN, valueNaN, refusals, noneOf, answerTable, condition, Given, answer}
 
 -- ---- rows numbered one after the other: the number of the first that applies is given, and it alone
 unfoldable numbered : ℕ → List Bool → List Check
@@ -176,21 +179,29 @@ read-whole Int64 x = (refl, refl)
 read-whole Uint64 x = (refl, refl)
 read-whole Double x = cases (nanPattern binary64 x) (λ e. rw e (refl, refl)) (λ e. rw e (refl, refl))
 
+-- startup is asked for in two ways
+startup-same : (m : Mode) → isStartup m ≡ m is Startup
+unfolding isStartup
+startup-same Startup = refl
+startup-same Nominal = refl
+startup-same Safety = refl
+startup-same Emergency = refl
+
 module _ (t : Sent) where
   abbrev s : List ℕ
   s = t .bytes
 
   -- the lengths and the keys are those of the commands
-  lengths-agree : (k : ℕ) → isIn k baseCodes ≡ true → checks.shorter (commandTable.find commandTable.commandTable k) s ≡ ltb (length s) (neededBy lengths k)
-  unfolding baseCodes commandTable.find commandTable.commandTable neededBy
+  lengths-agree : (k : ℕ) → isIn k tableCodes ≡ true → checks.shorter (commandTable.find commandTable.commandTable k) s ≡ ltb (length s) (neededBy lengths k)
+  unfolding commandTable.find commandTable.commandTable neededBy
   lengths-agree k h =
-      at-code (λ c. checks.shorter (commandTable.find commandTable.commandTable c) s ≡ ltb (length s) (neededBy lengths c)) k baseCodes h
+      at-code (λ c. checks.shorter (commandTable.find commandTable.commandTable c) s ≡ ltb (length s) (neededBy lengths c)) k tableCodes h
       (refl and refl and refl and refl and refl and refl and refl and refl and refl and refl and refl and refl and refl and refl and refl and refl and refl and refl and refl and none)
 
-  keys-agree : (k : ℕ) → isIn k baseCodes ≡ true → checks.keyWrong (commandTable.find commandTable.commandTable k) s ≡ keyWrong k (t at 4)
-  unfolding isIn baseCodes commandTable.find commandTable.commandTable keyWrong
+  keys-agree : (k : ℕ) → isIn k tableCodes ≡ true → checks.keyWrong (commandTable.find commandTable.commandTable k) s ≡ keyWrong k (t at 4)
+  unfolding isIn commandTable.find commandTable.commandTable keyWrong
   keys-agree k h =
-      at-code (λ c. checks.keyWrong (commandTable.find commandTable.commandTable c) s ≡ keyWrong c (t at 4)) k baseCodes h
+      at-code (λ c. checks.keyWrong (commandTable.find commandTable.commandTable c) s ≡ keyWrong c (t at 4)) k tableCodes h
       (or-false (not (eqb (t at 4) 0xA6)) and refl and refl and refl and refl and refl and refl and refl and refl and refl and refl and refl and refl and refl and refl and refl and refl and refl and refl and none)
 
   -- 0x84 behind its id, where that can be set: the value's bytes count from the sixth on
@@ -222,39 +233,38 @@ module _ (t : Sent) where
 
   -- from the row of 4 on, by the code
   abbrev Agree : Type 0
-  Agree = first (checksBy (t .rail) (t .limits) (t .board) (code t) s) ≡ first (drop 3 (refusals t))
+  Agree = first (drop 3 (checksOf (t .rail) (t .limits) (t .board) s)) ≡ first (drop 3 (refusals t))
 
-  set-agrees : code t ≡ 0x84 → Agree
-  unfolding first checksBy baseCodes codesIn isIn commandTable.find commandTable.commandTable neededBy unavailable channelCodes keyWrong channelWrong checksumWrong
-  set-agrees e = rw e (parameter-checked (parameterOf (id t)))
+  module _ (listed : isIn (code t) (kind t .codes) ≡ true) where
+    set-agrees : code t ≡ 0x84 → Agree
+    unfolding first checksOf checks.checks isIn commandTable.find commandTable.commandTable neededBy unavailable channelCodes keyWrong channelWrong checksumWrong
+    set-agrees e = rw (listed, e) (parameter-checked (parameterOf (id t)))
 
-  other-agrees : isIn (code t) baseCodes ≡ true → eqb (code t) 0x84 ≡ false → Agree
-  unfolding first checksBy baseCodes codesIn
-  other-agrees h e =
-      rw (h, e, lengths-agree (code t) h, keys-agree (code t) h)
-      (joined (ltb (length s) (neededBy lengths (code t))) (claim.notAvailable t) (keyWrong (code t) (t at 4)) (checks.idWrong (code t) (parameterOf (id t))) false (claim.channelWrong t) (claim.checksumWrong t))
+    other-agrees : eqb (code t) 0x84 ≡ false → Agree
+    unfolding first checksOf checks.checks
+    other-agrees e =
+        let h = has-a-command (t .board .profile .kind) (code t) listed in
+        rw (listed, e, lengths-agree (code t) h, keys-agree (code t) h)
+        (joined (ltb (length s) (neededBy lengths (code t))) (claim.notAvailable t) (keyWrong (code t) (t at 4)) (checks.idWrong (code t) (parameterOf (id t))) false (claim.channelWrong t) (claim.checksumWrong t))
 
   from-4 : Agree
-  unfolding first checksBy baseCodes codesIn
+  unfolding first checksOf checks.checks
   from-4 =
-      cases (isIn (code t) baseCodes)
-      (λ h. cases (eqb (code t) 0x84) (λ e. set-agrees (eqb-true (code t) 0x84 e)) (λ e. other-agrees h e))
+      cases (isIn (code t) (kind t .codes))
+      (λ h. cases (eqb (code t) 0x84) (λ e. set-agrees h (eqb-true (code t) 0x84 e)) (λ e. other-agrees h e))
       (λ h. rw h)
 
   same-first : first (checksOf (t .rail) (t .limits) (t .board) s) ≡ first (refusals t)
-  unfolding first checksOf fewerThanFour checks.headerDiffers
-  same-first = rw from-4
+  unfolding first checksOf checks.checks fewerThanFour checks.headerDiffers
+  same-first = rw (startup-same (modeOf (t .board)), from-4)
 
 -- ---- the command step
 step-tells : (t : Sent) → answer t ≡ some (first (refusals t))
 unfolding commandedOf
-step-tells t = in-order (t .rail) (t .limits) (t .board) (t .bytes) ∙ ap some (same-first t)
+step-tells t = number-told (t .rail) (t .limits) (t .bytes) (t .board) ∙ ap some (same-first t)
 
 pub answered : (t : Sent) (n : ℕ) → Given t n → answer t ≡ some n
 answered t n g = step-tells t ∙ ap some (only-one t (first (refusals t)) n (given-first t) g)
-
-pub same-number : (n m : ℕ) → _≡_ {A = Option ℕ} (some n) (some m) → n ≡ m
-same-number n m e = cc
 
 pub only-answered : (t : Sent) (n : ℕ) → answer t ≡ some n → Given t n
 only-answered t n e = subst (Given t) (same-number (first (refusals t)) n (sym (step-tells t) ∙ e)) (given-first t)

@@ -7,6 +7,9 @@ use mathlib.Core.Option.{some}
 use native.Mathlib.Omega.{arith}
 use lib.Dec.{eqb}
 use Rattle.laws.proofs.Cases.{cases}
+use Rattle.kinds.specs.Kinds.{boardOf}
+use Rattle.kinds.specs.declared.Kind.{Kind}
+use Rattle.kinds.specs.declared.Kind.the-variants.{Distribution, Battery, Integrated}
 use Rattle.wire.specs.Numbers.{bytesOf}
 use Rattle.wire.specs.Replies.{shown, replyOf, laidOut, replyCode}
 use Rattle.replies.specs.Layouts.{shortReply}
@@ -14,7 +17,7 @@ use Rattle.answers.specs.Answers.{answerNumber, statOf, headerOf, refusedOf, no
 use Rattle.answers.specs.declared.Answer.{Answer}
 use Rattle.answers.specs.declared.Answer.the-variants.{Accepted, FewerThanFourBytes, InStartup, NotThisBoard, CodeNotListed, TooShort, NotAvailable, Wrong}
 use Rattle.answers.specs.declared.Commanded.{Commanded}
-use Rattle.refusals.specs.Conditions.{Sent, code, obeyed, answer}
+use Rattle.refusals.specs.Conditions.{Sent, code, kind, obeyed, answer}
 use Rattle.replies.proofs.Positions.{shown-short}
 use Rattle.refusals.specs.Refused.{Stat, _has-stat_, stats, statIn, refusal, answeredAlone, answeredAndFed, RefusedCommand}
 use Rattle.refusals.proofs.Results.{step, silent-is, elsewhere-is, refused-is}
@@ -71,15 +74,22 @@ unfolding statIn
 stat-byte [] none n = omega arith
 stat-byte ((k has-stat stat) ∷ rows) (h and hs) n = cases (eqb n k) (λ e. rw e h) (λ e. rw e (stat-byte rows hs n))
 
+-- so is every STID
+stid-byte : (k : Kind) → boardOf k .stid < 256
+stid-byte Distribution = omega arith
+stid-byte (Battery abf) = omega arith
+stid-byte (Integrated daughterboard) = omega arith
+
 pub five-bytes : (t : Sent) (n : ℕ) → code t < 256 → t .board .profile .bid < 256
-    → shown (refusal n t) ≡ 0x11 ∷ 0x07 ∷ replyCode (code t) ∷ t .board .profile .bid ∷ statIn stats n ∷ []
+    → shown (refusal n t) ≡ kind t .stid ∷ 0x07 ∷ replyCode (code t) ∷ t .board .profile .bid ∷ statIn stats n ∷ []
 unfolding shortReply laidOut bytesOf replyCode
 five-bytes t n h k =
     let stat : statIn stats n < 256 = stat-byte stats (omega arith and omega arith and omega arith and omega arith and omega arith and none) n in
+    let whole-stid : kind t .stid % 256 ≡ kind t .stid = omega (arith, stid-byte (t .board .profile .kind)) in
     let whole-code : (code t / 2 * 2 + 1) % 256 ≡ code t / 2 * 2 + 1 = omega arith in
     let whole-bid : t .board .profile .bid % 256 ≡ t .board .profile .bid = omega arith in
     let whole-stat : statIn stats n % 256 ≡ statIn stats n = omega arith in
-    shown-short (headerOf (t .board .profile)) (code t) (statIn stats n) ∙ rw (whole-code, whole-bid, whole-stat)
+    shown-short (headerOf (t .board .profile)) (code t) (statIn stats n) ∙ rw (whole-stid, whole-code, whole-bid, whole-stat)
 
 pub refused-command : RefusedCommand
 refused-command =

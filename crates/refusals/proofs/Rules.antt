@@ -2,7 +2,7 @@
 -- nothing.
 use Prim.Native.Nat.{ℕ, zero, suc, _^_, _≤_, _<_}
 use mathlib.Core.Path.{_≡_, refl, sym, ap, _∙_}
-use mathlib.Core.Bool.{Bool, true, false, cond, not, _&&_, false≢true}
+use mathlib.Core.Bool.{Bool, true, false, cond, not, _&&_, _||_, false≢true}
 use mathlib.Core.Logic.{⊎-elim}
 use mathlib.Core.List.{List}
 use native.Mathlib.Omega.{arith}
@@ -12,6 +12,7 @@ use lib.Signed.{leZ, leZ-yes}
 use borrow.Author.Tests.{leb-true, le-leb, lt-leb, eqb-true, eq-eqb, ne-eqb}
 use Rattle.laws.proofs.Cases.{cases}
 use Rattle.laws.proofs.Lists.{lt-or-le}
+use Rattle.kinds.specs.Kinds.{boardOf, isServed}
 use Rattle.value.specs.declared.ValueType.{ValueType}
 use Rattle.settings.specs.Table.{Range, Entry, readWrite, readOnly, missing, rowOf, parameterIn, parameterOf, lowEnd, highEnd, lowOf, highOf, insideOf}
 use Rattle.settings.specs.Values.{settingOf, inRangeOf}
@@ -20,7 +21,7 @@ use Rattle.settings.proofs.Laws.{in-range-each, each-in-range}
 use Rattle.channels.specs.Sets.{has, allBelow, isWithin}
 use Rattle.channels.proofs.Sets.{is-none, has-none, within-each, each-within}
 use Rattle.memory.specs.declared.Store.{Store}
-use Rattle.state.specs.Start.{storedInRange, keepsTheRules}
+use Rattle.state.specs.Start.{storedInRange, bidInRange, anyFitted, channelsInPlace, keepsTheRules}
 use Rattle.state.specs.declared.parts.Profile.{Profile}
 use Rattle.grammar.specs.Grammar.{Read, fails, reads, times, end}
 use Rattle.sheet.specs.Form.{head, tickLine, Sheet, sheet, sheetIn}
@@ -80,14 +81,33 @@ rows-each store h = each-in-range (store .settings) (λ id type p. go id type (r
     go id type (readOnly t) row p = let z : _≡_ {A = ℕ} 0 1 = cc in absurd (omega arith)
     go id type missing row p = let z : _≡_ {A = ℕ} 0 1 = cc in absurd (omega arith)
 
+-- ---- at least one is fitted where the board has a place for any, as two tests and as channels
+any-fitted : (places fitted : ℕ) → ((place : ℕ) → has places place ≡ true → (c : ℕ) × (has fitted c ≡ true)) → anyFitted places fitted ≡ true
+unfolding anyFitted
+any-fitted places fitted one =
+    cases (eqb places 0)
+    (λ e. rw e)
+    (λ e. let place = some-channel places (ap not e) in let w = one (place .0) (place .1) in rw e (not-empty fitted (w .0) (w .1)))
+
+fitted-any : (places fitted : ℕ) → anyFitted places fitted ≡ true → (place : ℕ) → has places place ≡ true → (c : ℕ) × (has fitted c ≡ true)
+unfolding anyFitted
+fitted-any places fitted e place h = some-channel fitted (one-of (eqb places 0) (not (eqb fitted 0)) (not-empty places place h) e)
+  where
+    one-of : (none some : Bool) → not none ≡ true → none || some ≡ true → some ≡ true
+    one-of true some n e = absurd (false≢true n)
+    one-of false some n e = e
+
 -- ---- the rules
 pub rules-kept : (p : Profile) (store : Store) → KeepsAllRules p store → keepsTheRules p store ≡ true
-unfolding keepsTheRules
+unfolding keepsTheRules bidInRange channelsInPlace
 rules-kept p store k =
+    let places = boardOf (p .kind) .places in
     rw (
+      k .kind-served,
       le-leb 1 (p .bid) (omega arith),
-      le-leb (p .bid) 8 (omega arith),
-      not-empty (p .fitted) (k .one-fitted .0) (k .one-fitted .1),
+      le-leb (p .bid) (boardOf (p .kind) .lastBid) (omega arith),
+      any-fitted places (p .fitted) (k .one-fitted),
+      each-within (p .fitted) places (k .fitted-in-place),
       each-within (p .forced) (p .fitted) (k .forced-fitted),
     )
     (stored (store .held) refl)
@@ -97,20 +117,25 @@ rules-kept p store k =
     stored false e = refl
 
 pub kept-rules : (p : Profile) (store : Store) → keepsTheRules p store ≡ true → KeepsAllRules p store
-unfolding keepsTheRules
+unfolding keepsTheRules bidInRange channelsInPlace
 kept-rules p store e =
-    let bid = leb 1 (p .bid) && leb (p .bid) 8 in
-    let fitted = not (eqb (p .fitted) 0) in
-    let forced = isWithin (p .forced) (p .fitted) in
-    let d = both (bid && fitted && forced) (storedInRange store) e in
-    let f = both (bid && fitted) forced (d .0) in
-    let g = both bid fitted (f .0) in
-    let h = both (leb 1 (p .bid)) (leb (p .bid) 8) (g .0) in
+    let places = boardOf (p .kind) .places in
+    let last = boardOf (p .kind) .lastBid in
+    let any = anyFitted places (p .fitted) in
+    let placed = isWithin (p .fitted) places in
+    let d = both (isServed (p .kind) && bidInRange p && channelsInPlace p) (storedInRange store) e in
+    let f = both (isServed (p .kind) && bidInRange p) (channelsInPlace p) (d .0) in
+    let g = both (isServed (p .kind)) (bidInRange p) (f .0) in
+    let bid = both (leb 1 (p .bid)) (leb (p .bid) last) (g .1) in
+    let channels = both (any && placed) (isWithin (p .forced) (p .fitted)) (f .1) in
+    let fitted = both any placed (channels .0) in
     record {
-      bid-from-1 = omega (arith, leb-true 1 (p .bid) (h .0));
-      bid-to-8 = omega (arith, leb-true (p .bid) 8 (h .1));
-      one-fitted = some-channel (p .fitted) (g .1);
-      forced-fitted = within-each (p .forced) (p .fitted) (f .1);
+      kind-served = g .0;
+      bid-from-1 = omega (arith, leb-true 1 (p .bid) (bid .0));
+      bid-to-last = omega (arith, leb-true (p .bid) last (bid .1));
+      one-fitted = fitted-any places (p .fitted) (fitted .0);
+      fitted-in-place = within-each (p .fitted) places (fitted .1);
+      forced-fitted = within-each (p .forced) (p .fitted) (channels .1);
       stored-in-range = λ held. each-row store (rw held at (d .1));
     }
 

@@ -1,16 +1,18 @@
 -- Refusals 8 to 14, from the laws of the crates that give them. Assumes nothing.
 use Prim.Native.Nat.{ℕ}
 use mathlib.Core.Path.{_≡_, refl, sym, ap, _∙_}
-use mathlib.Core.Bool.{true, false, cond}
+use mathlib.Core.Bool.{Bool, true, false, cond, _||_}
 use mathlib.Core.Logic.{_⊎_, inl, inr}
 use mathlib.Core.List.{List}
 use mathlib.Core.Option.{some}
 use native.Mathlib.Omega.{arith}
+use lib.Dec.{eqb}
 use lib.ListN.{length}
 use borrow.Author.Tests.{eq-eqb, ne-eqb}
 use Rattle.laws.proofs.Cases.{cases}
 use Rattle.memory.specs.Memory.{emptyStore}
 use Rattle.memory.specs.declared.Store.{Store}
+use Rattle.state.specs.Parts.{wordCount}
 use Rattle.state.specs.Start.{keepsTheRules, startOf}
 use Rattle.state.specs.declared.parts.Profile.{Profile}
 use Rattle.state.specs.declared.starting.StartAnswer.{StartAnswer}
@@ -37,7 +39,7 @@ use Rattle.session.specs.declared.running.Answer.the-variants.{Running, Profile
 use Rattle.session.proofs.Steps as session
 use Rattle.refusals.specs.Conditions.{tickAnswer}
 use Rattle.refusals.specs.Rules.{KeepsAllRules, OfTheForm}
-use Rattle.refusals.specs.Untouched.{startTold, Eight, NeitherNoneNor122, Nine, Reads, Frames, numberIn, sheetTold, Sheets, OtherRefusals}
+use Rattle.refusals.specs.Untouched.{startTold, Eight, NeitherNoneNorAll, Nine, Reads, Frames, numberIn, sheetTold, Sheets, OtherRefusals}
 use Rattle.refusals.proofs.Rules.{rules-kept, kept-rules, form-read, read-form}
 
 begun-answer : (a : StartAnswer) (s : Started) (there : Machine) → begunBy a s there .answer ≡ a
@@ -65,31 +67,35 @@ eight =
     broken p store e = cases (keepsTheRules p store) (λ h. let q = rw h at e in absurd (omega arith)) (λ h. h)
 
 -- the words lent
-lent : (i : Sample) → NeitherNoneNor122 i → happens i ≡ false
+lent : (m : Machine) (i : Sample) → NeitherNoneNorAll m i → happens (wordCount (m .board)) i ≡ false
 unfolding allowedCount
-lent i n = rw (ne-eqb (length (i .words)) 0 (n .0), ne-eqb (length (i .words)) 122 (n .1))
+lent m i n = rw (ne-eqb (length (i .words)) 0 (n .0), ne-eqb (length (i .words)) (wordCount (m .board)) (n .1))
 
-lent-none : (i : Sample) → length (i .words) ≡ 0 → happens i ≡ true
+lent-none : (m : Machine) (i : Sample) → length (i .words) ≡ 0 → happens (wordCount (m .board)) i ≡ true
 unfolding allowedCount
-lent-none i e = rw (eq-eqb (length (i .words)) 0 e)
+lent-none m i e = rw (eq-eqb (length (i .words)) 0 e)
 
-lent-all : (i : Sample) → length (i .words) ≡ 122 → happens i ≡ true
+lent-all : (m : Machine) (i : Sample) → length (i .words) ≡ wordCount (m .board) → happens (wordCount (m .board)) i ≡ true
 unfolding allowedCount
-lent-all i e = rw e
+lent-all m i e = rw (eq-eqb (length (i .words)) (wordCount (m .board)) e) (or-true (eqb (length (i .words)) 0))
+  where
+    or-true : (b : Bool) → b || true ≡ true
+    or-true true = refl
+    or-true false = refl
 
 nine : Nine
 unfolding toldOf tickOf
 nine =
     record {
-      given = λ m i n. board.number-9 (i .rail) (i .named) (i .words) (i .sent) (i .transfer) (m .board) (lent i n);
+      given = λ m i n. board.number-9 (i .rail) (i .named) (i .words) (i .sent) (i .transfer) (m .board) (lent m i n);
       only = λ m i e. neither m i e;
-      leaves = λ m i e. let wrong = lent i (neither m i e) in (unit.refused-tick-leaves (i .rail) (i .named) (i .words) (i .sent) (i .transfer) m wrong, rw wrong);
+      leaves = λ m i e. let wrong = lent m i (neither m i e) in (unit.refused-tick-leaves (i .rail) (i .named) (i .words) (i .sent) (i .transfer) m wrong, rw wrong);
     }
   where
-    neither : (m : Machine) (i : Sample) → tickAnswer m i ≡ some 9 → NeitherNoneNor122 i
+    neither : (m : Machine) (i : Sample) → tickAnswer m i ≡ some 9 → NeitherNoneNorAll m i
     neither m i e =
-        let only : happens i ≡ true → ⊥ = λ h. happened.only-9 (i .rail) (i .named) (i .words) (i .sent) (i .transfer) (m .board) h e in
-        (λ z. only (lent-none i z), λ z. only (lent-all i z))
+        let only : happens (wordCount (m .board)) i ≡ true → ⊥ = λ h. happened.only-9 (i .rail) (i .named) (i .words) (i .sent) (i .transfer) (m .board) h e in
+        (λ z. only (lent-none m i z), λ z. only (lent-all m i z))
 
 reading : Reads
 unfolding heardOf

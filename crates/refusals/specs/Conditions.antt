@@ -1,13 +1,14 @@
 -- Demand 1, when a command is refused: to every transfer exactly one of the eight answers of document 01's command
 -- table is given, and it is the one that the machine tells. The table stands below, row by row, as conditions on the
 -- bytes of the transfer and on mode, profile, rail and settings; no decoder stands between, and a place in the bytes is
--- a number. All boards and all bytes are meant, not only boards that can be reached. `7 when b` is a row with the
--- number 7 and the condition b; `a ∷ b ∷ []` is a list of two; || is or, && is and. Assumes nothing: these are
+-- a number. All boards of every kind and all bytes are meant, not only boards that can be reached. `7 when b` is a row
+-- with the number 7 and the condition b; `a ∷ b ∷ []` is a list of two; || is or, && is and. Assumes nothing: these are
 -- definitions and the statement of the claim.
 use Prim.Native.Nat.{ℕ, _+_, _≤_, _<_}
 use mathlib.Core.{Path._≡_, Bool.Bool, Bool.true, Bool.false, Bool.cond, Bool.not, Bool._&&_, Bool._||_}
 use mathlib.Core.{List.List, List.[], List._∷_, Option.Option, Option.none, Option.some}
 use lib.{Dec.eqb, Dec.ltb, Ieee.binary32, Ieee.binary64, IntN.ℤ, ListN.length, ListN.drop, ListN.getD}
+use Rattle.kinds.specs.Kinds.{KindOfBoard, boardOf, isIn}
 use Rattle.wire.specs.{Numbers.number, Floats.nanPattern}
 use Rattle.value.specs.{Types.width, declared.ValueType.ValueType}
 use Rattle.value.specs.declared.ValueType.the-variants.{Int8, Uint8, Int16, Uint16, Int32, Uint32, Float, Int64, Uint64, Double}
@@ -15,13 +16,13 @@ use Rattle.settings.specs.{Table.parameterOf, declared.Parameter.Parameter}
 use Rattle.settings.specs.declared.Parameter.the-variants.{ReadWrite, ReadOnly, Unknown}
 use Rattle.modes.specs.declared.Mode.the-variants.{Startup}
 use Rattle.modes.specs.declared.Limits.{Limits}
-use Rattle.command.specs.{Codes.isIn, Checks.Check, Checks._when_, Checks.idWrong}
+use Rattle.command.specs.Checks.{Check, _when_, idWrong}
 use Rattle.memory.specs.Limits.{limitsOf}
-use Rattle.state.specs.{Parts.modeOf, declared.parts.Board.Board}
+use Rattle.state.specs.{Parts.modeOf, Parts.wordCount, declared.parts.Board.Board}
 use Rattle.answers.specs.{Answers.toldNumber, declared.Commanded.Commanded}
+use Rattle.asking.specs.Checks as asking
+use Rattle.asking.specs.Checks.{_is_}
 use Rattle.commands.specs.Step.{commandedOf}
-use Rattle.order.specs.Checks as order
-use Rattle.order.specs.Checks.{_is_}
 use Rattle.unit.specs.{declared.Machine.Machine, Runs.Sample, Runs.told, Runs.happens, Runs.afterStep3}
 
 -- ---- a transfer, and what it meets: the board as the command step finds it, the rail of the tick and the limits in
@@ -47,6 +48,10 @@ id t = number 2 (drop 4 (t .bytes))
 abbrev pub checksum : Sent → ℕ
 checksum t = number 2 (drop 5 (t .bytes))
 
+-- what goes by the kind of the board
+abbrev pub kind : Sent → KindOfBoard
+kind t = boardOf (t .board .profile .kind)
+
 infix 60 _differs-from_
 abbrev pub _differs-from_ : ℕ → ℕ → Bool
 x differs-from y = not (eqb x y)
@@ -55,12 +60,16 @@ infix 60 _has-fewer-than_bytes
 abbrev pub _has-fewer-than_bytes : Sent → ℕ → Bool
 t has-fewer-than n bytes = ltb (length (t .bytes)) n
 
--- ---- 3
+-- ---- 3: the STID of its kind, IVID 7, its own BID
 abbrev pub notTheBoards : Sent → Bool
-notTheBoards t = (t at 0) differs-from 0x11 || (t at 1) differs-from 7 || (t at 3) differs-from (t .board .profile .bid)
+notTheBoards t = (t at 0) differs-from kind t .stid || (t at 1) differs-from 7 || (t at 3) differs-from (t .board .profile .bid)
 
--- ---- 4 and 5: the codes, and the bytes that each command needs, its header included, as the ICD's command pages give
--- them
+-- ---- 4: its kind has no such code
+abbrev pub notListed : Sent → Bool
+notListed t = not (isIn (code t) (kind t .codes))
+
+-- ---- 5: the bytes that each command needs, its header included, as the ICD's command pages give them; every code of
+-- every kind is here
 infix 70 _needs_
 pub data Need : Type 0 where
   _needs_ : ℕ → ℕ → Need
@@ -73,11 +82,6 @@ lengths =
     ∷ (0x82 needs 6) ∷ (0x84 needs 6) ∷ (0x86 needs 6)
     ∷ (0x90 needs 5) ∷ (0x92 needs 5) ∷ (0x94 needs 7)
     ∷ []
-
--- no other code is of the base list
-unfoldable pub codesIn : List Need → List ℕ
-codesIn [] = []
-codesIn ((k needs n) ∷ more) = k ∷ codesIn more
 
 unfoldable pub neededBy : List Need → ℕ → ℕ
 neededBy [] c = 0
@@ -95,9 +99,9 @@ abbrev pub shorterThanNeeded : Sent → Bool
 shorterThanNeeded t = t has-fewer-than neededBy lengths (code t) bytes || eqb (code t) 0x84 && valueShort (parameterOf (id t)) t
 
 -- ---- 6: the channel commands outside nominal, 0x32 in emergency, 0x30 in emergency, or in safety with the rail below
--- safety low: `order` spells it out
+-- safety low: `asking` spells it out
 abbrev pub notAvailable : Sent → Bool
-notAvailable t = order.unavailable (code t) (modeOf (t .board)) (t .rail) (t .limits)
+notAvailable t = asking.unavailable (code t) (modeOf (t .board)) (t .rail) (t .limits)
 
 -- ---- 7
 unfoldable pub keyWrong : ℕ → ℕ → Bool
@@ -105,7 +109,7 @@ keyWrong c key = eqb c 0xAA && key differs-from 0xA6 || isIn c (0x90 ∷ 0x92 �
 
 -- 0x16, 0x18: there is no such channel or it is not fitted, and for 0x18 also a force-enabled one
 abbrev pub channelWrong : Sent → Bool
-channelWrong t = order.channelWrong (code t) (t .board .profile) (t at 4)
+channelWrong t = asking.channelWrong (code t) (t .board .profile) (t at 4)
 
 -- a NaN, which only the two float types have
 abbrev pub isNaN : ValueType → ℕ → Bool
@@ -131,7 +135,7 @@ parameterWrong t = idWrong (code t) (parameterOf (id t)) || eqb (code t) 0x84 &&
 
 -- 0x94: neither 0 nor that of the settings in force
 abbrev pub checksumWrong : Sent → Bool
-checksumWrong t = order.checksumWrong (code t) (checksum t) (t .board .memory)
+checksumWrong t = asking.checksumWrong (code t) (checksum t) (t .board .memory)
 
 -- ---- the table
 abbrev pub refusals : Sent → List Check
@@ -139,7 +143,7 @@ refusals t =
     1 when (t has-fewer-than 4 bytes)
     ∷ 2 when (modeOf (t .board) is Startup)
     ∷ 3 when notTheBoards t
-    ∷ 4 when not (isIn (code t) (codesIn lengths))
+    ∷ 4 when notListed t
     ∷ 5 when shorterThanNeeded t
     ∷ 6 when notAvailable t
     ∷ 7 when (keyWrong (code t) (t at 4) || channelWrong t || parameterWrong t || checksumWrong t)
@@ -186,9 +190,9 @@ pub record ExactlyWhen : Type 0 where
   pub answered : (t : Sent) (n : ℕ) → Given t n → answer t ≡ some n
   pub only-answered : (t : Sent) (n : ℕ) → answer t ≡ some n → Given t n
   -- so does a tick that happens and has a transfer
-  pub told-so : (m : Machine) (i : Sample) (n : ℕ) → happens i ≡ true → i .sent ≡ true → Given (metIn m i) n → tickAnswer m i ≡ some n
+  pub told-so : (m : Machine) (i : Sample) (n : ℕ) → happens (wordCount (m .board)) i ≡ true → i .sent ≡ true → Given (metIn m i) n → tickAnswer m i ≡ some n
   -- a tick that happens and has none tells no number
-  pub unasked : (m : Machine) (i : Sample) → happens i ≡ true → i .sent ≡ false → tickAnswer m i ≡ none
+  pub unasked : (m : Machine) (i : Sample) → happens (wordCount (m .board)) i ≡ true → i .sent ≡ false → tickAnswer m i ≡ none
   -- and a tick that tells one of the eight happened, had a transfer, and its answer is given
   pub only-told : (m : Machine) (i : Sample) (n : ℕ) → n ≤ 7 → tickAnswer m i ≡ some n
-      → (happens i ≡ true) × (i .sent ≡ true) × Given (metIn m i) n
+      → (happens (wordCount (m .board)) i ≡ true) × (i .sent ≡ true) × Given (metIn m i) n

@@ -9,7 +9,7 @@ use Rattle.wire.specs.{declared.reply.Reply.Reply, Replies.shown, Replies.reply
 use Rattle.replies.specs.Layouts.{shortReply}
 use Rattle.state.specs.{Parts.withReply, Parts.withTimer, declared.parts.Board.Board}
 use Rattle.answers.specs.Answers.{headerOf}
-use Rattle.refusals.specs.Conditions.{Sent, code, obeyed, answer}
+use Rattle.refusals.specs.Conditions.{Sent, code, kind, obeyed, answer}
 
 -- ---- the reply of a refusal
 -- its STAT, by Table 3-11: the flag NEW is clear
@@ -47,4 +47,4 @@ pub record RefusedCommand : Type 0 where
   pub reply-and-timer : (t : Sent) (n : ℕ) → 4 ≤ n → n ≤ 7 → answer t ≡ some n → (obeyed t .board ≡ answeredAndFed n t) × (obeyed t .replied ≡ true)
   -- the reply shows five bytes; code and BID are bytes by their types, and would be cut to one if they were not
   pub five-bytes : (t : Sent) (n : ℕ) → code t < 256 → t .board .profile .bid < 256
-      → shown (refusal n t) ≡ 0x11 ∷ 0x07 ∷ replyCode (code t) ∷ t .board .profile .bid ∷ statIn stats n ∷ []
+      → shown (refusal n t) ≡ kind t .stid ∷ 0x07 ∷ replyCode (code t) ∷ t .board .profile .bid ∷ statIn stats n ∷ []

@@ -1,9 +1,10 @@
--- The rules of a profile, written out as document 01 gives them, and what a session sheet is made of, in the parts of
--- the grammar of `sheet`: refusals 8 and 14 are told by these. `(c : ℕ) × B` is some number c of which B holds.
--- Assumes nothing: these are definitions.
+-- The rules of a profile, written out as document 01 gives them, with the numbers of its kind of board, and what a
+-- session sheet is made of, in the parts of the grammar of `sheet`: refusals 8 and 14 are told by these. `(c : ℕ) × B`
+-- is some number c of which B holds. Assumes nothing: these are definitions.
 use Prim.Native.Nat.{ℕ, _≤_, _<_}
 use mathlib.Core.{Path._≡_, Bool.true, List.List}
 use lib.{ListN.length, Signed._≤ℤ_}
+use Rattle.kinds.specs.Kinds.{boardOf, isServed}
 use Rattle.value.specs.declared.ValueType.{ValueType}
 use Rattle.settings.specs.{Table.Range, Table.readWrite, Table.rowOf, Table.lowEnd, Table.highEnd, Values.settingOf}
 use Rattle.channels.specs.Sets.{has}
@@ -20,12 +21,15 @@ InRange store =
     (id : ℕ) (type : ValueType) (range : Range) (default : ℕ) → rowOf id ≡ readWrite type range default
     → (lowEnd type range ≤ℤ settingOf (store .settings) id) × (settingOf (store .settings) id ≤ℤ highEnd type range)
 
--- BID 1 to 8; the fitted channels, at least one; the force-enabled ones, all fitted; stored values in range, where any
--- are stored. The channels are 0 to 31, and a set of them has 32 bits, so that a fitted one is among these
+-- a kind that can be started; BID 1 to the last of its kind; the fitted channels, at least one where such a board has a
+-- place for any, and each in a place; the force-enabled ones, all fitted; stored values in range, where any are stored.
+-- The channels are 0 to 31, and a set of them has 32 bits, so that a fitted one is among these
 pub record KeepsAllRules (p : Profile) (store : Store) : Type 0 where
+  pub kind-served : isServed (p .kind) ≡ true
   pub bid-from-1 : 1 ≤ p .bid
-  pub bid-to-8 : p .bid ≤ 8
-  pub one-fitted : (c : ℕ) × (has (p .fitted) c ≡ true)
+  pub bid-to-last : p .bid ≤ boardOf (p .kind) .lastBid
+  pub one-fitted : (place : ℕ) → has (boardOf (p .kind) .places) place ≡ true → (c : ℕ) × (has (p .fitted) c ≡ true)
+  pub fitted-in-place : (c : ℕ) → c < 32 → has (p .fitted) c ≡ true → has (boardOf (p .kind) .places) c ≡ true
   pub forced-fitted : (c : ℕ) → c < 32 → has (p .forced) c ≡ true → has (p .fitted) c ≡ true
   pub stored-in-range : store .held ≡ true → InRange store
 

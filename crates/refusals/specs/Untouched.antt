@@ -9,7 +9,7 @@ use lib.ListN.{length}
 use Rattle.hex.specs.Hex.{laid}
 use Rattle.watchdog.specs.declared.Event.the-variants.{NoEvent}
 use Rattle.memory.specs.{Memory.emptyStore, declared.Store.Store}
-use Rattle.state.specs.{Start.startNumber, declared.parts.Profile.Profile}
+use Rattle.state.specs.{Parts.wordCount, Start.startNumber, declared.parts.Profile.Profile}
 use Rattle.reading.specs.{Answers.lineNumber, Given.GivenWhen, Lines.lineHeld, declared.Line.Line}
 use Rattle.framing.specs.{Answers.framedNumber, Framing.framedOf}
 use Rattle.unit.specs.{Machine.begunOf, Machine.heardOf, Machine.dueOf, declared.Machine.Machine, Runs.Sample, Runs.told}
@@ -28,13 +28,13 @@ pub record Eight : Type 0 where
   pub only-kept : (there : Machine) (profile : Profile) (store : Store) → startTold there profile store ≡ 0 → KeepsAllRules profile store
   pub leaves : (there : Machine) (profile : Profile) (store : Store) → startTold there profile store ≡ 8 → begunOf there profile store .machine ≡ there
 
--- 9, of a tick: the words lent are neither 0 nor 122; nothing of the tick takes place
-abbrev pub NeitherNoneNor122 : Sample → Type 0
-NeitherNoneNor122 i = (length (i .words) ≡ 0 → ⊥) × (length (i .words) ≡ 122 → ⊥)
+-- 9, of a tick: the words lent are neither none nor as many as the board has; nothing of the tick takes place
+abbrev pub NeitherNoneNorAll : Machine → Sample → Type 0
+NeitherNoneNorAll m i = (length (i .words) ≡ 0 → ⊥) × (length (i .words) ≡ wordCount (m .board) → ⊥)
 
 pub record Nine : Type 0 where
-  pub given : (m : Machine) (i : Sample) → NeitherNoneNor122 i → tickAnswer m i ≡ some 9
-  pub only : (m : Machine) (i : Sample) → tickAnswer m i ≡ some 9 → NeitherNoneNor122 i
+  pub given : (m : Machine) (i : Sample) → NeitherNoneNorAll m i → tickAnswer m i ≡ some 9
+  pub only : (m : Machine) (i : Sample) → tickAnswer m i ≡ some 9 → NeitherNoneNorAll m i
   pub leaves : (m : Machine) (i : Sample) → tickAnswer m i ≡ some 9 → (told m i .machine ≡ m) × (told m i .event ≡ NoEvent)
 
 -- 10 to 13, of a read of the text line: each answer is given where `GivenWhen` says, and a refused read leaves the
