@@ -31,18 +31,18 @@ append-words-requires-3 c κs = search needs
 
 returns : tie.Need-returns
 returns c = rw (
-      c .append-words3 .ensures,
-      c .before .before .append-words2 .ensures,
-      c .before .before .before .before .append-words .ensures,
-      c .before .before .before .before .before .before .longer .ensures,
-      after-replyOf,
-      after-words,
-      after-words,
-      c .before .before .before .before .before .before .before .channel-words .ensures,
-      c .before .before .before .before .before .first-words .ensures,
-      c .before .rest-words .ensures,
-      housekeeping-row,
-    )
+  c .append-words3 .ensures,
+  c .before .before .append-words2 .ensures,
+  c .before .before .before .before .append-words .ensures,
+  c .before .before .before .before .before .before .longer .ensures,
+  after-replyOf,
+  after-words,
+  after-words,
+  c .before .before .before .before .before .before .before .channel-words .ensures,
+  c .before .before .before .before .before .first-words .ensures,
+  c .before .rest-words .ensures,
+  housekeeping-row,
+)
 
 pub housekeeping-spec : {M : Type 1} → statement M
 housekeeping-spec =
