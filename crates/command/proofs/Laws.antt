@@ -50,17 +50,29 @@ pub at-code : (P : ℕ → Type 0) (k : ℕ) (cs : List ℕ) → isIn k cs ≡ t
 at-code P k cs h each = by-code P k cs each (λ e. absurd (subst T (sym (sym e ∙ h)) tt))
 
 -- every code of every kind of board is in the table, so that a board's code has a command
-abbrev Listed-codes : List ℕ → Type 0
-Listed-codes codes = Each (λ c. isIn c tableCodes ≡ true) codes
+unfoldable allIn : List ℕ → List ℕ → Bool
+allIn [] all = true
+allIn (c ∷ cs) all = isIn c all && allIn cs all
 
-listed-codes : (kind : Kind) → Listed-codes (boardOf kind .codes)
-unfolding isIn commandTable
-listed-codes Distribution = refl and refl and refl and refl and refl and refl and refl and refl and refl and refl and refl and refl and refl and refl and refl and refl and refl and refl and refl and none
-listed-codes (Battery abf) = refl and refl and refl and refl and refl and refl and refl and refl and refl and refl and refl and none
-listed-codes (Integrated daughterboard) = refl and refl and refl and refl and refl and refl and refl and refl and refl and refl and refl and refl and refl and refl and refl and refl and refl and refl and none
+and-both : (a b : Bool) → a && b ≡ true → (a ≡ true) × (b ≡ true)
+and-both true b h = (refl, h)
+and-both false b h = absurd (subst T (sym h) tt)
+
+one-of-all : (k : ℕ) (cs all : List ℕ) → allIn cs all ≡ true → isIn k cs ≡ true → isIn k all ≡ true
+unfolding allIn isIn
+one-of-all k [] all h e = absurd (subst T (sym e) tt)
+one-of-all k (c ∷ cs) all h e =
+    let w = and-both (isIn c all) (allIn cs all) h in
+    cases (eqb k c) (λ q. ap (λ (x : ℕ). isIn x all) (eqb-true k c q) ∙ w .0) (λ q. one-of-all k cs all (w .1) (rw q at e))
+
+in-the-table : (kind : Kind) → allIn (boardOf kind .codes) tableCodes ≡ true
+unfolding allIn isIn commandTable
+in-the-table Distribution = refl
+in-the-table (Battery abf) = refl
+in-the-table (Integrated daughterboard) = refl
 
 pub has-a-command : (kind : Kind) (code : ℕ) → isIn code (boardOf kind .codes) ≡ true → isIn code tableCodes ≡ true
-has-a-command kind code h = at-code (λ c. isIn c tableCodes ≡ true) code (boardOf kind .codes) h (listed-codes kind)
+has-a-command kind code h = one-of-all code (boardOf kind .codes) tableCodes (in-the-table kind) h
 
 -- ---- the number of an answer behind a check
 behind : (b : Bool) (r : Refusal) (d : Decoded) → decodedNumber (cond b (Refused r) d) ≡ cond b (refusalNumber r) (decodedNumber d)
