@@ -34,7 +34,8 @@ use Rattle.unit.specs.declared.Machine.{Machine}
 use Rattle.unit.specs.Runs.{Sample, told, happens, Call, tick, line, afterCall, after, Reached, afterStep2, afterStep3, afterStep4}
 use Rattle.groups.specs.Groups.{sentences, madeBy}
 use Rattle.groups.specs.Resets.{tellsWatchdogReset}
-use Rattle.groups.proofs.Groups.{Leaves, refusing, accepting, leaves}
+use Rattle.groups.proofs.Done.{refusing, accepting}
+use Rattle.groups.proofs.Groups.{Leaves, leaves}
 use Rattle.groups.proofs.Altered.{none, _and_, made-so}
 use Rattle.groups.proofs.Resets.{reset-is-told}
 use Rattle.groups.proofs.Unfitted.{unfitted}

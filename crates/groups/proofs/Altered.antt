@@ -7,7 +7,7 @@ use mathlib.Core.List.{List, [], _∷_}
 use lib.Dec.{eqb, ltb}
 use lib.IntN.{ℤ}
 use native.Mathlib.Omega.{arith}
-use borrow.Author.Tests.{ltb-false, eqb-true, eq-eqb}
+use borrow.Author.Tests.{ltb-false, eq-eqb}
 use Rattle.laws.proofs.Cases.{cases}
 use Rattle.kinds.specs.Kinds.{isIn}
 use Rattle.modes.specs.Table.{same}
@@ -26,17 +26,14 @@ use Rattle.asking.specs.Checks.{channelWrong, checksOf}
 use Rattle.commands.proofs.Told.{same-number, number-told}
 use Rattle.groups.specs.Groups.{isFitted, isCommandEnabled, obeyed, Answers, Sentence, at_each_becomes_, sentences, madeBy, namedBy}
 use Rattle.groups.specs.Altered.{altering, before, afterwards, Altered}
-use Rattle.groups.proofs.Groups.{Leaves, refusing, accepting, leaves, groups}
+use Rattle.groups.proofs.Done.{refusing, accepting}
+use Rattle.groups.proofs.Groups.{other, Leaves, leaves, groups}
 
 -- a channel that no sentence names
 unnamed : (l : List Sentence) (code : ℕ) (ch : Chan) → namedBy l code ≡ false → madeBy l code ch ≡ ch
 unfolding madeBy namedBy
 unnamed [] code ch e = refl
 unnamed (at k each named becomes f ∷ rest) code ch e = cases (eqb code k && named) (λ t. absurd (false≢true (sym e ∙ rw t))) (λ t. rw t (unnamed rest code ch (rw t at e)))
-
--- a code that is not in a list is none of those that are
-other : (code k : ℕ) (codes : List ℕ) → isIn code codes ≡ false → isIn k codes ≡ true → eqb code k ≡ false
-other code k codes out here = cases (eqb code k) (λ e. absurd (false≢true (sym out ∙ ap (λ (x : ℕ). isIn x codes) (eqb-true code k e) ∙ here))) (λ e. e)
 
 -- what is true of a channel, and of what each sentence that names it makes of it, is true of what the sentences make of
 -- it

@@ -41,7 +41,8 @@ use Rattle.unit.specs.declared.Machine.{Machine}
 use Rattle.unit.specs.Runs.{Sample, told, Call, tick, line, after, happens, afterStep2}
 use Rattle.groups.specs.Resets.{isByWatchdog, isAccepted, tellsWatchdogReset, tellsCommandReset, tellsReset}
 use Rattle.groups.specs.Counts.{takesOff, hasReset, timesTakenOff, Counts}
-use Rattle.groups.proofs.Groups.{Leaves, refusing, accepting, leaves}
+use Rattle.groups.proofs.Done.{refusing, accepting}
+use Rattle.groups.proofs.Groups.{Leaves, leaves}
 use Rattle.groups.proofs.Altered.{count-made}
 
 -- the count of channel c

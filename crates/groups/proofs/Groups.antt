@@ -1,27 +1,20 @@
--- Why a command alters the channels that document 01 names for it and no others. Each command of the table is run on
--- any board; the laws of `channels` say what its operation makes of one channel, and that is what the sentences say.
--- Assumes nothing.
+-- Why a command alters the channels that document 01 names for it and no others: `Done` says which operation each code
+-- is, the laws of `channels` what that makes of one channel, and that is what the sentences say. Assumes nothing.
 use Prim.Native.Nat.{ℕ, suc, _<_}
 use mathlib.Core.Path.{_≡_, refl, sym, ap, _∙_, subst}
 use mathlib.Core.Bool.{Bool, true, false, cond, not, _&&_, and-true, and-false, false≢true}
 use mathlib.Core.List.{List}
-use mathlib.Core.Option.{some}
 use lib.Dec.{eqb, ltb}
 use lib.IntN.{ℤ}
 use lib.ListN.{length, replicate}
 use native.Mathlib.Omega.{arith}
+use borrow.Author.Tests.{eqb-true}
 use Rattle.laws.proofs.Cases.{cases}
-use Rattle.kinds.specs.Kinds.{boardOf, isIn}
+use Rattle.kinds.specs.Kinds.{isIn}
 use Rattle.wire.specs.Numbers.{number}
-use Rattle.value.specs.declared.Parsed.{Parsed}
-use Rattle.value.specs.Values.{readOf}
-use Rattle.settings.specs.Table.{parameterOf}
-use Rattle.settings.specs.declared.Parameter.{Parameter}
-use Rattle.settings.specs.declared.Parameter.the-variants.{ReadWrite, ReadOnly, Unknown}
-use Rattle.modes.specs.Table.{_at-least_, same}
-use Rattle.modes.specs.Commands.{toSafetyFrom, toSafety, toNominalFrom, toNominal}
+use Rattle.modes.specs.Table.{same}
 use Rattle.modes.specs.declared.Mode.{Mode}
-use Rattle.modes.specs.declared.Mode.the-variants.{Startup, Nominal, Safety, Emergency}
+use Rattle.modes.specs.declared.Mode.the-variants.{Startup, Nominal, Safety}
 use Rattle.modes.specs.declared.Limits.{Limits}
 use Rattle.channels.specs.Sets.{has, bit, allBelow}
 use Rattle.channels.specs.Chan.{Chan, chan}
@@ -30,29 +23,15 @@ use Rattle.channels.specs.declared.Channels.{Channels}
 use Rattle.channels.proofs.Sets.{allBelow-each}
 use Rattle.channels.proofs.Whole.{Held}
 use Rattle.channels.proofs.Laws as channel
-use Rattle.command.specs.Table.{commandTable, find}
-use Rattle.command.specs.Decode.{fewerThanFour, headerIs, codeOf, byteAfter, idOf, valuePart, groupIn, getBy, getting, valued, setBy, setting, resetBy, resetting, carried, headerOf, listed, decodeOf}
-use Rattle.command.specs.declared.Group.{Group}
-use Rattle.command.specs.declared.Decoded.{Decoded}
-use Rattle.command.specs.declared.Decoded.the-variants.{Refused}
-use Rattle.command.specs.declared.Refusal.{Refusal}
-use Rattle.command.specs.declared.Refusal.the-variants.{FewerThanFourBytes, InStartup, NotThisBoard, CodeNotListed, TooShort, WrongKey, WrongParameter, NotANumber}
-use Rattle.command.proofs.Laws.{none, _and_, at-code, tableCodes, has-a-command}
-use Rattle.memory.specs.Memory.{savedOf}
+use Rattle.command.specs.Decode.{codeOf, groupIn}
 use Rattle.memory.specs.declared.Memory.{Memory}
-use Rattle.state.specs.Parts.{modeOf}
 use Rattle.state.specs.Start.{freshOf, commandResetOf}
-use Rattle.change.specs.Change.{isDark, fromNominalToSafety, enteringOf}
 use Rattle.state.specs.declared.parts.Board.{Board}
-use Rattle.answers.specs.Answers.{toldNumber, acceptedWith, acceptedOf, refusedOf, notThisBoardOf}
-use Rattle.answers.specs.declared.Answer.{Answer}
 use Rattle.answers.specs.declared.Commanded.{Commanded}
-use Rattle.effects.specs.Effects.{isNominal, switchedOf, groupOnOf, groupOffOf, groupStateOf, channelOnOf, channelOffOf, cancelledOf, switchedModeOf, faultsOf, housekeepingOf, parameterAnswered as parameterRun, rememberedOf, savedIn, restartedOf, runOf}
-use Rattle.asking.specs.Checks.{isStartup}
 use Rattle.commands.specs.Step.{commandedOf}
-use Rattle.commands.proofs.Stepwise.{turnedDown, decodedOf, steppedOf}
-use Rattle.commands.proofs.Told.{stepwise}
 use Rattle.groups.specs.Groups.{maskIn, isSpokenOf, sentences, madeBy, Groups}
+use Rattle.groups.proofs.Done.{acting, operated, Operates, group-on, group-off, group-state, channel-on, channel-off, cancel, in-nominal, to-nominal, in-safety, to-safety, Remembers, set, reset-one, defaults, load, save}
+use Rattle.groups.proofs.Done.{Done, replies, shows-faults, operates, enters, remembers, restarts, Answers, refusing, accepting, hence, does}
 
 -- ---- the mask of a transfer, and the channels that it speaks of, are the decoder's
 mask-is : (s : List ℕ) → groupIn s .mask ≡ maskIn s
@@ -102,15 +81,13 @@ state-is true false true false ch = refl
 no-startup : {A : Type 0} (m : Mode) → same m Startup ≡ false → m ≡ Startup → A
 no-startup m f e = absurd (false≢true (sym f ∙ ap (λ (x : Mode). same x Startup) e))
 
-module _ (rail : ℤ) (limits : Limits) (s : List ℕ) (b : Board) where
-  -- the board of a refused command has its channels, its profile and its phase as they were
-  pub record Kept (after : Board) : Type 0 where
-    pub channels : after .channels ≡ b .channels
-    pub profile : after .profile ≡ b .profile
-    pub phase : after .phase ≡ b .phase
+-- a code that is not in a list is none of those that are
+pub other : (k one : ℕ) (codes : List ℕ) → isIn k codes ≡ false → isIn one codes ≡ true → eqb k one ≡ false
+other k one codes out here = cases (eqb k one) (λ e. absurd (false≢true (sym out ∙ ap (λ (x : ℕ). isIn x codes) (eqb-true k one e) ∙ here))) (λ e. e)
 
-  -- that of an accepted command of code k has each channel as the sentences say; only 0xAA is a reset, and nothing else
-  -- leads into startup
+module _ (rail : ℤ) (limits : Limits) (s : List ℕ) (b : Board) where
+  -- the board of an accepted command of code k has each channel as the sentences say; only 0xAA is a reset, and nothing
+  -- else leads into startup
   pub record Made (k : ℕ) (after : Board) : Type 0 where
     pub one-by-one : (c : ℕ) → c < 32 → chan (after .channels) c ≡ madeBy (sentences b s c) k (chan (b .channels) c)
     pub held : Held (b .channels) → Held (after .channels)
@@ -118,46 +95,8 @@ module _ (rail : ℤ) (limits : Limits) (s : List ℕ) (b : Board) where
     pub no-reset : eqb k 0xAA ≡ false → after .phase .mode ≡ Startup → after .phase ≡ b .phase
     pub reset : eqb k 0xAA ≡ true → after ≡ commandResetOf b
 
-  pub data Leaves (k : ℕ) (c : Commanded) : Type 0 where
-    refusing : (n : ℕ) → toldNumber (c .outcome) ≡ some (suc n) → Kept (c .board) → Leaves k c
-    accepting : toldNumber (c .outcome) ≡ some 0 → Made k (c .board) → Leaves k c
-
-  -- ---- refusals
-  turned-down : (k : ℕ) (r : Refusal) → Leaves k (turnedDown k r b)
-  unfolding turnedDown notThisBoardOf refusedOf
-  turned-down k FewerThanFourBytes = refusing 0 refl (record { channels = refl; profile = refl; phase = refl })
-  turned-down k InStartup = refusing 1 refl (record { channels = refl; profile = refl; phase = refl })
-  turned-down k NotThisBoard = refusing 2 refl (record { channels = refl; profile = refl; phase = refl })
-  turned-down k CodeNotListed = refusing 3 refl (record { channels = refl; profile = refl; phase = refl })
-  turned-down k TooShort = refusing 4 refl (record { channels = refl; profile = refl; phase = refl })
-  turned-down k WrongKey = refusing 6 refl (record { channels = refl; profile = refl; phase = refl })
-  turned-down k WrongParameter = refusing 6 refl (record { channels = refl; profile = refl; phase = refl })
-  turned-down k NotANumber = refusing 6 refl (record { channels = refl; profile = refl; phase = refl })
-
-  -- 6 and 7 of the step itself
-  unavailable : (k : ℕ) → Leaves k (refusedOf Answer.NotAvailable k b)
-  unfolding refusedOf
-  unavailable k = refusing 5 refl (record { channels = refl; profile = refl; phase = refl })
-
-  -- 7, for a channel or a checksum
-  wrong : (k : ℕ) → Leaves k (refusedOf Answer.Wrong k b)
-  unfolding refusedOf
-  wrong k = refusing 6 refl (record { channels = refl; profile = refl; phase = refl })
-
-  -- what a check puts in front of a command
-  either : (k : ℕ) (t : Bool) {x y : Commanded} → Leaves k x → Leaves k y → Leaves k (cond t x y)
-  either k true p q = p
-  either k false p q = q
-
-  -- ---- the channel commands: in nominal, and the channel right, the channels are as the command leaves them
-  switched : (k : ℕ) (right : Bool) (channels : Channels)
-      → ((c : ℕ) → c < 32 → chan channels c ≡ madeBy (sentences b s c) k (chan (b .channels) c)) → Held channels → eqb k 0xAA ≡ false
-      → Leaves k (switchedOf k right channels b)
-  unfolding switchedOf acceptedOf acceptedWith
-  switched k right channels e h n =
-      either k (not (isNominal (modeOf b))) (unavailable k)
-      (either k (not right) (wrong k)
-      (accepting refl (record { one-by-one = e; held = λ _. h; profile = refl; no-reset = λ _ _. refl; reset = λ r. absurd (false≢true (sym n ∙ r)) })))
+  abbrev pub Leaves : ℕ → Commanded → Type 0
+  Leaves k c = Answers rail limits s b (Made k) c
 
   -- the profile's two sets
   abbrev fitted : ℕ
@@ -167,63 +106,36 @@ module _ (rail : ℤ) (limits : Limits) (s : List ℕ) (b : Board) where
   abbrev forced : ℕ
   forced = b .profile .forced
 
-  -- the channels after one of the laws' commands
-  abbrev done : channel.Command → Channels
-  done o = channel.obeyed fitted forced o (b .channels)
+  -- ---- the commands on channels
+  sentence-of : {k : ℕ} {o : channel.Command} → Operates rail limits s b k o → (c : ℕ) → c < 32 → (ch : Chan) → channel.obeyedOne fitted forced o c ch ≡ madeBy (sentences b s c) k ch
+  unfolding madeBy sentences
+  sentence-of group-on c h ch = rw (spoken-is s c h, mask-is s)
+  sentence-of group-off c h ch = rw (spoken-is s c h, mask-is s) (cases (has forced c) (λ f. simp (f, and-false)) (λ f. simp f))
+  sentence-of group-state c h ch = rw (spoken-is s c h, mask-is s) (state-is (has fitted c) (has forced c) (isSpokenOf s c) (has (maskIn s) c) ch)
+  sentence-of channel-on c h ch = rw and-true
+  sentence-of channel-off c h ch = rw and-true
+  sentence-of cancel c h ch = refl
 
-  -- they are 32
-  done-held : (o : channel.Command) → Held (done o)
-  done-held o = channel.after-held fitted forced (channel.commanded o) (b .channels)
+  -- none of them is the reset
+  no-restart : {k : ℕ} {o : channel.Command} → Operates rail limits s b k o → eqb k 0xAA ≡ false
+  no-restart group-on = refl
+  no-restart group-off = refl
+  no-restart group-state = refl
+  no-restart channel-on = refl
+  no-restart channel-off = refl
+  no-restart cancel = refl
 
-  -- and each is what the law of that command says
-  done-at : (o : channel.Command) (c : ℕ) → c < 32 → chan (done o) c ≡ channel.obeyedOne fitted forced o c (chan (b .channels) c)
-  done-at o c h = channel.each fitted forced (channel.commanded o) (b .channels) c h
-
-  -- 0x10
-  group-on : (g : Group) → g ≡ groupIn s → Leaves 0x10 (groupOnOf 0x10 g b)
-  unfolding groupOnOf madeBy sentences
-  group-on g e = switched 0x10 true _ (λ c h. done-at (channel.group-on (g .spoken) (g .mask)) c h ∙ rw (e, spoken-is s c h, mask-is s)) (done-held (channel.group-on (g .spoken) (g .mask))) refl
-
-  -- 0x12
-  group-off : (g : Group) → g ≡ groupIn s → Leaves 0x12 (groupOffOf 0x12 g b)
-  unfolding groupOffOf madeBy sentences
-  group-off g e =
-      switched 0x12 true _
-      (λ c h. done-at (channel.group-off (g .spoken) (g .mask)) c h ∙ rw (e, spoken-is s c h, mask-is s) (cases (has forced c) (λ f. simp (f, and-false)) (λ f. simp f)))
-      (done-held (channel.group-off (g .spoken) (g .mask)))
-      refl
-
-  -- 0x14
-  group-state : (g : Group) → g ≡ groupIn s → Leaves 0x14 (groupStateOf 0x14 g b)
-  unfolding groupStateOf madeBy sentences
-  group-state g e =
-      switched 0x14 true _
-      (λ c h. done-at (channel.group-state (g .spoken) (g .mask)) c h ∙ rw (e, spoken-is s c h, mask-is s) (state-is (has fitted c) (has forced c) (isSpokenOf s c) (has (maskIn s) c) (chan (b .channels) c)))
-      (done-held (channel.group-state (g .spoken) (g .mask)))
-      refl
-
-  -- 0x16
-  channel-on : Leaves 0x16 (channelOnOf 0x16 (byteAfter s) b)
-  unfolding channelOnOf madeBy sentences
-  channel-on = switched 0x16 _ _ (λ c h. done-at (channel.switch-on (byteAfter s)) c h ∙ rw and-true) (done-held (channel.switch-on (byteAfter s))) refl
-
-  -- 0x18
-  channel-off : Leaves 0x18 (channelOffOf 0x18 (byteAfter s) b)
-  unfolding channelOffOf madeBy sentences
-  channel-off = switched 0x18 _ _ (λ c h. done-at (channel.switch-off (byteAfter s)) c h ∙ rw and-true) (done-held (channel.switch-off (byteAfter s))) refl
-
-  -- 0x04
-  cancelled : Leaves 0x04 (cancelledOf 0x04 b)
-  unfolding cancelledOf acceptedOf acceptedWith madeBy sentences
-  cancelled =
-      accepting refl
-      (record {
-        one-by-one = λ c h. done-at channel.command-enabled-off c h;
-        held = λ _. done-held channel.command-enabled-off;
-        profile = refl;
-        no-reset = λ _ _. refl;
-        reset = λ r. absurd (false≢true r);
-      })
+  -- channels after one of the laws' commands
+  by-operation : (k : ℕ) (o : channel.Command) (after : Board) → after .channels ≡ operated rail limits s b o → after .profile ≡ b .profile → (after .phase .mode ≡ Startup → after .phase ≡ b .phase)
+      → ((c : ℕ) → c < 32 → channel.obeyedOne fitted forced o c (chan (b .channels) c) ≡ madeBy (sentences b s c) k (chan (b .channels) c)) → eqb k 0xAA ≡ false → Made k after
+  by-operation k o after e same-profile starts says n =
+      record {
+        one-by-one = λ c h. ap (λ (x : Channels). chan x c) e ∙ channel.each fitted forced (channel.commanded o) (b .channels) c h ∙ says c h;
+        held = λ _. subst Held (sym e) (channel.after-held fitted forced (channel.commanded o) (b .channels));
+        profile = same-profile;
+        no-reset = λ _. starts;
+        reset = λ r. absurd (false≢true (sym n ∙ r));
+      }
 
   -- ---- the commands that alter no channel
   abbrev NoSentence : ℕ → Type 0
@@ -240,151 +152,45 @@ module _ (rail : ℤ) (limits : Limits) (s : List ℕ) (b : Board) where
         reset = λ r. absurd (false≢true (sym n ∙ r));
       }
 
-  -- the same where the mode stays too
-  plainly : (k : ℕ) (c : Commanded) → toldNumber (c .outcome) ≡ some 0 → c .board .channels ≡ b .channels → c .board .profile ≡ b .profile → c .board .phase ≡ b .phase
-      → NoSentence k → eqb k 0xAA ≡ false → Leaves k c
-  plainly k c t same-channels same-profile same-phase e n =
-      accepting t (untouched k (c .board) same-channels same-profile (λ _. same-phase) e n)
+  -- those that only reply
+  quiet-code : (k : ℕ) → isIn k acting ≡ false → NoSentence k
+  unfolding madeBy sentences isIn
+  quiet-code k quiet c =
+      let no : (one : ℕ) → isIn one acting ≡ true → eqb k one ≡ false = λ one here. other k one acting quiet here in
+      rw (no 0x10 refl, no 0x12 refl, no 0x14 refl, no 0x16 refl, no 0x18 refl, no 0x04 refl, no 0x32 refl, no 0xAA refl)
 
-  -- ---- 0x32 and 0x30
-  to-safety : (m : Mode) → modeOf b ≡ m → Leaves 0x32 (switchedModeOf 0x32 (toSafetyFrom m (b .phase)) b)
-  unfolding switchedModeOf acceptedOf acceptedWith enteringOf isDark fromNominalToSafety madeBy sentences
-  to-safety Startup e = unavailable 0x32
-  to-safety Nominal e =
-      accepting refl
-      (record {
-        one-by-one = λ c h. rw e (done-at channel.command-enabled-off c h);
-        held = λ _. rw e (done-held channel.command-enabled-off);
-        profile = refl;
-        no-reset = λ _ m. no-startup Safety refl m;
-        reset = λ r. absurd (false≢true r);
-      })
-  to-safety Safety e = plainly 0x32 _ refl (rw e) refl refl (λ c. rw e) refl
-  to-safety Emergency e = unavailable 0x32
+  -- those on settings
+  remembering : {k : ℕ} {m : Memory} (after : Board) → Remembers rail limits s b k m → after .channels ≡ b .channels → after .profile ≡ b .profile → after .phase ≡ b .phase → Made k after
+  unfolding madeBy sentences
+  remembering after (set id v) c p e = untouched 0x84 after c p (λ _. e) (λ _. refl) refl
+  remembering after (reset-one id) c p e = untouched 0x86 after c p (λ _. e) (λ _. refl) refl
+  remembering after defaults c p e = untouched 0x90 after c p (λ _. e) (λ _. refl) refl
+  remembering after load c p e = untouched 0x92 after c p (λ _. e) (λ _. refl) refl
+  remembering after (save given) c p e = untouched 0x94 after c p (λ _. e) (λ _. refl) refl
 
-  -- 0x30 alters no channel, in whichever mode
-  to-nominal : (m : Mode) → modeOf b ≡ m → Leaves 0x30 (switchedModeOf 0x30 (toNominalFrom m (b .phase) rail limits) b)
-  unfolding switchedModeOf acceptedOf acceptedWith enteringOf isDark fromNominalToSafety madeBy sentences
-  to-nominal Startup e = unavailable 0x30
-  to-nominal Nominal e = plainly 0x30 _ refl (rw e) refl refl (λ c. refl) refl
-  to-nominal Safety e =
-      cases (rail at-least limits .«safety_low»)
-      (λ enough. rw enough (accepting refl (untouched 0x30 _ (rw e) refl (λ m. no-startup Nominal refl m) (λ c. refl) refl)))
-      (λ low. rw low (unavailable 0x30))
-  to-nominal Emergency e = unavailable 0x30
-
-  -- ---- parameters, settings, the reset
-  parameter : (k id : ℕ) (p : Memory) → NoSentence k → eqb k 0xAA ≡ false → Leaves k (parameterRun k id p b)
-  unfolding parameterRun acceptedWith
-  parameter k id p e n = plainly k _ refl refl refl refl e n
-
-  -- 0x90, 0x92
-  remembered : (k : ℕ) (p : Memory) → NoSentence k → eqb k 0xAA ≡ false → Leaves k (rememberedOf k p b)
-  unfolding rememberedOf acceptedOf acceptedWith
-  remembered k p e n = plainly k _ refl refl refl refl e n
-
-  -- 0x94, which refuses a wrong checksum
-  saved : (given : ℕ) → Leaves 0x94 (savedIn 0x94 given b)
-  unfolding savedIn madeBy sentences
-  saved given = either 0x94 (not (savedOf given (b .memory) .right)) (wrong 0x94) (remembered 0x94 _ (λ c. refl) refl)
-
-  -- 0xAA
-  restarted : Leaves 0xAA (restartedOf b)
-  unfolding restartedOf commandResetOf freshOf madeBy sentences
-  restarted =
-      accepting refl
-      (record {
+  -- ---- every command
+  made : {k : ℕ} {after : Board} → Done rail limits s b k after → Made k after
+  unfolding madeBy sentences isIn commandResetOf freshOf
+  made {k} (replies r w quiet) = untouched k _ refl refl (λ _. refl) (quiet-code k quiet) (other k 0xAA acting quiet refl)
+  made shows-faults = untouched 0x42 _ refl refl (λ _. refl) (λ c. refl) refl
+  made {k} (operates {o = o} r x) = by-operation k o _ refl refl (λ _. refl) (λ c h. sentence-of x c h _) (no-restart x)
+  made (enters r (in-nominal e)) = untouched 0x30 _ refl refl (λ _. refl) (λ c. refl) refl
+  made (enters r (to-nominal e)) = untouched 0x30 _ refl refl (λ m. no-startup Nominal refl m) (λ c. refl) refl
+  made (enters r (in-safety n e)) = untouched 0x32 _ refl refl (λ _. refl) (λ c. rw n) refl
+  made (enters r (to-safety n e)) = by-operation 0x32 channel.command-enabled-off _ refl refl (λ m. no-startup Safety refl m) (λ c h. rw n) refl
+  made (remembers r x) = remembering _ x refl refl refl
+  made restarts =
+      record {
         one-by-one = λ c h. channel.cleared-each c h;
         held = λ _. channel.cleared-held;
         profile = refl;
         no-reset = λ r. absurd (false≢true (sym r));
         reset = λ _. refl;
-      })
+      }
 
-  -- ---- every command of the table
-  abbrev Run-leaves : ℕ → Decoded → Type 0
-  Run-leaves k d = Leaves k (decodedOf rail limits k d b)
-
-  -- what the decoder refuses stands in front of the command
-  behind : (k : ℕ) (x : Bool) (r : Refusal) (d : Decoded) → Run-leaves k d → Run-leaves k (cond x (Refused r) d)
-  unfolding decodedOf
-  behind k true r d p = turned-down k r
-  behind k false r d p = p
-
-  -- 0x82
-  got : (id : ℕ) (p : Parameter) → Run-leaves 0x82 (getBy id p)
-  unfolding decodedOf runOf madeBy sentences
-  got id (ReadWrite t) = parameter 0x82 id _ (λ c. refl) refl
-  got id (ReadOnly t) = parameter 0x82 id _ (λ c. refl) refl
-  got id Unknown = turned-down 0x82 WrongParameter
-
-  -- 0x84, once its id is known
-  value-set : (id : ℕ) (v : Parsed) → Run-leaves 0x84 (valued id v)
-  unfolding decodedOf runOf valued madeBy sentences
-  value-set id (Parsed.Value v) = parameter 0x84 id _ (λ c. refl) refl
-  value-set id Parsed.TooShort = turned-down 0x84 TooShort
-  value-set id Parsed.NotANumber = turned-down 0x84 NotANumber
-
-  -- 0x84
-  set : (id : ℕ) (p : Parameter) (value : List ℕ) → Run-leaves 0x84 (setBy id p value)
-  unfolding decodedOf
-  set id (ReadWrite t) value = value-set id (readOf t value)
-  set id (ReadOnly t) value = turned-down 0x84 WrongParameter
-  set id Unknown value = turned-down 0x84 WrongParameter
-
-  -- 0x86
-  reset-one : (id : ℕ) (p : Parameter) → Run-leaves 0x86 (resetBy id p)
-  unfolding decodedOf runOf madeBy sentences
-  reset-one id (ReadWrite t) = parameter 0x86 id _ (λ c. refl) refl
-  reset-one id (ReadOnly t) = turned-down 0x86 WrongParameter
-  reset-one id Unknown = turned-down 0x86 WrongParameter
-
-  -- a command that may be too short
-  plain : (k needed : ℕ) (d : Decoded) → Run-leaves k d → Run-leaves k (cond (ltb (length s) needed) (Refused TooShort) d)
-  plain k needed d p = behind k (ltb (length s) needed) TooShort d p
-
-  -- a command that may be too short, or have a wrong key
-  keyed : (k needed key : ℕ) (d : Decoded) → Run-leaves k d → Run-leaves k (cond (ltb (length s) needed) (Refused TooShort) (cond (not (eqb (byteAfter s) key)) (Refused WrongKey) d))
-  keyed k needed key d p = plain k needed _ (behind k (not (eqb (byteAfter s) key)) WrongKey d p)
-
-  -- by the table, code by code
-  in-list : (code : ℕ) → isIn code tableCodes ≡ true → Run-leaves code (listed (find commandTable code) s)
-  unfolding listed find commandTable carried getting setting resetting decodedOf runOf acceptedOf acceptedWith faultsOf housekeepingOf toSafety toNominal madeBy sentences
-  in-list code h =
-      at-code (λ k. Run-leaves k (listed (find commandTable k) s)) code tableCodes h
-      (keyed 0xAA 5 0xA6 _ restarted
-      and plain 0x02 4 _ (plainly 0x02 _ refl refl refl refl (λ c. refl) refl)
-      and plain 0x04 4 _ cancelled
-      and plain 0x06 4 _ (plainly 0x06 _ refl refl refl refl (λ c. refl) refl)
-      and plain 0x10 6 _ (group-on (groupIn s) refl)
-      and plain 0x12 6 _ (group-off (groupIn s) refl)
-      and plain 0x14 6 _ (group-state (groupIn s) refl)
-      and plain 0x16 5 _ channel-on
-      and plain 0x18 5 _ channel-off
-      and plain 0x30 4 _ (to-nominal (modeOf b) refl)
-      and plain 0x32 4 _ (to-safety (modeOf b) refl)
-      and plain 0x42 4 _ (plainly 0x42 _ refl refl refl refl (λ c. refl) refl)
-      and plain 0x50 4 _ (plainly 0x50 _ refl refl refl refl (λ c. refl) refl)
-      and plain 0x82 6 _ (got (idOf s) (parameterOf (idOf s)))
-      and plain 0x84 6 _ (set (idOf s) (parameterOf (idOf s)) (valuePart s))
-      and plain 0x86 6 _ (reset-one (idOf s) (parameterOf (idOf s)))
-      and keyed 0x90 5 0xA7 _ (remembered 0x90 _ (λ c. refl) refl)
-      and keyed 0x92 5 0xA7 _ (remembered 0x92 _ (λ c. refl) refl)
-      and keyed 0x94 7 0xA7 _ (saved _)
-      and none)
-
-  -- ---- every transfer: the checks of the decoder, and then its code, where the board has that
+  -- ---- every transfer
   pub leaves : Leaves (codeOf s) (commandedOf rail limits true s b)
-  unfolding commandedOf steppedOf decodeOf decodedOf
-  leaves =
-      let code = codeOf s in
-      rw (stepwise rail limits s b)
-      (behind code (fewerThanFour s) FewerThanFourBytes _
-      (behind code (isStartup (modeOf b)) InStartup _
-      (behind code (not (headerIs (headerOf (b .profile .kind) (b .profile .bid)) s)) NotThisBoard _
-      (cases (isIn code (boardOf (b .profile .kind) .codes))
-      (λ here. rw here (in-list code (has-a-command (b .profile .kind) code here)))
-      (λ none-such. rw none-such (turned-down code CodeNotListed))))))
+  leaves = hence rail limits s b (Made (codeOf s)) (λ after done. made done) (does rail limits s b)
 
 -- ---- the claim
 pub groups : (rail : ℤ) (limits : Limits) (s : List ℕ) (b : Board) → Groups rail limits s b

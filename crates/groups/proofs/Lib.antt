@@ -1,3 +1,4 @@
+pub mod Done
 pub mod Groups
 pub mod Altered
 pub mod Unfitted

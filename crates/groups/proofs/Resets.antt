@@ -38,7 +38,8 @@ use Rattle.unit.specs.Machine.{toldOf}
 use Rattle.unit.specs.declared.Machine.{Machine}
 use Rattle.unit.specs.Runs.{Sample, told, happens, afterStep3, afterStep4}
 use Rattle.groups.specs.Resets.{isByWatchdog, isAccepted, tellsWatchdogReset, tellsCommandReset, tellsReset, startsOver, StartedOver, ResetIsTold}
-use Rattle.groups.proofs.Groups.{Leaves, refusing, accepting, leaves}
+use Rattle.groups.proofs.Done.{refusing, accepting}
+use Rattle.groups.proofs.Groups.{Leaves, leaves}
 use Rattle.groups.proofs.Altered.{failed}
 use Rattle.groups.proofs.Counts.{not-accepted, watched-tells}
 

@@ -39,7 +39,8 @@ use Rattle.unit.specs.declared.Machine.{Machine}
 use Rattle.unit.specs.Runs.{Call, tick, line, afterCall, after, Reached}
 use Rattle.groups.specs.Groups.{sentences, madeBy}
 use Rattle.groups.specs.Unfitted.{Unfitted}
-use Rattle.groups.proofs.Groups.{Leaves, refusing, accepting, leaves}
+use Rattle.groups.proofs.Done.{refusing, accepting}
+use Rattle.groups.proofs.Groups.{Leaves, leaves}
 use Rattle.groups.proofs.Altered.{none, _and_, made-so, failed}
 
 -- ---- what every step keeps: sets of 32 channels with 32 counts, and the channels that p does not have off and
