@@ -7,8 +7,9 @@ use Rattle.replies.specs.Layouts.{shortReply, faultsReply, housekeepingReply, p
 use Rattle.state.specs.{Parts.wordsOf, declared.parts.Board.Board}
 use Rattle.answers.specs.{Answers.headerOf, Answers.new, Answers.statOf, Parameters.valueRead, declared.Outcome.Outcome}
 use Rattle.answers.specs.declared.Outcome.the-variants.{WrongWordCount, NoTransfer, Answered}
-use Rattle.effects.specs.{Effects.newWhere, declared.parts.Layout.Layout, declared.parts.MemoryChange.MemoryChange}
-use Rattle.effects.specs.declared.parts.Layout.the-variants.{Short, Faults, Housekeeping, Parameter}
+use Rattle.command.specs.declared.Layout.{Layout}
+use Rattle.command.specs.declared.Layout.the-variants.{Short, Faults, Housekeeping, Parameter}
+use Rattle.effects.specs.{Effects.newWhere, declared.parts.MemoryChange.MemoryChange}
 use Rattle.effects.specs.declared.parts.MemoryChange.the-variants.{AsBefore, Set, ResetOne, Defaults, Load, Save, Restart}
 
 -- ---- the memory; a restart is not made by it, but as a whole

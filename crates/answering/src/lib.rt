@@ -12,7 +12,7 @@ use answers::stat;
 use answers::value_read;
 use channels::Channels;
 use command::Header;
-use effects::Layout;
+use command::Layout;
 use effects::MemoryChange;
 use memory::Memory;
 use state::Board;

@@ -19,6 +19,7 @@ use Rattle.watchdog.specs.declared.Event.the-variants.{NoEvent, PeripheralReset
 use Rattle.channels.specs.declared.Channels.{Channels}
 use Rattle.command.specs.Decode.{codeOf}
 use Rattle.command.specs.declared.Command.{Command}
+use Rattle.command.specs.declared.Layout.{Layout}
 use Rattle.command.specs.declared.Refusal.{Refusal}
 use Rattle.command.specs.declared.Decoded.{Decoded}
 use Rattle.command.specs.declared.Decoded.the-variants.{Run, Refused}
@@ -35,7 +36,7 @@ use Rattle.answers.specs.declared.Answer.the-variants.{Accepted, FewerThanFourB
 use Rattle.answers.specs.declared.Outcome.{Outcome}
 use Rattle.answers.specs.declared.Outcome.the-variants.{NoTransfer, Answered}
 use Rattle.answers.specs.declared.Commanded.{Commanded}
-use Rattle.effects.specs.Effects.{isNominal, switchedOf, groupOnOf, groupOffOf, groupStateOf, channelOnOf, channelOffOf, cancelledOf, switchedModeOf, faultsOf, housekeepingOf, parameterAnswered, rememberedOf, savedIn, restartedOf, runOf}
+use Rattle.effects.specs.Effects.{isNominal, switchedOf, groupOnOf, groupOffOf, groupStateOf, channelOnOf, channelOffOf, cancelledOf, switchedModeOf, faultsOf, housekeepingOf, parameterAnswered, rememberedOf, savedIn, restartedOf, reportedOf, runOf}
 use Rattle.commands.specs.Step.{readBy, transferredOf, commandedOf}
 use Rattle.commands.proofs.Stepwise.{turnedDown, decodedOf, steppedOf}
 use Rattle.commands.proofs.Told.{stepwise, numbered}
@@ -70,6 +71,13 @@ module _ (r : Reply) where
   switched-mode code (change.ModeAnswer.Accepted phase) b = replies Accepted refl refl refl
   switched-mode code change.ModeAnswer.Unavailable b = replies NotAvailable refl refl refl
 
+  reported : (code : ℕ) (layout : Layout) (b : Board) → Answers b (reportedOf code layout b) (reportedOf code layout (withReply r b))
+  unfolding reportedOf faultsOf housekeepingOf parameterAnswered acceptedOf acceptedWith
+  reported code Layout.Short b = replies Accepted refl refl refl
+  reported code Layout.Faults b = replies Accepted refl refl refl
+  reported code Layout.Housekeeping b = replies Accepted refl refl refl
+  reported code (Layout.Parameter id) b = replies Accepted refl refl refl
+
   run : (rail : ℤ) (limits : Limits) (code : ℕ) (c : Command) (b : Board) → Answers b (runOf rail limits code c b) (runOf rail limits code c (withReply r b))
   unfolding runOf groupOnOf groupOffOf groupStateOf channelOnOf channelOffOf cancelledOf faultsOf housekeepingOf parameterAnswered rememberedOf savedIn restartedOf refusedOf acceptedOf acceptedWith
   run rail limits code (Command.GroupOn g) b = switched code _ _ b
@@ -78,18 +86,14 @@ module _ (r : Reply) where
   run rail limits code (Command.ChannelOn one) b = switched code _ _ b
   run rail limits code (Command.ChannelOff one) b = switched code _ _ b
   run rail limits code Command.CancelOperation b = replies Accepted refl refl refl
-  run rail limits code Command.NoOperation b = replies Accepted refl refl refl
-  run rail limits code Command.Watchdog b = replies Accepted refl refl refl
   run rail limits code Command.SwitchToSafety b = switched-mode code (toSafety (b .phase)) b
   run rail limits code Command.SwitchToNominal b = switched-mode code (toNominal (b .phase) rail limits) b
-  run rail limits code Command.GetOvercurrentFaultState b = replies Accepted refl refl refl
-  run rail limits code Command.GetHousekeeping b = replies Accepted refl refl refl
-  run rail limits code (Command.GetParameter id) b = replies Accepted refl refl refl
   run rail limits code (Command.SetParameter id v) b = replies Accepted refl refl refl
   run rail limits code (Command.ResetParameter id) b = replies Accepted refl refl refl
   run rail limits code Command.ResetConfiguration b = replies Accepted refl refl refl
   run rail limits code Command.LoadConfiguration b = replies Accepted refl refl refl
   run rail limits code (Command.SaveConfiguration given) b = either (not (savedOf given (b .memory) .right)) (replies Wrong refl refl refl) (replies Accepted refl refl refl)
+  run rail limits code (Command.Report layout) b = reported code layout b
   run rail limits code Command.SystemReset b = record { answer = Accepted; told-so = refl; own-reply = λ e. absurd (false≢true e); form-kept = inr refl }
 
   turned-down : (code : ℕ) (refusal : Refusal) (b : Board) → Answers b (turnedDown code refusal b) (turnedDown code refusal (withReply r b))

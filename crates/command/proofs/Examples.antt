@@ -14,7 +14,8 @@ use Rattle.kinds.specs.declared.Kind.the-variants.{Distribution, Battery}
 use Rattle.command.specs.Table.{commandTable, find}
 use Rattle.command.specs.Decode.{fewerThanFour, headerIs, groupIn, carried, listed, decodeOf}
 use Rattle.command.specs.declared.Group.{Group}
-use Rattle.command.specs.declared.Command.the-variants.{NoOperation, CancelOperation}
+use Rattle.command.specs.declared.Command.the-variants.{CancelOperation, Report}
+use Rattle.command.specs.declared.Layout.the-variants.{Short}
 use Rattle.command.specs.declared.Decoded.{Decoded}
 use Rattle.command.specs.declared.Decoded.the-variants.{Run, Refused}
 use Rattle.command.specs.declared.Refusal.the-variants.{FewerThanFourBytes, NotThisBoard, CodeNotListed}
@@ -43,7 +44,7 @@ module _ (stid ivid code bid low high : ℕ) where
 pub boundary : (more : ℕ)
     → map (decodeOf Distribution 0x01 false)
     ((0x11 ∷ 0x07 ∷ 0x02 ∷ 0x01 ∷ []) ∷ (0x11 ∷ 0x07 ∷ 0x02 ∷ 0x01 ∷ more ∷ []) ∷ (0x11 ∷ 0x07 ∷ 0x02 ∷ []) ∷ (0x11 ∷ 0x07 ∷ 0x03 ∷ 0x01 ∷ []) ∷ [])
-    ≡ Run NoOperation ∷ Run NoOperation ∷ Refused FewerThanFourBytes ∷ Refused CodeNotListed ∷ []
+    ≡ Run (Report Short) ∷ Run (Report Short) ∷ Refused FewerThanFourBytes ∷ Refused CodeNotListed ∷ []
 unfolding decodeOf fewerThanFour headerIs isIn listed carried find commandTable
 boundary more = refl
 
@@ -55,11 +56,11 @@ six kind =
     ∷ (0x12 ∷ 0x07 ∷ 0x02 ∷ 0x01 ∷ []) ∷ (0x12 ∷ 0x07 ∷ 0x04 ∷ 0x01 ∷ []) ∷ (0x12 ∷ 0x07 ∷ 0x03 ∷ 0x01 ∷ []) ∷ [])
 
 pub of-distribution : six Distribution
-    ≡ Run NoOperation ∷ Run CancelOperation ∷ Refused CodeNotListed ∷ Refused NotThisBoard ∷ Refused NotThisBoard ∷ Refused NotThisBoard ∷ []
+    ≡ Run (Report Short) ∷ Run CancelOperation ∷ Refused CodeNotListed ∷ Refused NotThisBoard ∷ Refused NotThisBoard ∷ Refused NotThisBoard ∷ []
 unfolding decodeOf fewerThanFour headerIs isIn listed carried find commandTable
 of-distribution = refl
 
 pub of-battery : six (Battery true)
-    ≡ Refused NotThisBoard ∷ Refused NotThisBoard ∷ Refused NotThisBoard ∷ Run NoOperation ∷ Refused CodeNotListed ∷ Refused CodeNotListed ∷ []
+    ≡ Refused NotThisBoard ∷ Refused NotThisBoard ∷ Refused NotThisBoard ∷ Run (Report Short) ∷ Refused CodeNotListed ∷ Refused CodeNotListed ∷ []
 unfolding decodeOf fewerThanFour headerIs isIn listed carried find commandTable
 of-battery = refl

@@ -12,7 +12,7 @@ use Rattle.settings.specs.declared.Parameter.the-variants.{ReadWrite, ReadOnly,
 use Rattle.command.specs.{Table.commandTable, Table.find, declared.Name.Name, declared.Listed.Listed}
 use Rattle.command.specs.{declared.Header.Header, declared.Group.Group, declared.Decoded.Decoded}
 use Rattle.command.specs.declared.Listed.the-variants.{Plain, Keyed, Missing}
-use Rattle.command.specs.declared.Command.the-variants.{SystemReset, NoOperation, CancelOperation, Watchdog, GroupOn, GroupOff, GroupState, ChannelOn, ChannelOff, SwitchToNominal, SwitchToSafety, GetOvercurrentFaultState, GetHousekeeping, GetParameter, SetParameter, ResetParameter, ResetConfiguration, LoadConfiguration, SaveConfiguration}
+use Rattle.command.specs.{declared.Command.Command, declared.Layout.Layout}
 use Rattle.command.specs.declared.Refusal.the-variants.{FewerThanFourBytes, InStartup, NotThisBoard, CodeNotListed, TooShort, WrongKey, WrongParameter, NotANumber}
 use Rattle.command.specs.declared.Decoded.the-variants.{Run, Refused}
 
@@ -66,8 +66,8 @@ groupIn s =
 -- ---- parameters
 -- 0x82: an id that is unknown is 7; one that is read-only is read
 abbrev pub getBy : ℕ → Parameter → Decoded
-getBy id (ReadWrite t) = Run (GetParameter id)
-getBy id (ReadOnly t) = Run (GetParameter id)
+getBy id (ReadWrite t) = Run (Command.Report (Layout.Parameter id))
+getBy id (ReadOnly t) = Run (Command.Report (Layout.Parameter id))
 getBy id Unknown = Refused WrongParameter
 
 unfoldable pub getting : ℕ → Decoded
@@ -76,7 +76,7 @@ getting id = getBy id (parameterOf id)
 -- 0x84, behind the two bytes of the id (5): an id that is unknown or read-only (7), fewer bytes than the value has (5),
 -- a NaN (7)
 unfoldable pub valued : ℕ → Parsed → Decoded
-valued id (Parsed.Value v) = Run (SetParameter id v)
+valued id (Parsed.Value v) = Run (Command.SetParameter id v)
 valued id Parsed.TooShort = Refused TooShort
 valued id Parsed.NotANumber = Refused NotANumber
 
@@ -90,7 +90,7 @@ setting id s = setBy id (parameterOf id) (valuePart s)
 
 -- 0x86: as in 0x84, an id that is unknown or read-only is 7
 abbrev pub resetBy : ℕ → Parameter → Decoded
-resetBy id (ReadWrite t) = Run (ResetParameter id)
+resetBy id (ReadWrite t) = Run (Command.ResetParameter id)
 resetBy id (ReadOnly t) = Refused WrongParameter
 resetBy id Unknown = Refused WrongParameter
 
@@ -99,25 +99,25 @@ resetting id = resetBy id (parameterOf id)
 
 -- ---- a command that is long enough, with what it carries
 unfoldable pub carried : Name → List ℕ → Decoded
-carried Name.SystemReset s = Run SystemReset
-carried Name.NoOperation s = Run NoOperation
-carried Name.CancelOperation s = Run CancelOperation
-carried Name.Watchdog s = Run Watchdog
-carried Name.GroupOn s = Run (GroupOn (groupIn s))
-carried Name.GroupOff s = Run (GroupOff (groupIn s))
-carried Name.GroupState s = Run (GroupState (groupIn s))
-carried Name.ChannelOn s = Run (ChannelOn (byteAfter s))
-carried Name.ChannelOff s = Run (ChannelOff (byteAfter s))
-carried Name.SwitchToNominal s = Run SwitchToNominal
-carried Name.SwitchToSafety s = Run SwitchToSafety
-carried Name.GetOvercurrentFaultState s = Run GetOvercurrentFaultState
-carried Name.GetHousekeeping s = Run GetHousekeeping
+carried Name.SystemReset s = Run Command.SystemReset
+carried Name.NoOperation s = Run (Command.Report Layout.Short)
+carried Name.CancelOperation s = Run Command.CancelOperation
+carried Name.Watchdog s = Run (Command.Report Layout.Short)
+carried Name.GroupOn s = Run (Command.GroupOn (groupIn s))
+carried Name.GroupOff s = Run (Command.GroupOff (groupIn s))
+carried Name.GroupState s = Run (Command.GroupState (groupIn s))
+carried Name.ChannelOn s = Run (Command.ChannelOn (byteAfter s))
+carried Name.ChannelOff s = Run (Command.ChannelOff (byteAfter s))
+carried Name.SwitchToNominal s = Run Command.SwitchToNominal
+carried Name.SwitchToSafety s = Run Command.SwitchToSafety
+carried Name.GetOvercurrentFaultState s = Run (Command.Report Layout.Faults)
+carried Name.GetHousekeeping s = Run (Command.Report Layout.Housekeeping)
 carried Name.GetParameter s = getting (idOf s)
 carried Name.SetParameter s = setting (idOf s) s
 carried Name.ResetParameter s = resetting (idOf s)
-carried Name.ResetConfiguration s = Run ResetConfiguration
-carried Name.LoadConfiguration s = Run LoadConfiguration
-carried Name.SaveConfiguration s = Run (SaveConfiguration (checksumIn s))
+carried Name.ResetConfiguration s = Run Command.ResetConfiguration
+carried Name.LoadConfiguration s = Run Command.LoadConfiguration
+carried Name.SaveConfiguration s = Run (Command.SaveConfiguration (checksumIn s))
 
 -- ---- a code of the table: long enough, with its key, and then what it carries
 unfoldable pub listed : Listed → List ℕ → Decoded

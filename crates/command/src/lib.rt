@@ -53,12 +53,20 @@ enum Listed {
     Missing,
 }
 
-// A command with what it carries: a group, a channel, a parameter's id, an id and a value, or a checksum.
+// How a reply is laid out, by what it tells: nothing more than its 5 bytes, the overcurrent faults, the measured words, or
+// a parameter.
+pub enum Layout {
+    Short,
+    Faults,
+    Housekeeping,
+    Parameter(u16),
+}
+
+// A command with what it carries: a group, a channel, a parameter's id, an id and a value, or a checksum. A command that
+// only has something told, as a NOOP has, is one case with the layout of its reply.
 pub enum Command {
     SystemReset,
-    NoOperation,
     CancelOperation,
-    Watchdog,
     GroupOn(Group),
     GroupOff(Group),
     GroupState(Group),
@@ -66,14 +74,12 @@ pub enum Command {
     ChannelOff(u8),
     SwitchToNominal,
     SwitchToSafety,
-    GetOvercurrentFaultState,
-    GetHousekeeping,
-    GetParameter(u16),
     SetParameter(u16, ParamValue),
     ResetParameter(u16),
     ResetConfiguration,
     LoadConfiguration,
     SaveConfiguration(u16),
+    Report(Layout),
 }
 
 // Why a transfer is no command.
@@ -174,8 +180,8 @@ fn get(id: u16) -> Decoded
     ensures { λ r. ⌜ r ≡ getting id ⌝ }
 {
     match settings::parameter_of(id) {
-        Parameter::ReadWrite(_) => Decoded::Run(Command::GetParameter(id)),
-        Parameter::ReadOnly(_) => Decoded::Run(Command::GetParameter(id)),
+        Parameter::ReadWrite(_) => Decoded::Run(Command::Report(Layout::Parameter(id))),
+        Parameter::ReadOnly(_) => Decoded::Run(Command::Report(Layout::Parameter(id))),
         Parameter::Unknown => Decoded::Refused(Refusal::WrongParameter),
     }
 }
@@ -219,9 +225,9 @@ fn carried(name: Name, transfer: &[u8]) -> Decoded
 {
     match name {
         Name::SystemReset => Decoded::Run(Command::SystemReset),
-        Name::NoOperation => Decoded::Run(Command::NoOperation),
+        Name::NoOperation => Decoded::Run(Command::Report(Layout::Short)),
         Name::CancelOperation => Decoded::Run(Command::CancelOperation),
-        Name::Watchdog => Decoded::Run(Command::Watchdog),
+        Name::Watchdog => Decoded::Run(Command::Report(Layout::Short)),
         Name::GroupOn => Decoded::Run(Command::GroupOn(group_in(transfer))),
         Name::GroupOff => Decoded::Run(Command::GroupOff(group_in(transfer))),
         Name::GroupState => Decoded::Run(Command::GroupState(group_in(transfer))),
@@ -229,8 +235,8 @@ fn carried(name: Name, transfer: &[u8]) -> Decoded
         Name::ChannelOff => Decoded::Run(Command::ChannelOff(wire::byte(transfer, 4))),
         Name::SwitchToNominal => Decoded::Run(Command::SwitchToNominal),
         Name::SwitchToSafety => Decoded::Run(Command::SwitchToSafety),
-        Name::GetOvercurrentFaultState => Decoded::Run(Command::GetOvercurrentFaultState),
-        Name::GetHousekeeping => Decoded::Run(Command::GetHousekeeping),
+        Name::GetOvercurrentFaultState => Decoded::Run(Command::Report(Layout::Faults)),
+        Name::GetHousekeeping => Decoded::Run(Command::Report(Layout::Housekeeping)),
         Name::GetParameter => get(wire::le16(transfer, 4)),
         Name::SetParameter => set(wire::le16(transfer, 4), transfer),
         Name::ResetParameter => reset(wire::le16(transfer, 4)),

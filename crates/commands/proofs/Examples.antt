@@ -24,7 +24,7 @@ use Rattle.state.specs.Start.{freshOf, neverReset, commandResetOf, byCommand}
 use Rattle.state.specs.declared.parts.Board.{Board}
 use Rattle.answers.specs.Answers.{acceptedWith, acceptedOf, refusedOf, notThisBoardOf}
 use Rattle.answers.specs.Parameters.{valueRead, readOnlyNumber, numberIn}
-use Rattle.effects.specs.Effects.{isNominal, switchedOf, groupOnOf, channelOnOf, parameterAnswered, rememberedOf, restartedOf, runOf}
+use Rattle.effects.specs.Effects.{isNominal, switchedOf, groupOnOf, channelOnOf, parameterAnswered, rememberedOf, restartedOf, reportedOf, runOf}
 use Rattle.asking.specs.Checks.{isStartup, channelCodes, unavailable, channelWrong, checksumWrong, checksOf}
 use Rattle.commands.specs.Step.{returning, transferredOf}
 
@@ -65,10 +65,10 @@ inNominal =
     ∷ []
 
 pub nominal-replies : map (λ e. answered Nominal (sentIn e)) inNominal ≡ map replyIn inNominal
-unfolding shown written replyOf room laidOut replyCode bytesOf number commandTable find isIn fewerThanFour headerIs getting carried listed decodeOf first headerDiffers idWrong checks unavailable channelCodes channelWrong checksumWrong checksOf shortReply parameterReply freshOf commandResetOf acceptedWith acceptedOf refusedOf notThisBoardOf valueRead readOnlyNumber numberIn isNominal switchedOf groupOnOf channelOnOf parameterAnswered rememberedOf restartedOf runOf isStartup returning transferredOf width getOf tables.parameterOf tables.rowOf tables.find tables.readWriteRows tables.readOnlyRows tables.lies
+unfolding shown written replyOf room laidOut replyCode bytesOf number commandTable find isIn fewerThanFour headerIs getting carried listed decodeOf first headerDiffers idWrong checks unavailable channelCodes channelWrong checksumWrong checksOf shortReply parameterReply freshOf commandResetOf acceptedWith acceptedOf refusedOf notThisBoardOf valueRead readOnlyNumber numberIn isNominal switchedOf groupOnOf channelOnOf parameterAnswered rememberedOf restartedOf reportedOf runOf isStartup returning transferredOf width getOf tables.parameterOf tables.rowOf tables.find tables.readWriteRows tables.readOnlyRows tables.lies
 nominal-replies = refl
 
 -- a group command outside nominal
 pub safety-reply : answered Safety (0x11 ∷ 0x07 ∷ 0x10 ∷ 0x01 ∷ 0x01 ∷ 0x00 ∷ []) ≡ 0x11 ∷ 0x07 ∷ 0x11 ∷ 0x01 ∷ 0x05 ∷ []
-unfolding shown written replyOf room laidOut replyCode bytesOf number commandTable find isIn fewerThanFour headerIs getting carried listed decodeOf first headerDiffers idWrong checks unavailable channelCodes channelWrong checksumWrong checksOf shortReply parameterReply freshOf commandResetOf acceptedWith acceptedOf refusedOf notThisBoardOf valueRead readOnlyNumber numberIn isNominal switchedOf groupOnOf channelOnOf parameterAnswered rememberedOf restartedOf runOf isStartup returning transferredOf
+unfolding shown written replyOf room laidOut replyCode bytesOf number commandTable find isIn fewerThanFour headerIs getting carried listed decodeOf first headerDiffers idWrong checks unavailable channelCodes channelWrong checksumWrong checksOf shortReply parameterReply freshOf commandResetOf acceptedWith acceptedOf refusedOf notThisBoardOf valueRead readOnlyNumber numberIn isNominal switchedOf groupOnOf channelOnOf parameterAnswered rememberedOf restartedOf reportedOf runOf isStartup returning transferredOf
 safety-reply = refl

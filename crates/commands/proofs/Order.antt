@@ -37,7 +37,7 @@ use Rattle.state.specs.declared.parts.Board.{Board}
 use Rattle.answers.specs.Answers.{toldNumber, acceptedWith, acceptedOf, refusedOf, notThisBoardOf}
 use Rattle.answers.specs.declared.Answer.{Answer}
 use Rattle.answers.specs.declared.Commanded.{Commanded}
-use Rattle.effects.specs.Effects.{isNominal, switchedOf, groupOnOf, groupOffOf, groupStateOf, channelOnOf, channelOffOf, cancelledOf, switchedModeOf, faultsOf, housekeepingOf, parameterAnswered as parameterRun, rememberedOf, savedIn, restartedOf, runOf}
+use Rattle.effects.specs.Effects.{isNominal, switchedOf, groupOnOf, groupOffOf, groupStateOf, channelOnOf, channelOffOf, cancelledOf, switchedModeOf, faultsOf, housekeepingOf, parameterAnswered as parameterRun, rememberedOf, savedIn, restartedOf, reportedOf, runOf}
 use Rattle.asking.specs.Checks.{_is_, isStartup, channelCodes, unavailable, channelWrong, checksumWrong, checksOf}
 use Rattle.commands.proofs.Stepwise.{turnedDown, decodedOf, steppedOf}
 
@@ -117,19 +117,19 @@ module _ (rail : ℤ) (limits : Limits) (b : Board) where
 
     -- parameters
     got : (code id : ℕ) (p : Parameter) → toldOf code (getBy id p) ≡ some (cond (idWrong 0x82 p) 7 0)
-    unfolding decodedOf turnedDown refusedOf runOf parameterRun acceptedWith idWrong
+    unfolding decodedOf turnedDown refusedOf runOf reportedOf parameterRun acceptedWith idWrong
     got code id (ReadWrite t) = refl
     got code id (ReadOnly t) = refl
     got code id Unknown = refl
 
     reset : (code id : ℕ) (p : Parameter) → toldOf code (resetBy id p) ≡ some (cond (idWrong 0x86 p) 7 0)
-    unfolding decodedOf turnedDown refusedOf runOf parameterRun acceptedWith idWrong
+    unfolding decodedOf turnedDown refusedOf runOf reportedOf parameterRun acceptedWith idWrong
     reset code id (ReadWrite t) = refl
     reset code id (ReadOnly t) = refl
     reset code id Unknown = refl
 
     value-set : (code id : ℕ) (v : Parsed) → toldOf code (valued id v) ≡ some (cond (isTooShort v) 5 (cond (isNaN v) 7 0))
-    unfolding decodedOf turnedDown refusedOf runOf parameterRun acceptedWith valued
+    unfolding decodedOf turnedDown refusedOf runOf reportedOf parameterRun acceptedWith valued
     value-set code id (Parsed.Value v) = refl
     value-set code id Parsed.TooShort = refl
     value-set code id Parsed.NotANumber = refl
@@ -156,7 +156,7 @@ module _ (rail : ℤ) (limits : Limits) (b : Board) where
 
     -- a command of the list
     in-list : isStartup (modeOf b) ≡ false → (code : ℕ) → isIn code tableCodes ≡ true → toldOf code (listed (find commandTable code) s) ≡ some (first (behind-4 code))
-    unfolding listed find commandTable first isIn idWrong unavailable channelCodes channelWrong checksumWrong carried getting setting resetting decodedOf runOf acceptedOf acceptedWith groupOnOf groupOffOf groupStateOf channelOnOf channelOffOf cancelledOf faultsOf housekeepingOf rememberedOf restartedOf toSafety toNominal
+    unfolding listed find commandTable first isIn idWrong unavailable channelCodes channelWrong checksumWrong carried getting setting resetting decodedOf runOf reportedOf acceptedOf acceptedWith groupOnOf groupOffOf groupStateOf channelOnOf channelOffOf cancelledOf faultsOf housekeepingOf rememberedOf restartedOf toSafety toNominal
     in-list started code h =
         at-code (λ k. toldOf k (listed (find commandTable k) s) ≡ some (first (behind-4 k))) code tableCodes h
         (keyed 0xAA 5 0xA6 _ refl

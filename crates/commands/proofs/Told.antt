@@ -15,6 +15,7 @@ use Rattle.channels.specs.declared.Channels.{Channels}
 use Rattle.command.specs.Checks.{first}
 use Rattle.command.specs.Decode.{codeOf}
 use Rattle.command.specs.declared.Command.{Command}
+use Rattle.command.specs.declared.Layout.{Layout}
 use Rattle.command.specs.declared.Refusal.{Refusal}
 use Rattle.command.specs.declared.Decoded.{Decoded}
 use Rattle.command.specs.declared.Decoded.the-variants.{Run, Refused}
@@ -27,7 +28,7 @@ use Rattle.answers.specs.declared.Answer.{Answer}
 use Rattle.answers.specs.declared.Answer.the-variants.{Accepted, FewerThanFourBytes, InStartup, NotThisBoard, CodeNotListed, TooShort, NotAvailable, Wrong}
 use Rattle.answers.specs.declared.Outcome.the-variants.{Answered}
 use Rattle.answers.specs.declared.Commanded.{Commanded}
-use Rattle.effects.specs.Effects.{isNominal, switchedOf, groupOnOf, groupOffOf, groupStateOf, channelOnOf, channelOffOf, cancelledOf, switchedModeOf, faultsOf, housekeepingOf, parameterAnswered, rememberedOf, savedIn, restartedOf, runOf}
+use Rattle.effects.specs.Effects.{isNominal, switchedOf, groupOnOf, groupOffOf, groupStateOf, channelOnOf, channelOffOf, cancelledOf, switchedModeOf, faultsOf, housekeepingOf, parameterAnswered, rememberedOf, savedIn, restartedOf, reportedOf, runOf}
 use Rattle.asking.specs.Checks.{checksOf}
 use Rattle.commands.specs.Step.{doneOf, readBy, returning, transferredOf, commandedOf, numberOf}
 use Rattle.commands.proofs.Order.{in-order}
@@ -70,6 +71,13 @@ module _ (code : ℕ) (b : Board) where
   switched-mode (change.ModeAnswer.Accepted phase) = accepted refl refl
   switched-mode change.ModeAnswer.Unavailable = not-available
 
+  reported : (layout : Layout) → Result code b (reportedOf code layout b)
+  unfolding reportedOf faultsOf housekeepingOf parameterAnswered acceptedOf acceptedWith
+  reported Layout.Short = accepted refl refl
+  reported Layout.Faults = accepted refl refl
+  reported Layout.Housekeeping = accepted refl refl
+  reported (Layout.Parameter id) = accepted refl refl
+
   run : (rail : ℤ) (limits : Limits) (c : Command) → Result code b (runOf rail limits code c b)
   unfolding runOf groupOnOf groupOffOf groupStateOf channelOnOf channelOffOf cancelledOf faultsOf housekeepingOf parameterAnswered rememberedOf savedIn restartedOf acceptedOf acceptedWith commandResetOf freshOf
   run rail limits (Command.GroupOn g) = switched _ _
@@ -78,19 +86,15 @@ module _ (code : ℕ) (b : Board) where
   run rail limits (Command.ChannelOn one) = switched _ _
   run rail limits (Command.ChannelOff one) = switched _ _
   run rail limits Command.CancelOperation = accepted refl refl
-  run rail limits Command.NoOperation = accepted refl refl
-  run rail limits Command.Watchdog = accepted refl refl
   run rail limits Command.SwitchToSafety = switched-mode (toSafety (b .phase))
   run rail limits Command.SwitchToNominal = switched-mode (toNominal (b .phase) rail limits)
-  run rail limits Command.GetOvercurrentFaultState = accepted refl refl
-  run rail limits Command.GetHousekeeping = accepted refl refl
-  run rail limits (Command.GetParameter id) = accepted refl refl
   run rail limits (Command.SetParameter id v) = accepted refl refl
   run rail limits (Command.ResetParameter id) = accepted refl refl
   run rail limits Command.ResetConfiguration = accepted refl refl
   run rail limits Command.LoadConfiguration = accepted refl refl
   run rail limits (Command.SaveConfiguration given) = either (not (savedOf given (b .memory) .right)) wrong (accepted refl refl)
   run rail limits Command.SystemReset = accepted refl refl
+  run rail limits (Command.Report layout) = reported layout
 
   turned-down : (refusal : Refusal) → Result code b (turnedDown code refusal b)
   unfolding turnedDown

@@ -19,7 +19,7 @@ use Rattle.state.specs.Start.{commandResetOf}
 use Rattle.state.specs.declared.parts.Board.{Board}
 use Rattle.answers.specs.Answers.{toldNumber, acceptedWith, acceptedOf, refusedOf, notThisBoardOf}
 use Rattle.answers.specs.declared.Commanded.{Commanded}
-use Rattle.effects.specs.Effects.{isNominal, switchedOf, groupOnOf, groupOffOf, groupStateOf, channelOnOf, channelOffOf, cancelledOf, switchedModeOf, faultsOf, housekeepingOf, parameterAnswered, rememberedOf, savedIn, restartedOf, runOf}
+use Rattle.effects.specs.Effects.{isNominal, switchedOf, groupOnOf, groupOffOf, groupStateOf, channelOnOf, channelOffOf, cancelledOf, switchedModeOf, faultsOf, housekeepingOf, parameterAnswered, rememberedOf, savedIn, restartedOf, reportedOf, runOf}
 use Rattle.asking.specs.Asked.{askedBy, askedOf}
 use Rattle.asking.specs.declared.Asked.{Asked}
 use Rattle.asking.specs.declared.Asked.the-variants as asked
@@ -30,8 +30,8 @@ use Rattle.commands.proofs.Told.{stepwise}
 use Rattle.effects.specs.Parts.{obeyedIn}
 use Rattle.commands.specs.Parts.{askedIn, memoryChangeAsked, layoutAsked}
 use Rattle.effects.specs.declared.parts.Obeyed.{Obeyed}
-use Rattle.effects.specs.declared.parts.Layout.{Layout}
-use Rattle.effects.specs.declared.parts.Layout.the-variants.{Short}
+use Rattle.command.specs.declared.Layout.{Layout}
+use Rattle.command.specs.declared.Layout.the-variants.{Short, Faults, Housekeeping, Parameter}
 use Rattle.effects.specs.declared.parts.MemoryChange.{MemoryChange}
 
 -- ---- a board, part after part
@@ -83,6 +83,13 @@ module _ (code : ℕ) (b : Board) where
   unfolding savedIn savedOf rememberedOf replyTo acceptedOf acceptedWith refusedOf
   saved given = cases (isRight given (b .memory)) (λ e. rw e) (λ e. rw e)
 
+  reported : (layout : Layout) → whole code (asked.Run (Command.Report layout)) (obeyedIn (reportedOf 0 layout b)) b ≡ reportedOf code layout b
+  unfolding reportedOf faultsOf housekeepingOf parameterAnswered replyTo acceptedOf acceptedWith
+  reported Short = refl
+  reported Faults = refl
+  reported Housekeeping = refl
+  reported (Parameter id) = refl
+
   run : (rail : ℤ) (limits : Limits) (c : Command) → whole code (asked.Run c) (obeyedIn (runOf rail limits 0 c b)) b ≡ runOf rail limits code c b
   unfolding runOf groupOnOf groupOffOf groupStateOf channelOnOf channelOffOf cancelledOf faultsOf housekeepingOf parameterAnswered rememberedOf restartedOf commandResetOf replyTo acceptedOf acceptedWith
   run rail limits (Command.GroupOn g) = switched _ _
@@ -91,19 +98,15 @@ module _ (code : ℕ) (b : Board) where
   run rail limits (Command.ChannelOn one) = switched _ _
   run rail limits (Command.ChannelOff one) = switched _ _
   run rail limits Command.CancelOperation = refl
-  run rail limits Command.NoOperation = refl
-  run rail limits Command.Watchdog = refl
   run rail limits Command.SwitchToSafety = changed (toSafety (b .phase))
   run rail limits Command.SwitchToNominal = changed (toNominal (b .phase) rail limits)
-  run rail limits Command.GetOvercurrentFaultState = refl
-  run rail limits Command.GetHousekeeping = refl
-  run rail limits (Command.GetParameter id) = refl
   run rail limits (Command.SetParameter id v) = refl
   run rail limits (Command.ResetParameter id) = refl
   run rail limits Command.ResetConfiguration = refl
   run rail limits Command.LoadConfiguration = refl
   run rail limits (Command.SaveConfiguration given) = saved given
   run rail limits Command.SystemReset = refl
+  run rail limits (Command.Report layout) = reported layout
 
   -- ---- whatever was asked
   pub together : (rail : ℤ) (limits : Limits) (a : Asked) → whole code a (obeyedIn (askedIn rail limits 0 a b)) b ≡ askedIn rail limits code a b

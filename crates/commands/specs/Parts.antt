@@ -6,11 +6,12 @@ use lib.IntN.{ℤ}
 use Rattle.modes.specs.declared.Limits.{Limits}
 use Rattle.state.specs.{Parts.withTimer, declared.parts.Board.Board}
 use Rattle.answers.specs.{Answers.silentOf, Answers.replyingOf, Answers.shortTo, declared.Answer.Answer, declared.Commanded.Commanded}
-use Rattle.effects.specs.{Effects.runOf, Parts.memoryChangeOf, Parts.layoutOf, declared.parts.Layout.Layout}
+use Rattle.effects.specs.{Effects.runOf, Parts.memoryChangeOf, Parts.layoutOf}
+use Rattle.command.specs.declared.Layout.{Layout}
 use Rattle.effects.specs.declared.parts.MemoryChange.{MemoryChange}
 use Rattle.asking.specs.declared.Asked.{Asked}
 use Rattle.asking.specs.declared.Asked.the-variants.{Silence, Refusal, Run}
-use Rattle.effects.specs.declared.parts.Layout.the-variants.{Short}
+use Rattle.command.specs.declared.Layout.the-variants.{Short}
 use Rattle.effects.specs.declared.parts.MemoryChange.the-variants.{AsBefore}
 
 -- 4 to 7 start the timer again, 3 does not; no other answer comes here

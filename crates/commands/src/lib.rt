@@ -15,7 +15,7 @@ use answers::Outcome;
 use answers::start_of;
 use asking::Asked;
 use asking::asked_of;
-use effects::Layout;
+use command::Layout;
 use effects::MemoryChange;
 use effects::Obeyed;
 use effects::layout_of;

@@ -9,7 +9,7 @@ use Rattle.modes.specs.declared.Mode.the-variants.{Startup, Nominal, Safety, Em
 use Rattle.modes.specs.declared.ModeAnswer as change
 use Rattle.channels.specs.Operations.{groupOn, groupOff, groupState, switchOn, switchOff, commandEnabledOff, wrongToSwitchOn, wrongToSwitchOff}
 use Rattle.channels.specs.declared.Channels.{Channels}
-use Rattle.command.specs.{declared.Group.Group, declared.Command.Command}
+use Rattle.command.specs.{declared.Group.Group, declared.Command.Command, declared.Layout.Layout}
 use Rattle.memory.specs.{Memory.loadOf, Memory.defaultedOf, Memory.setIn, Memory.resetIn, Memory.savedOf, declared.Memory.Memory}
 use Rattle.replies.specs.Layouts.{faultsReply, housekeepingReply, parameterReply}
 use Rattle.state.specs.{Parts.modeOf, Parts.wordsOf, Parts.withPhase, Parts.withMemory, Parts.withChannels, Parts.withMeasured, Start.commandResetOf}
@@ -108,7 +108,14 @@ savedIn code given b =
 unfoldable pub restartedOf : Board → Commanded
 restartedOf b = silentOf (Answered Accepted) (commandResetOf b)
 
--- ---- each command; 0x02 and 0x06 do nothing more than be accepted
+-- ---- the commands that only have something told; 0x02 and 0x06 do nothing more than be accepted
+unfoldable pub reportedOf : ℕ → Layout → Board → Commanded
+reportedOf code Layout.Short b = acceptedOf code b
+reportedOf code Layout.Faults b = faultsOf code b
+reportedOf code Layout.Housekeeping b = housekeepingOf code b
+reportedOf code (Layout.Parameter id) b = parameterAnswered code id (b .memory) b
+
+-- ---- each command
 unfoldable pub runOf : ℤ → Limits → ℕ → Command → Board → Commanded
 runOf rail limits code (Command.GroupOn g) b = groupOnOf code g b
 runOf rail limits code (Command.GroupOff g) b = groupOffOf code g b
@@ -116,16 +123,12 @@ runOf rail limits code (Command.GroupState g) b = groupStateOf code g b
 runOf rail limits code (Command.ChannelOn one) b = channelOnOf code one b
 runOf rail limits code (Command.ChannelOff one) b = channelOffOf code one b
 runOf rail limits code Command.CancelOperation b = cancelledOf code b
-runOf rail limits code Command.NoOperation b = acceptedOf code b
-runOf rail limits code Command.Watchdog b = acceptedOf code b
 runOf rail limits code Command.SwitchToSafety b = switchedModeOf code (toSafety (b .phase)) b
 runOf rail limits code Command.SwitchToNominal b = switchedModeOf code (toNominal (b .phase) rail limits) b
-runOf rail limits code Command.GetOvercurrentFaultState b = faultsOf code b
-runOf rail limits code Command.GetHousekeeping b = housekeepingOf code b
-runOf rail limits code (Command.GetParameter id) b = parameterAnswered code id (b .memory) b
 runOf rail limits code (Command.SetParameter id v) b = parameterAnswered code id (setIn id v (b .memory)) b
 runOf rail limits code (Command.ResetParameter id) b = parameterAnswered code id (resetIn id (b .memory)) b
 runOf rail limits code Command.ResetConfiguration b = rememberedOf code (defaultedOf (b .memory)) b
 runOf rail limits code Command.LoadConfiguration b = rememberedOf code (loadOf (b .memory)) b
 runOf rail limits code (Command.SaveConfiguration given) b = savedIn code given b
 runOf rail limits code Command.SystemReset b = restartedOf b
+runOf rail limits code (Command.Report layout) b = reportedOf code layout b

@@ -2,10 +2,10 @@
 -- and the layout of its reply. That these are the effects of `Effects` is shown where they are put together, in
 -- proofs/Whole of `commands`. Assumes nothing: these are definitions.
 use Prim.Native.Nat.{ℕ}
-use Rattle.command.specs.declared.Command.{Command}
+use Rattle.command.specs.{declared.Command.Command, declared.Layout.Layout}
 use Rattle.answers.specs.declared.Commanded.{Commanded}
-use Rattle.effects.specs.{declared.parts.Obeyed.Obeyed, declared.parts.Layout.Layout, declared.parts.MemoryChange.MemoryChange}
-use Rattle.effects.specs.declared.parts.Layout.the-variants.{Short, Faults, Housekeeping, Parameter}
+use Rattle.effects.specs.{declared.parts.Obeyed.Obeyed, declared.parts.MemoryChange.MemoryChange}
+use Rattle.command.specs.declared.Layout.the-variants.{Short, Parameter}
 use Rattle.effects.specs.declared.parts.MemoryChange.the-variants.{AsBefore, Set, ResetOne, Defaults, Load, Save, Restart}
 
 -- Nothing of what `obeyedIn` takes of an answered command depends on the command's code, so its contracts need none:
@@ -33,9 +33,7 @@ memoryChangeOf Command.ResetConfiguration = Defaults
 memoryChangeOf Command.LoadConfiguration = Load
 memoryChangeOf (Command.SaveConfiguration given) = Save given
 memoryChangeOf Command.SystemReset = Restart
-memoryChangeOf Command.NoOperation = AsBefore
 memoryChangeOf Command.CancelOperation = AsBefore
-memoryChangeOf Command.Watchdog = AsBefore
 memoryChangeOf (Command.GroupOn g) = AsBefore
 memoryChangeOf (Command.GroupOff g) = AsBefore
 memoryChangeOf (Command.GroupState g) = AsBefore
@@ -43,21 +41,15 @@ memoryChangeOf (Command.ChannelOn one) = AsBefore
 memoryChangeOf (Command.ChannelOff one) = AsBefore
 memoryChangeOf Command.SwitchToNominal = AsBefore
 memoryChangeOf Command.SwitchToSafety = AsBefore
-memoryChangeOf Command.GetOvercurrentFaultState = AsBefore
-memoryChangeOf Command.GetHousekeeping = AsBefore
-memoryChangeOf (Command.GetParameter id) = AsBefore
+memoryChangeOf (Command.Report layout) = AsBefore
 
 -- the layout of the reply; a restart makes none, and its layout is not looked at
 abbrev pub layoutOf : Command → Layout
-layoutOf Command.GetOvercurrentFaultState = Faults
-layoutOf Command.GetHousekeeping = Housekeeping
-layoutOf (Command.GetParameter id) = Parameter id
+layoutOf (Command.Report layout) = layout
 layoutOf (Command.SetParameter id v) = Parameter id
 layoutOf (Command.ResetParameter id) = Parameter id
 layoutOf Command.SystemReset = Short
-layoutOf Command.NoOperation = Short
 layoutOf Command.CancelOperation = Short
-layoutOf Command.Watchdog = Short
 layoutOf (Command.GroupOn g) = Short
 layoutOf (Command.GroupOff g) = Short
 layoutOf (Command.GroupState g) = Short

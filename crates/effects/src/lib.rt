@@ -3,7 +3,7 @@
 ghost use mathlib.Core.Path.{_≡_};
 ghost use Rattle.answers.specs.Answers.{acceptedOf, refusedOf};
 ghost use Rattle.state.specs.Parts.{withPhase, withChannels};
-ghost use Rattle.effects.specs.Effects.{switchedModeOf, housekeepingOf, savedIn, restartedOf, runOf};
+ghost use Rattle.effects.specs.Effects.{switchedModeOf, housekeepingOf, savedIn, restartedOf, reportedOf, runOf};
 ghost use Rattle.effects.specs.Parts.{anyCode, obeyedIn, layoutOf, memoryChangeOf};
 
 mod parts;
@@ -13,9 +13,9 @@ use answers::Answer;
 use answers::Outcome;
 use channels::Channels;
 use command::Command;
+use command::Layout;
 use modes::Limits;
 use modes::ModeAge;
-pub use parts::Layout;
 pub use parts::MemoryChange;
 pub use parts::Obeyed;
 use state::Board;
@@ -111,15 +111,25 @@ fn restarted(b: Board) -> Obeyed
     }
 }
 
+// A command that only has something told: of those parts the timer alone is changed, and by 0x50 what is new.
+fn reported(b: Board, layout: Layout) -> Obeyed
+    ensures { λ r. ⌜ r ≡ obeyedIn (reportedOf anyCode layout b) ⌝ }
+{
+    match layout {
+        Layout::Short => only_fed(b, Answer::Accepted),
+        Layout::Faults => only_fed(b, Answer::Accepted),
+        Layout::Housekeeping => housekeeping(b),
+        Layout::Parameter(_) => only_fed(b, Answer::Accepted),
+    }
+}
+
 // What a command that the decoder let through leaves of those parts.
 pub fn run(b: Board, rail: i16, limits: Limits, c: Command) -> Obeyed
     ensures { λ r. ⌜ r ≡ obeyedIn (runOf rail limits anyCode c b) ⌝ }
 {
     match c {
         Command::SystemReset => restarted(b),
-        Command::NoOperation => only_fed(b, Answer::Accepted),
         Command::CancelOperation => cancelled(b),
-        Command::Watchdog => only_fed(b, Answer::Accepted),
         Command::GroupOn(g) => group_on(b, g),
         Command::GroupOff(g) => group_off(b, g),
         Command::GroupState(g) => group_state(b, g),
@@ -127,14 +137,12 @@ pub fn run(b: Board, rail: i16, limits: Limits, c: Command) -> Obeyed
         Command::ChannelOff(one) => channel_off(b, one),
         Command::SwitchToNominal => switched_mode(b, b.phase.to_nominal(rail, limits)),
         Command::SwitchToSafety => switched_mode(b, b.phase.to_safety()),
-        Command::GetOvercurrentFaultState => only_fed(b, Answer::Accepted),
-        Command::GetHousekeeping => housekeeping(b),
-        Command::GetParameter(_) => only_fed(b, Answer::Accepted),
         Command::SetParameter(_, _) => only_fed(b, Answer::Accepted),
         Command::ResetParameter(_) => only_fed(b, Answer::Accepted),
         Command::ResetConfiguration => only_fed(b, Answer::Accepted),
         Command::LoadConfiguration => only_fed(b, Answer::Accepted),
         Command::SaveConfiguration(checksum) => saved(b, checksum),
+        Command::Report(layout) => reported(b, layout),
     }
 }
 
@@ -144,9 +152,7 @@ pub fn layout_of(c: Command) -> Layout
 {
     match c {
         Command::SystemReset => Layout::Short,
-        Command::NoOperation => Layout::Short,
         Command::CancelOperation => Layout::Short,
-        Command::Watchdog => Layout::Short,
         Command::GroupOn(_) => Layout::Short,
         Command::GroupOff(_) => Layout::Short,
         Command::GroupState(_) => Layout::Short,
@@ -154,14 +160,12 @@ pub fn layout_of(c: Command) -> Layout
         Command::ChannelOff(_) => Layout::Short,
         Command::SwitchToNominal => Layout::Short,
         Command::SwitchToSafety => Layout::Short,
-        Command::GetOvercurrentFaultState => Layout::Faults,
-        Command::GetHousekeeping => Layout::Housekeeping,
-        Command::GetParameter(id) => Layout::Parameter(id),
         Command::SetParameter(id, _) => Layout::Parameter(id),
         Command::ResetParameter(id) => Layout::Parameter(id),
         Command::ResetConfiguration => Layout::Short,
         Command::LoadConfiguration => Layout::Short,
         Command::SaveConfiguration(_) => Layout::Short,
+        Command::Report(layout) => layout,
     }
 }
 
@@ -171,9 +175,7 @@ pub fn memory_change_of(c: Command) -> MemoryChange
 {
     match c {
         Command::SystemReset => MemoryChange::Restart,
-        Command::NoOperation => MemoryChange::AsBefore,
         Command::CancelOperation => MemoryChange::AsBefore,
-        Command::Watchdog => MemoryChange::AsBefore,
         Command::GroupOn(_) => MemoryChange::AsBefore,
         Command::GroupOff(_) => MemoryChange::AsBefore,
         Command::GroupState(_) => MemoryChange::AsBefore,
@@ -181,13 +183,11 @@ pub fn memory_change_of(c: Command) -> MemoryChange
         Command::ChannelOff(_) => MemoryChange::AsBefore,
         Command::SwitchToNominal => MemoryChange::AsBefore,
         Command::SwitchToSafety => MemoryChange::AsBefore,
-        Command::GetOvercurrentFaultState => MemoryChange::AsBefore,
-        Command::GetHousekeeping => MemoryChange::AsBefore,
-        Command::GetParameter(_) => MemoryChange::AsBefore,
         Command::SetParameter(id, v) => MemoryChange::Set(id, v),
         Command::ResetParameter(id) => MemoryChange::ResetOne(id),
         Command::ResetConfiguration => MemoryChange::Defaults,
         Command::LoadConfiguration => MemoryChange::Load,
         Command::SaveConfiguration(checksum) => MemoryChange::Save(checksum),
+        Command::Report(_) => MemoryChange::AsBefore,
     }
 }

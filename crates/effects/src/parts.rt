@@ -17,14 +17,6 @@ pub struct Obeyed {
     pub replied: bool,
 }
 
-// How a reply is laid out.
-pub enum Layout {
-    Short,
-    Faults,
-    Housekeeping,
-    Parameter(u16),
-}
-
 // What a command does to the settings and to what is stored of them; a restart loads them with all else.
 pub enum MemoryChange {
     AsBefore,

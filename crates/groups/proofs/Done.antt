@@ -46,7 +46,7 @@ use Rattle.answers.specs.Answers as answers
 use Rattle.answers.specs.Answers.{toldNumber, new, fed, acceptedWith, acceptedOf, refusedOf, notThisBoardOf}
 use Rattle.answers.specs.declared.Answer.{Answer}
 use Rattle.answers.specs.declared.Commanded.{Commanded}
-use Rattle.effects.specs.Effects.{isNominal, switchedOf, groupOnOf, groupOffOf, groupStateOf, channelOnOf, channelOffOf, cancelledOf, switchedModeOf, faultsOf, housekeepingOf, parameterAnswered as parameterRun, rememberedOf, savedIn, restartedOf, runOf}
+use Rattle.effects.specs.Effects.{isNominal, switchedOf, groupOnOf, groupOffOf, groupStateOf, channelOnOf, channelOffOf, cancelledOf, switchedModeOf, faultsOf, housekeepingOf, parameterAnswered as parameterRun, rememberedOf, savedIn, restartedOf, reportedOf, runOf}
 use Rattle.asking.specs.Checks.{isStartup}
 use Rattle.commands.specs.Step.{commandedOf}
 use Rattle.commands.proofs.Stepwise.{turnedDown, decodedOf, steppedOf}
@@ -192,7 +192,7 @@ module _ (rail : ℤ) (limits : Limits) (s : List ℕ) (b : Board) where
 
   -- 0x82
   got : (id : ℕ) (p : Parameter) → Runs 0x82 (getBy id p)
-  unfolding decodedOf runOf parameterRun acceptedWith isIn
+  unfolding decodedOf runOf reportedOf parameterRun acceptedWith isIn
   got id (ReadWrite t) = accepting refl (replies _ _ refl)
   got id (ReadOnly t) = accepting refl (replies _ _ refl)
   got id Unknown = turned-down 0x82 WrongParameter
@@ -235,7 +235,7 @@ module _ (rail : ℤ) (limits : Limits) (s : List ℕ) (b : Board) where
 
   -- by the table, code by code
   in-list : (code : ℕ) → isIn code tableCodes ≡ true → Runs code (listed (find commandTable code) s)
-  unfolding listed find commandTable isIn carried getting setting resetting decodedOf runOf groupOnOf groupOffOf groupStateOf channelOnOf channelOffOf cancelledOf acceptedOf acceptedWith faultsOf housekeepingOf restartedOf toSafety toNominal
+  unfolding listed find commandTable isIn carried getting setting resetting decodedOf runOf reportedOf groupOnOf groupOffOf groupStateOf channelOnOf channelOffOf cancelledOf acceptedOf acceptedWith faultsOf housekeepingOf restartedOf toSafety toNominal
   in-list code h =
       at-code (λ k. Runs k (listed (find commandTable k) s)) code tableCodes h
       (keyed 0xAA 5 0xA6 _ (accepting refl restarts)

@@ -1,0 +1,63 @@
+-- Layout by layout.
+use Rattle.answers.specs.Answers.{acceptedOf, acceptedWith, refusedOf}
+use Rattle.effects.specs.Effects.{faultsOf, parameterAnswered, reportedOf}
+use borrow.Author.Needs.{needs}
+use Rattle.effects.proofs.reported.Statement.{statement}
+use Rattle.effects.proofs.reported.Tie as tie
+
+enum-told : tie.Need-enum-told
+enum-told c = search needs
+
+only-fed-requires : tie.Need-only-fed-requires
+only-fed-requires c κs = search needs
+
+enum-told-2 : tie.Need-enum-told-2
+enum-told-2 c = search needs
+
+only-fed-requires-2 : tie.Need-only-fed-requires-2
+only-fed-requires-2 c κs = search needs
+
+enum-told-3 : tie.Need-enum-told-3
+enum-told-3 c = search needs
+
+housekeeping-requires : tie.Need-housekeeping-requires
+housekeeping-requires c κs = search needs
+
+enum-told-4 : tie.Need-enum-told-4
+enum-told-4 c = search needs
+
+only-fed-requires-3 : tie.Need-only-fed-requires-3
+only-fed-requires-3 c κs = search needs
+
+returns : tie.Need-returns
+unfolding reportedOf acceptedOf acceptedWith refusedOf
+returns c = rw (c .before .enum-told .given .1, c .only-fed .ensures)
+
+returns-2 : tie.Need-returns-2
+unfolding reportedOf acceptedOf acceptedWith refusedOf faultsOf
+returns-2 c = rw (c .before .enum-told2 .given .1, c .only-fed2 .ensures)
+
+returns-3 : tie.Need-returns-3
+unfolding reportedOf
+returns-3 c = rw (c .before .enum-told3 .given .1, c .housekeeping .ensures)
+
+returns-4 : tie.Need-returns-4
+unfolding reportedOf acceptedOf acceptedWith refusedOf parameterAnswered
+returns-4 c = rw (c .before .enum-told4 .given .1, c .only-fed3 .ensures)
+
+pub reported-spec : {M : Type 1} → statement M
+reported-spec =
+    tie.close
+    (tie.spec
+    enum-told
+    only-fed-requires
+    enum-told-2
+    only-fed-requires-2
+    enum-told-3
+    housekeeping-requires
+    enum-told-4
+    only-fed-requires-3
+    returns
+    returns-2
+    returns-3
+    returns-4)
