@@ -1,5 +1,5 @@
 // Runs the session sheet on standard input, and prints its transcript or why it is refused. Nothing is decided here:
-// `session` says what is printed.
+// `session` and `transcript` say what is printed.
 ghost use mathlib.Core.Path.{_≡_};
 ghost use Rattle.sheet.specs.Form.{tickLine};
 ghost use Rattle.session.specs.Sessions.{nextBy};
@@ -28,7 +28,7 @@ fn run(sheet: &[u8]) {
     let opened = session::open(sheet, &mut out);
     print(&out, opened.printed);
     let answer = opened.answer;
-    let printed = session::refusal(answer, &mut out);
+    let printed = transcript::refusal(answer, &mut out);
     print(&out, printed);
     let mut now = opened.session;
     let mut left = now.left;

@@ -33,9 +33,10 @@ use Rattle.unit.proofs.Laws as unit
 use Rattle.grammar.specs.Grammar.{Read, fails, reads}
 use Rattle.sheet.specs.Form.{Sheet, sheetIn}
 use Rattle.script.specs.Printing.{page}
-use Rattle.session.specs.Sessions.{profileIn, opens, noSession, openedOf, startedOf, answerFrom, openedNumber}
-use Rattle.session.specs.declared.running.Answer.{Answer}
-use Rattle.session.specs.declared.running.Answer.the-variants.{Running, ProfileBreaksARule, NotOfForm}
+use Rattle.transcript.specs.Transcript.{openedNumber}
+use Rattle.transcript.specs.declared.Answer.{Answer}
+use Rattle.transcript.specs.declared.Answer.the-variants.{Running, ProfileBreaksARule, NotOfForm}
+use Rattle.session.specs.Sessions.{profileIn, opens, noSession, openedOf, startedOf, answerFrom}
 use Rattle.session.proofs.Steps as session
 use Rattle.refusals.specs.Conditions.{tickAnswer}
 use Rattle.refusals.specs.Rules.{KeepsAllRules, OfTheForm}

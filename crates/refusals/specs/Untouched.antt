@@ -14,8 +14,9 @@ use Rattle.reading.specs.{Answers.lineNumber, Given.GivenWhen, Lines.lineHeld, 
 use Rattle.framing.specs.{Answers.framedNumber, Framing.framedOf}
 use Rattle.unit.specs.{Machine.begunOf, Machine.heardOf, Machine.dueOf, declared.Machine.Machine, Runs.Sample, Runs.told}
 use Rattle.script.specs.Printing.{page}
-use Rattle.session.specs.Sessions.{profileIn, Open, opens, noSession, openedNumber, openedOf}
-use Rattle.session.specs.declared.running.Answer.the-variants.{ProfileBreaksARule, NotOfForm}
+use Rattle.transcript.specs.Transcript.{openedNumber}
+use Rattle.transcript.specs.declared.Answer.the-variants.{ProfileBreaksARule, NotOfForm}
+use Rattle.session.specs.Sessions.{profileIn, Open, opens, noSession, openedOf}
 use Rattle.refusals.specs.{Conditions.tickAnswer, Rules.KeepsAllRules, Rules.OfTheForm}
 
 -- 8, of a start: a profile that breaks a rule; the machine that was there stays

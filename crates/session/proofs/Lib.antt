@@ -1,4 +1,2 @@
-pub mod Decimal
 pub mod Ticks
 pub mod Steps
-pub mod Pages

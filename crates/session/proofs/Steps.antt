@@ -1,5 +1,5 @@
 -- What opening a sheet prints, the line of its refusal, and then each of its ticks, is together the whole transcript.
--- Where a buffer has the room, what was printed is all of the text (`Pages`). Assumes nothing.
+-- Where a buffer has the room, what was printed is all of the text (`transcript::Pages`). Assumes nothing.
 use Prim.Native.Nat.{ℕ, zero, suc, _+_, _-_, _≤_, _<_}
 use mathlib.Core.Path.{_≡_, refl, ap, sym, _∙_}
 use mathlib.Core.Bool.{Bool, true, false, cond}
@@ -20,11 +20,11 @@ use Rattle.sheet.specs.Answers.{headBy, sheetHead}
 use Rattle.sheet.proofs.Behind.{times-turn, times-none}
 use Rattle.sheet.proofs.Sheets.{Accepted, accepted}
 use Rattle.script.specs.Printing.{page, typed}
-use Rattle.session.specs.Transcript.{ticksText}
-use Rattle.session.specs.Sessions.{tickOn, lineOf, linesFrom, profileIn, beginning, begunText, sheetText, transcriptOf, Open, opens, opened, steps, noSession, startedBy, startedOf, openedBy, openedOf, after, numberOfNext, tickedOf, isOver, steppedBy, steppedOf, sessionBy, firstBy, answerBy, sessionFrom, firstFrom, answerFrom, refusalText, nextBy, printedBy, stepsFrom, openedNumber, formRefusal, sheetRefusal}
-use Rattle.session.specs.declared.running.Session.{Session}
-use Rattle.session.specs.declared.running.Answer.{Answer}
-use Rattle.session.specs.declared.running.Opened.{Opened}
+use Rattle.transcript.specs.Transcript.{ticksText, openedNumber, refusalText}
+use Rattle.transcript.specs.declared.Answer.{Answer}
+use Rattle.session.specs.Sessions.{tickOn, lineOf, linesFrom, profileIn, beginning, begunText, sheetText, transcriptOf, Open, opens, opened, steps, noSession, startedBy, startedOf, openedBy, openedOf, after, numberOfNext, tickedOf, isOver, steppedBy, steppedOf, sessionBy, firstBy, answerBy, sessionFrom, firstFrom, answerFrom, nextBy, printedBy, stepsFrom, formRefusal, sheetRefusal}
+use Rattle.session.specs.declared.Session.{Session}
+use Rattle.session.specs.declared.Opened.{Opened}
 
 -- ---- what a call leaves, as a session and a text
 pub open-is : (held s : List ℕ) → openedOf held s ≡ opens (sessionFrom (sheetIn s)) (answerFrom (sheetIn s)) (typed (page held 0) (firstFrom (sheetIn s)))

@@ -1,2 +1,1 @@
-pub mod Transcript
 pub mod Sessions

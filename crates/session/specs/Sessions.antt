@@ -11,10 +11,9 @@ use Rattle.unit.specs.declared.Told.{Told}
 use Rattle.grammar.specs.Grammar.{Read, fails, reads}
 use Rattle.sheet.specs.{Form.Top, Form.bytesOf, Form.Tick, Form.tickLine, Form.Sheet, Form.sheet, Form.sheetIn, Answers.isSent}
 use Rattle.script.specs.Printing.{Page, page, typed}
-use Rattle.session.specs.Transcript.{tickText, ticksText, refused8, refused14}
-use Rattle.session.specs.{declared.running.Session.Session, declared.running.Answer.Answer, declared.running.Opened.Opened}
-use Rattle.session.specs.declared.running.Stepped.{Stepped}
-use Rattle.session.specs.declared.running.Answer.the-variants.{Running, ProfileBreaksARule, NotOfForm}
+use Rattle.transcript.specs.{Transcript.tickText, Transcript.ticksText, Transcript.refused8, Transcript.refused14, declared.Answer.Answer}
+use Rattle.transcript.specs.declared.Answer.the-variants.{Running, ProfileBreaksARule, NotOfForm}
+use Rattle.session.specs.{declared.Session.Session, declared.Opened.Opened, declared.Stepped.Stepped}
 
 -- ---- the whole output
 
@@ -143,12 +142,6 @@ abbrev pub answerFrom : Read Sheet → Answer
 answerFrom fails = NotOfForm
 answerFrom (reads sheet i) = answerBy (beginning (profileIn (sheet .top)) .answer)
 
--- the refusal's line; none for a session that runs
-abbrev pub refusalText : Answer → List ℕ
-refusalText Running = []
-refusalText ProfileBreaksARule = refused8
-refusalText NotOfForm = refused14
-
 -- a tick
 abbrev pub nextBy : Read Tick → Session → Session
 nextBy fails session = noSession
@@ -162,12 +155,6 @@ printedBy (reads t next) session = cond (isOver session) [] (lineOf (numberOfNex
 unfoldable pub stepsFrom : ℕ → List ℕ → Session → List ℕ
 stepsFrom zero s session = []
 stepsFrom (suc n) s session = printedBy (tickLine 256 s (session .at)) session ++ stepsFrom n s (nextBy (tickLine 256 s (session .at)) session)
-
--- document 01's number of an answer; 0 stands for none
-abbrev pub openedNumber : Answer → ℕ
-openedNumber Running = 0
-openedNumber ProfileBreaksARule = 8
-openedNumber NotOfForm = 14
 
 -- the number for a sheet: 14 where it has over 65,536 bytes or is not of the form, else 8 where its profile breaks a
 -- rule, else none

@@ -4,8 +4,8 @@ use mathlib.Core.Path.{_≡_, ap}
 use mathlib.Core.List.{List}
 use Rattle.script.specs.Printing.{page}
 use Rattle.session.specs.Sessions.{Open, opens, Step, steps, opened, stepped}
-use Rattle.session.specs.declared.running.Opened.{Opened}
-use Rattle.session.specs.declared.running.Stepped.{Stepped}
+use Rattle.session.specs.declared.Opened.{Opened}
+use Rattle.session.specs.declared.Stepped.{Stepped}
 use Rattle.trial.specs.Benches.{Shown, shown, left}
 use Rattle.trial.specs.declared.Ran.{Ran}
 

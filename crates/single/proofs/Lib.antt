@@ -34,5 +34,6 @@ pub mod Naming
 pub mod Speaking
 pub mod Showing
 pub mod Trial
+pub mod Transcript
 pub mod Session
 pub mod Pattern

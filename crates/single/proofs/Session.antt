@@ -3,9 +3,7 @@ use mathlib.Core.Path.{sym, _∙_}
 use denote.Ref.{now}
 use Rattle.single.specs.Single.{Single}
 use Rattle.single.proofs.Left.{opened-held, opened-same, stepped-held, stepped-same}
-use Rattle.single.proofs.Pages.{held-same, place-same}
 use Rattle.session.proofs.open.Reads as open-sheet
-use Rattle.session.proofs.refusal.Reads as refusal
 use Rattle.session.proofs.step.Reads as step
 
 pub single-open-sheet : Single open-sheet.Post (λ κ r s. r)
@@ -19,9 +17,3 @@ single-step κ a r r′ s s′ p q = stepped-same r r′ (p ∙ sym q)
 
 pub held-step : Single step.Post (λ κ r s. now (s .1 .1 .0))
 held-step κ a r r′ s s′ p q = stepped-held r r′ (p ∙ sym q)
-
-pub single-refusal : Single refusal.Post (λ κ r s. r)
-single-refusal κ a r r′ s s′ p q = place-same (p ∙ sym q)
-
-pub held-refusal : Single refusal.Post (λ κ r s. now (s .1 .0))
-held-refusal κ a r r′ s s′ p q = held-same (p ∙ sym q)

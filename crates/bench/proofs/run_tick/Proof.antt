@@ -2,7 +2,7 @@
 use borrow.Author.Needs.{needs}
 use mathlib.Core.Path.{ap, _∙_}
 use Rattle.session.specs.Sessions.{Step, steps}
-use Rattle.session.specs.declared.running.Session.{Session}
+use Rattle.session.specs.declared.Session.{Session}
 use Rattle.session.proofs.Steps.{step-is}
 use Rattle.bench.proofs.run_tick.Statement.{statement}
 use Rattle.bench.proofs.run_tick.Tie as tie
