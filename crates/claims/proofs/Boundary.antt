@@ -1,6 +1,7 @@
 -- The boundary table holds: antt computes each of its rows. Assumes nothing.
 use mathlib.Core.Path.{_≡_, refl}
 use mathlib.Core.List.{List, [], _∷_, map}
+use Rattle.kinds.specs.Kinds.{isIn}
 use Rattle.wire.specs.Replies as replies
 use Rattle.wire.specs.Numbers.{bytesOf, number}
 use Rattle.settings.specs.Table as tables
@@ -11,8 +12,8 @@ use Rattle.channels.specs.Chan.{whole}
 use Rattle.channels.specs.Operations.{overcurrentAt, groupOff, groupState}
 use Rattle.watchdog.specs.Watchdog as dog
 use Rattle.command.specs.Table as commandTable
-use Rattle.command.specs.Codes.{isIn, baseCodes}
-use Rattle.command.specs.Decode.{fewerThanFour, headerIs, groupIn, carried, listed, decodeBy, decodeOf}
+use Rattle.command.specs.Decode.{fewerThanFour, headerIs, groupIn, carried, listed, decodeOf}
+use Rattle.command.specs.Checks.{first, headerDiffers, idWrong, checks}
 use Rattle.memory.specs.Memory.{emptyStore, loadedFrom, setIn}
 use Rattle.memory.specs.Limits.{timeoutOf}
 use Rattle.replies.specs.Layouts.{shortReply}
@@ -20,7 +21,8 @@ use Rattle.state.specs.Start.{freshOf, watchdogResetOf}
 use Rattle.change.specs.Change.{isDark, fromNominalToSafety, enteringOf, timerAfter}
 use Rattle.answers.specs.Answers.{acceptedWith, acceptedOf, refusedOf}
 use Rattle.effects.specs.Effects.{isNominal, switchedOf, groupOffOf, groupStateOf, runOf}
-use Rattle.commands.specs.Step.{isStartup, turnedDown, decodedOf, transferredOf, commandedOf}
+use Rattle.asking.specs.Checks.{isStartup, channelCodes, unavailable, channelWrong, checksumWrong, checksOf}
+use Rattle.commands.specs.Step.{returning, transferredOf, commandedOf}
 use Rattle.board.specs.Tick.{risenOf, changedOf, trippedOf, watchedIn, tickWith}
 use Rattle.claims.specs.Boundary.{Row, set, rows, seen, expected, BoundaryTable}
 
@@ -35,7 +37,7 @@ in-one [] none = refl
 in-one (r ∷ rs) (p and ps) = rw (p, in-one rs ps)
 
 each-row : Each rows
-unfolding set rows tickWith risenOf olderOf dog.risenOf changedOf stepOf enteringOf isDark fromNominalToSafety timerAfter whole has setOf trippedOf overcurrentAt commandedOf transferredOf isStartup fewerThanFour decodedOf decodeOf decodeBy headerIs isIn baseCodes commandTable.commandTable commandTable.find listed carried groupIn number bytesOf turnedDown runOf groupOffOf groupStateOf switchedOf isNominal groupOff groupState acceptedOf acceptedWith refusedOf shortReply replies.shown replies.written replies.replyOf replies.room replies.laidOut replies.replyCode watchedIn dog.watchedOf timeoutOf settingOf tables.parameterOf tables.rowOf tables.find tables.readWriteRows tables.lies setIn setSetting withNumber tables.same tables.clampOf tables.atLeast tables.atMost tables.lowOf tables.highOf defaultsOf defaultN tables.column tables.defaultOf freshOf watchdogResetOf loadedFrom emptyStore
+unfolding set rows tickWith risenOf olderOf dog.risenOf changedOf stepOf enteringOf isDark fromNominalToSafety timerAfter whole has setOf trippedOf overcurrentAt commandedOf transferredOf returning first checksOf checks headerDiffers idWrong unavailable channelCodes channelWrong checksumWrong isStartup fewerThanFour decodeOf headerIs isIn commandTable.commandTable commandTable.find listed carried groupIn number bytesOf runOf groupOffOf groupStateOf switchedOf isNominal groupOff groupState acceptedOf acceptedWith refusedOf shortReply replies.shown replies.written replies.replyOf replies.room replies.laidOut replies.replyCode watchedIn dog.watchedOf timeoutOf settingOf tables.parameterOf tables.rowOf tables.find tables.readWriteRows tables.lies setIn setSetting withNumber tables.same tables.clampOf tables.atLeast tables.atMost tables.lowOf tables.highOf defaultsOf defaultN tables.column tables.defaultOf freshOf watchdogResetOf loadedFrom emptyStore
 each-row =
     refl  -- 1
     and refl  -- 2

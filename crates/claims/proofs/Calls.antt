@@ -13,7 +13,7 @@ use Rattle.watchdog.specs.declared.Event.{Event}
 use Rattle.watchdog.specs.declared.Event.the-variants.{NoEvent, PeripheralReset, WatchdogReset}
 use Rattle.memory.specs.Limits.{timeoutOf, limitsOf}
 use Rattle.memory.specs.declared.Store.{Store}
-use Rattle.state.specs.Parts.{withForm}
+use Rattle.state.specs.Parts.{wordCount, withForm}
 use Rattle.state.specs.Start.{freshOf, neverReset, keepsTheRules, startOf, watchdogResetOf}
 use Rattle.state.specs.declared.parts.Board.{Board}
 use Rattle.state.specs.declared.parts.Profile.{Profile}
@@ -43,12 +43,12 @@ module _ (rail : ℤ) (named : ℕ) (words : List ℕ) (sent : Bool) (s : List �
   happening = dog.watchedOf (obeyed .board .timer) (dog.secondsInTicks (timeoutOf (obeyed .board .memory)))
 
   -- the tick is what the watchdog makes of what the command leaves
-  pub tick-is : allowedCount (length words) ≡ true → tickOf rail named words sent s b ≡ watchedAs happening obeyed
+  pub tick-is : allowedCount (wordCount b) (length words) ≡ true → tickOf rail named words sent s b ≡ watchedAs happening obeyed
   unfolding tickOf tickWith watchedIn
   tick-is allowed = rw allowed
 
   -- what holds of the board that the command leaves, and of its reset, holds after the tick
-  pub by-tick : (P : Board → Type 0) → allowedCount (length words) ≡ true → P (obeyed .board) → P (watchdogResetOf (obeyed .board)) → P (tickOf rail named words sent s b .board)
+  pub by-tick : (P : Board → Type 0) → allowedCount (wordCount b) (length words) ≡ true → P (obeyed .board) → P (watchdogResetOf (obeyed .board)) → P (tickOf rail named words sent s b .board)
   by-tick P allowed p r = subst (λ (t : Ticked). P (t .board)) (sym (tick-is allowed)) (watched happening)
     where
       watched : (e : Event) → P (watchedAs e obeyed .board)
@@ -71,18 +71,18 @@ line-rests (NotOfForm behind) m = record { form = m .board .form; is = refl }
 line-rests (ScratchTooShort behind) m = record { form = m .board .form; is = refl }
 
 -- a tick that does not happen alters nothing
-pub rests : (m : Machine) (call : Call) → isTick call ≡ false → AllButForm (m .board) (afterCall m call .board)
+pub rests : (m : Machine) (call : Call) → isTick (wordCount (m .board)) call ≡ false → AllButForm (m .board) (afterCall m call .board)
 unfolding heardOf
 rests m (tick i) e = record { form = m .board .form; is = ap (λ (x : Machine). x .board) (refused-tick-leaves (i .rail) (i .named) (i .words) (i .sent) (i .transfer) m e) }
 rests m (line received room) e = line-rests (lineOf (m .board .form) received room) m
 
 -- ---- any calls, and what can be reached
-module _ (P : Board → Type 0) (of-form : (form : Form) (b : Board) → P b → P (withForm form b)) (of-tick : (m : Machine) (i : Sample) → isTick (tick i) ≡ true → P (m .board) → P (told m i .machine .board)) where
+module _ (P : Board → Type 0) (of-form : (form : Form) (b : Board) → P b → P (withForm form b)) (of-tick : (m : Machine) (i : Sample) → isTick (wordCount (m .board)) (tick i) ≡ true → P (m .board) → P (told m i .machine .board)) where
   -- one call
   pub by-call : (m : Machine) (call : Call) → P (m .board) → P (afterCall m call .board)
-  by-call m call p = cases (isTick call) (ticks call) (λ e. let r = rests m call e in subst P (sym (r .is)) (of-form (r .form) (m .board) p))
+  by-call m call p = cases (isTick (wordCount (m .board)) call) (ticks call) (λ e. let r = rests m call e in subst P (sym (r .is)) (of-form (r .form) (m .board) p))
     where
-      ticks : (call : Call) → isTick call ≡ true → P (afterCall m call .board)
+      ticks : (call : Call) → isTick (wordCount (m .board)) call ≡ true → P (afterCall m call .board)
       ticks (tick i) e = of-tick m i e p
       ticks (line received room) e = absurd (false≢true e)
 
@@ -98,7 +98,7 @@ unfolding begunOf startOf
 begun-is there profile store accepted = rw accepted
 
 module _ (P : Board → Type 0) (of-start : (profile : Profile) (store : Store) → P (freshOf profile store neverReset))
-    (of-form : (form : Form) (b : Board) → P b → P (withForm form b)) (of-tick : (m : Machine) (i : Sample) → isTick (tick i) ≡ true → P (m .board) → P (told m i .machine .board)) where
+    (of-form : (form : Form) (b : Board) → P b → P (withForm form b)) (of-tick : (m : Machine) (i : Sample) → isTick (wordCount (m .board)) (tick i) ≡ true → P (m .board) → P (told m i .machine .board)) where
   pub by-reach : (m : Machine) → Reached m → P (m .board)
   by-reach m r =
       let begun = begunOf (r .there) (r .profile) (r .store) .machine in

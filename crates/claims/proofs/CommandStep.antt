@@ -17,7 +17,7 @@ use Rattle.channels.specs.Operations.{switchOn}
 use Rattle.channels.specs.declared.Channels.{Channels}
 use Rattle.channels.proofs.Laws as of-channels
 use Rattle.power.specs.Machine as small
-use Rattle.command.specs.Decode.{fewerThanFour, codeOf, decodeBy, decodeOf}
+use Rattle.command.specs.Decode.{fewerThanFour, codeOf, decodeOf}
 use Rattle.command.specs.declared.Command.{Command}
 use Rattle.command.specs.declared.Refusal.{Refusal}
 use Rattle.command.specs.declared.Decoded.{Decoded}
@@ -28,13 +28,16 @@ use Rattle.state.specs.Parts.{modeOf, withMemory, withMeasured, withChannels}
 use Rattle.state.specs.Start.{commandResetOf}
 use Rattle.change.specs.Change.{enteringOf}
 use Rattle.state.specs.declared.parts.Board.{Board}
-use Rattle.answers.specs.Answers.{headerOf, acceptedWith, acceptedOf, refusedOf, notThisBoardOf}
+use Rattle.answers.specs.Answers.{acceptedWith, acceptedOf, refusedOf, notThisBoardOf}
 use Rattle.answers.specs.declared.Answer.{Answer}
 use Rattle.answers.specs.declared.Answer.the-variants.{Accepted}
 use Rattle.answers.specs.declared.Outcome.the-variants.{Answered}
 use Rattle.answers.specs.declared.Commanded.{Commanded}
 use Rattle.effects.specs.Effects.{isNominal, switchedOf, groupOnOf, groupOffOf, groupStateOf, channelOnOf, channelOffOf, cancelledOf, switchedModeOf, faultsOf, housekeepingOf, parameterAnswered, rememberedOf, savedIn, seen, restartedOf, runOf}
-use Rattle.commands.specs.Step.{isStartup, turnedDown, decodedOf, transferredOf, commandedOf}
+use Rattle.asking.specs.Checks.{isStartup}
+use Rattle.commands.specs.Step.{transferredOf, commandedOf}
+use Rattle.commands.proofs.Stepwise.{turnedDown, decodedOf, steppedOf}
+use Rattle.commands.proofs.Told.{stepwise}
 
 -- ---- what can become of a board
 -- it has this phase and these channels, and its own profile
@@ -180,6 +183,7 @@ module _ (rail : ℤ) (limits : Limits) (b : Board) where
   turned-down : (code : ℕ) (r : Refusal) → DoesIt (Refused r) (turnedDown code r b)
   unfolding turnedDown notThisBoardOf
   turned-down code Refusal.FewerThanFourBytes = leaves-both refl stays
+  turned-down code Refusal.InStartup = leaves-both refl stays
   turned-down code Refusal.NotThisBoard = leaves-both refl (record { profile = refl; phase = refl; channels = refl })
   turned-down code Refusal.CodeNotListed = leaves-both refl (refused Answer.CodeNotListed code)
   turned-down code Refusal.TooShort = leaves-both refl (refused Answer.TooShort code)
@@ -195,21 +199,21 @@ module _ (rail : ℤ) (limits : Limits) (b : Board) where
 
   -- ---- the whole step
   module _ (s : List ℕ) where
+    -- the transfer as it reads outside startup
     abbrev reading : Decoded
-    reading = decodeOf (headerOf (b .profile)) s
+    reading = decodeOf (b .profile .kind) (b .profile .bid) false s
 
-    -- fewer than four bytes are no command
-    too-short : fewerThanFour s ≡ true → reading ≡ Refused Refusal.FewerThanFourBytes
-    unfolding decodeOf decodeBy
-    too-short short = rw short
+    -- in startup a transfer is refused, whatever it reads
+    startup-stays : isStartup (modeOf b) ≡ true → Stays b (steppedOf rail limits s b .board)
+    unfolding steppedOf decodedOf decodeOf turnedDown
+    startup-stays e = cases (fewerThanFour s) (λ short. rw short stays) (λ long. rw (long, e) stays)
 
-    -- a transfer, by the checks before the decoder
+    -- a transfer, by the mode
     transferred : DoesIt reading (transferredOf rail limits s b)
-    unfolding transferredOf
+    unfolding steppedOf
     transferred =
-        cases (fewerThanFour s)
-        (λ short. rw (short, too-short short) (leaves-both refl stays))
-        (λ long. cases (isStartup (modeOf b)) (λ e. rw (long, e) (idles e stays)) (λ e. rw (long, e) (decoded (codeOf s) reading)))
+        rw (stepwise rail limits s b)
+        (cases (isStartup (modeOf b)) (λ e. idles e (startup-stays e)) (λ e. rw e (decoded (codeOf s) reading)))
 
     -- no transfer, or one
     pub step : (sent : Bool) → Does rail limits reading (cond sent (asked reading) small.other) b (commandedOf rail limits sent s b)

@@ -4,6 +4,7 @@
 use Prim.Native.Nat.{ℕ}
 use mathlib.Core.Path.{_≡_, refl, ap, _∙_}
 use mathlib.Core.List.{List, [], _∷_, map}
+use Rattle.kinds.specs.Kinds.{isIn}
 use Rattle.wire.specs.Numbers.{number}
 use Rattle.settings.specs.Table.{lies, rowOf, find, readWriteRows, readOnlyRows, parameterOf, column, defaultOf, clampOf, atLeast, atMost, lowOf, highOf}
 use Rattle.settings.specs.Values.{settingOf, defaultsOf, defaultN}
@@ -13,8 +14,8 @@ use Rattle.channels.specs.Chan.{whole}
 use Rattle.channels.specs.Operations as channels
 use Rattle.channels.specs.Operations.{cleared, forcedOn, overcurrentAt}
 use Rattle.command.specs.Table as commands
-use Rattle.command.specs.Codes.{isIn, baseCodes}
-use Rattle.command.specs.Decode.{fewerThanFour, headerIs, groupIn, carried, listed, decodeBy, decodeOf}
+use Rattle.command.specs.Decode.{fewerThanFour, headerIs, groupIn, carried, listed, decodeOf}
+use Rattle.command.specs.Checks.{first, headerDiffers, idWrong, checks}
 use Rattle.watchdog.specs.Watchdog as dog
 use Rattle.memory.specs.Limits.{limitsOf, safetyLow, safetyHigh, timeoutOf}
 use Rattle.memory.specs.Memory.{emptyStore, loadedFrom}
@@ -22,7 +23,8 @@ use Rattle.state.specs.Start.{freshOf, commandResetOf}
 use Rattle.change.specs.Change.{isDark, fromNominalToSafety, enteringOf, timerAfter, resetsAfter, leavesEmergency}
 use Rattle.answers.specs.Answers.{acceptedWith, acceptedOf}
 use Rattle.effects.specs.Effects.{isNominal, switchedOf, groupOnOf, restartedOf, runOf}
-use Rattle.commands.specs.Step.{isStartup, decodedOf, transferredOf, commandedOf}
+use Rattle.asking.specs.Checks.{isStartup, channelCodes, unavailable, channelWrong, checksumWrong, checksOf}
+use Rattle.commands.specs.Step.{returning, transferredOf, commandedOf}
 use Rattle.board.specs.Tick.{broughtBy, risenOf, changedOf, trippedOf, watchedIn, tickWith, allowedCount, tickOf}
 use Rattle.unit.specs.Machine.{toldOf}
 use Rattle.unit.specs.declared.Machine.{Machine}
@@ -56,7 +58,7 @@ runs =
 
 -- on the board as it then is
 on-woken : map (timesTakenOff 0 woken) runs ≡ 1 ∷ 1 ∷ 2 ∷ 0 ∷ 0 ∷ []
-unfolding timesTakenOff hasReset tellsReset tellsWatchdogReset tellsCommandReset toldOf tickOf tickWith allowedCount broughtBy risenOf changedOf trippedOf watchedIn commandedOf transferredOf decodedOf isStartup fewerThanFour headerIs groupIn number carried listed decodeBy decodeOf commands.commandTable commands.find isIn baseCodes runOf groupOnOf switchedOf isNominal restartedOf commandResetOf acceptedOf acceptedWith channels.groupOn cleared forcedOn overcurrentAt has setOf listOf whole freshOf loadedFrom emptyStore olderOf stepOf dog.risenOf dog.watchedOf isDark fromNominalToSafety enteringOf timerAfter resetsAfter leavesEmergency limitsOf safetyLow safetyHigh timeoutOf settingOf parameterOf rowOf find readWriteRows readOnlyRows lies defaultsOf defaultN column defaultOf clampOf atLeast atMost lowOf highOf
+unfolding timesTakenOff hasReset tellsReset tellsWatchdogReset tellsCommandReset toldOf tickOf tickWith allowedCount broughtBy risenOf changedOf trippedOf watchedIn commandedOf transferredOf returning first checksOf checks headerDiffers idWrong unavailable channelCodes channelWrong checksumWrong isStartup fewerThanFour headerIs groupIn number carried listed decodeOf commands.commandTable commands.find isIn runOf groupOnOf switchedOf isNominal restartedOf commandResetOf acceptedOf acceptedWith channels.groupOn cleared forcedOn overcurrentAt has setOf listOf whole freshOf loadedFrom emptyStore olderOf stepOf dog.risenOf dog.watchedOf isDark fromNominalToSafety enteringOf timerAfter resetsAfter leavesEmergency limitsOf safetyLow safetyHigh timeoutOf settingOf parameterOf rowOf find readWriteRows readOnlyRows lies defaultsOf defaultN column defaultOf clampOf atLeast atMost lowOf highOf
 on-woken = refl
 
 -- the number at the end of each run

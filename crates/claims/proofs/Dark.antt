@@ -19,7 +19,7 @@ use Rattle.power.specs.Machine as small
 use Rattle.command.specs.declared.Decoded.{Decoded}
 use Rattle.memory.specs.Limits.{limitsOf}
 use Rattle.memory.specs.declared.Store.{Store}
-use Rattle.state.specs.Parts.{modeOf}
+use Rattle.state.specs.Parts.{modeOf, wordCount}
 use Rattle.state.specs.Start.{freshOf, neverReset, commandResetOf, watchdogResetOf}
 use Rattle.change.specs.Change.{isDark, enteringOf}
 use Rattle.state.specs.declared.parts.Board.{Board}
@@ -104,7 +104,7 @@ module _ (k : ℕ) (h : k < 32) where
       ∙ untripped (has named k) (chan entered k) (entering-off (olderOf (b .phase) .mode) (stepOf (olderOf (b .phase)) rail limits .mode) (b .profile) (b .channels) d)
 
   -- the whole tick
-  pub after-a-tick : (m : Machine) (i : Sample) → isTick (tick i) ≡ true → OffInTheDark k (told m i .machine .board)
+  pub after-a-tick : (m : Machine) (i : Sample) → isTick (wordCount (m .board)) (tick i) ≡ true → OffInTheDark k (told m i .machine .board)
   unfolding toldOf watchdogResetOf
   after-a-tick m i happens =
       by-tick (i .rail) (i .named) (i .words) (i .sent) (i .transfer) (m .board) (OffInTheDark k) happens

@@ -1,5 +1,5 @@
 -- Document 01's machine keeps each claim that a wrong program breaks, at every tick. Assumes nothing.
-use Prim.Native.Nat.{ℕ, suc, _%_, _<_}
+use Prim.Native.Nat.{ℕ, suc, _%_}
 use mathlib.Core.Path.{_≡_, refl, sym, ap, subst, _∙_}
 use mathlib.Core.Bool.{Bool, true, false, cond, not, _&&_, _||_, false≢true}
 use mathlib.Core.List.{List, [], _∷_, _++_, map}
@@ -9,6 +9,7 @@ use lib.Dec.{eqb, ltb}
 use lib.IntN.{ℤ}
 use lib.ListN.{length, getD}
 use Rattle.laws.proofs.Cases.{cases}
+use Rattle.kinds.specs.Kinds.{boardOf, isIn}
 use Rattle.wire.specs.Numbers.{bytesOf}
 use Rattle.wire.specs.Replies.{shown, replyOf, room, laidOut, replyCode}
 use Rattle.wire.proofs.Room.{shown-replyOf}
@@ -16,14 +17,12 @@ use Rattle.modes.specs.Table.{_at-least_, entered}
 use Rattle.modes.specs.Commands.{toSafety, toNominalFrom, toNominal}
 use Rattle.modes.specs.declared.Mode.{Mode}
 use Rattle.modes.specs.declared.Mode.the-variants.{Startup, Nominal, Safety, Emergency}
-use Rattle.modes.specs.declared.ModeAge.{ModeAge}
 use Rattle.modes.specs.declared.Limits.{Limits}
 use Rattle.modes.specs.declared.ModeAnswer as change
 use Rattle.channels.specs.declared.Channels.{Channels}
 use Rattle.channels.specs.Chan.{chan}
 use Rattle.command.specs.Table as commands
-use Rattle.command.specs.Codes.{isIn, baseCodes}
-use Rattle.command.specs.Decode.{fewerThanFour, codeOf, headerIs, carried, listed, decodeBy, decodeOf}
+use Rattle.command.specs.Decode.{fewerThanFour, codeOf, headerOf, headerIs, carried, listed, decodeOf}
 use Rattle.command.specs.declared.Command.{Command}
 use Rattle.command.specs.declared.Refusal.{Refusal}
 use Rattle.command.specs.declared.Decoded.{Decoded}
@@ -32,17 +31,17 @@ use Rattle.watchdog.specs.declared.Event.{Event}
 use Rattle.watchdog.specs.declared.Event.the-variants.{NoEvent, PeripheralReset, WatchdogReset}
 use Rattle.memory.specs.Limits.{limitsOf}
 use Rattle.memory.specs.Memory.{savedOf}
-use Rattle.memory.specs.declared.Store.{Store}
 use Rattle.replies.specs.Layouts.{shortReply, faultsReply, housekeepingReply, parameterReply}
-use Rattle.state.specs.Parts.{modeOf}
-use Rattle.state.specs.Start.{keepsTheRules}
+use Rattle.state.specs.Parts.{modeOf, wordCount}
 use Rattle.state.specs.declared.parts.Board.{Board}
-use Rattle.state.specs.declared.parts.Profile.{Profile}
-use Rattle.answers.specs.Answers.{toldNumber, headerOf, acceptedWith, acceptedOf, refusedOf, notThisBoardOf}
+use Rattle.answers.specs.Answers.{toldNumber, acceptedWith, acceptedOf, refusedOf, notThisBoardOf}
 use Rattle.answers.specs.declared.Answer.{Answer}
 use Rattle.answers.specs.declared.Commanded.{Commanded}
 use Rattle.effects.specs.Effects.{isNominal, switchedOf, groupOnOf, groupOffOf, groupStateOf, channelOnOf, channelOffOf, cancelledOf, switchedModeOf, faultsOf, housekeepingOf, parameterAnswered, rememberedOf, savedIn, restartedOf, runOf}
-use Rattle.commands.specs.Step.{isStartup, turnedDown, decodedOf, transferredOf, commandedOf}
+use Rattle.asking.specs.Checks.{isStartup}
+use Rattle.commands.specs.Step.{readBy, commandedOf}
+use Rattle.commands.proofs.Stepwise.{turnedDown, decodedOf, steppedOf}
+use Rattle.commands.proofs.Told.{stepwise}
 use Rattle.board.specs.Tick.{watchedAs, allowedCount, tickOf}
 use Rattle.framing.specs.declared.Due.{Due}
 use Rattle.unit.specs.Machine.{begunOf, toldBy, toldOf}
@@ -57,7 +56,7 @@ use Rattle.groups.proofs.Groups.{groups}
 use Rattle.groups.proofs.Counts.{counts}
 use Rattle.changes.specs.ModeChange.{modeCommands}
 use Rattle.changes.proofs.ModeChange.{mode-change}
-use Rattle.claims.specs.Wrong.{Program, document01, stateAfter, lastTold, OfATick, shownAfter, AtEachTick, TellsWhatIsGiven, RepliesWithItsCode, MovesByTheTable, ComesIntoNominal, SwitchesTheNamed, CountsStep3}
+use Rattle.claims.specs.Wrong.{document01, stateAfter, lastTold, OfATick, shownAfter, AtEachTick, TellsWhatIsGiven, RepliesWithItsCode, MovesByTheTable, ComesIntoNominal, SwitchesTheNamed, CountsStep3}
 
 -- ---- a sentence that holds of every tick of the machine
 same-machine : (m : Machine) (before : List Sample) → stateAfter document01 m before ≡ shownAfter document01 m m before
@@ -133,6 +132,7 @@ module _ (code : ℕ) where
   turned-down : (r : Refusal) (b : Board) → Coded (turnedDown code r b)
   unfolding turnedDown
   turned-down Refusal.FewerThanFourBytes b = silent refl
+  turned-down Refusal.InStartup b = silent refl
   turned-down Refusal.NotThisBoard b = elsewhere b
   turned-down Refusal.CodeNotListed b = refused _ b
   turned-down Refusal.TooShort b = refused _ b
@@ -146,11 +146,8 @@ module _ (code : ℕ) where
   decoded rail limits (Refused r) b = turned-down r b
 
 stepped : (rail : ℤ) (limits : Limits) (sent : Bool) (s : List ℕ) (b : Board) → Coded (codeOf s) (commandedOf rail limits sent s b)
-unfolding commandedOf transferredOf
-stepped rail limits sent s b =
-    either (codeOf s) (not sent) (silent refl)
-    (either (codeOf s) (fewerThanFour s) (silent refl)
-    (either (codeOf s) (isStartup (modeOf b)) (silent refl) (decoded (codeOf s) rail limits (decodeOf (headerOf (b .profile)) s) b)))
+unfolding commandedOf steppedOf
+stepped rail limits sent s b = rw (stepwise rail limits s b) (either (codeOf s) (not sent) (silent refl) (decoded (codeOf s) rail limits (readBy b s) b))
 
 -- the watchdog leaves the reply, or takes it and says so
 watched-code : (code : ℕ) (due : Due) (c : Commanded) → Coded code c → watched due c .replied ≡ true → getD (shown (watched due c .machine .board .reply)) 2 0 ≡ replyCode code % 256
@@ -168,7 +165,7 @@ watched-code code due c k = go (happening c) k
 pub own-code : (m : Machine) (i : Sample) → RepliesWithItsCode m i (told m i)
 unfolding toldOf tickOf replyCode
 own-code m i =
-    cases (allowedCount (length (i .words)))
+    cases (allowedCount (wordCount (m .board)) (length (i .words)))
     (λ h. subst (RepliesWithItsCode m i) (sym (told-is m i h))
     (λ small e. watched-code (codeOf (i .transfer)) (m .due) (given m i) (stepped (i .rail) (limitsOf (m .board .memory)) (i .sent) (i .transfer) (afterStep3 m i)) e ∙ omega arith))
     (λ h small e. absurd (false≢true (rw h at e)))
@@ -237,15 +234,17 @@ module _ (rail : ℤ) (limits : Limits) (s : List ℕ) (b : Board) where
   moved Startup h e = absurd (not-0 5 e)
 
   nominal-step : codeOf s ≡ 0x30 → Nominal-if-0 (commandedOf rail limits true s b)
-  unfolding commandedOf transferredOf decodedOf decodeOf decodeBy isIn baseCodes commands.commandTable commands.find listed carried runOf toNominal turnedDown refusedOf notThisBoardOf
+  unfolding commandedOf steppedOf decodedOf decodeOf isIn commands.commandTable commands.find listed carried runOf toNominal turnedDown refusedOf notThisBoardOf
   nominal-step e =
-      rw e
+      rw (stepwise rail limits s b, e)
       (cases (fewerThanFour s)
       (λ f. rw f (λ z. absurd (not-0 0 z)))
       (λ f. rw f (cases (isStartup (modeOf b))
       (λ g. rw g (λ z. absurd (not-0 1 z)))
-      (λ g. rw g (cases (headerIs (headerOf (b .profile)) s)
-      (λ h. rw h (cases (ltb (length s) 4) (λ k. rw k (λ z. absurd (not-0 4 z))) (λ k. rw k (moved (modeOf b) refl))))
+      (λ g. rw g (cases (headerIs (headerOf (b .profile .kind) (b .profile .bid)) s)
+      (λ h. rw h (cases (isIn 0x30 (boardOf (b .profile .kind) .codes))
+      (λ j. rw j (cases (ltb (length s) 4) (λ k. rw k (λ z. absurd (not-0 4 z))) (λ k. rw k (moved (modeOf b) refl))))
+      (λ j. rw j (λ z. absurd (not-0 3 z)))))
       (λ h. rw h (λ z. absurd (not-0 2 z))))))))
 
 pub comes-into-nominal : AtEachTick ComesIntoNominal document01

@@ -30,7 +30,7 @@ use Rattle.state.specs.declared.parts.Profile.{Profile}
 use Rattle.answers.specs.declared.Answer.the-variants.{Accepted}
 use Rattle.answers.specs.declared.Outcome.the-variants.{Answered}
 use Rattle.answers.specs.declared.Commanded.{Commanded}
-use Rattle.commands.specs.Step.{isStartup}
+use Rattle.asking.specs.Checks.{isStartup}
 use Rattle.claims.specs.Power.{ForceEnabledBy}
 use Rattle.claims.proofs.CommandStep.{Becomes, Stays, Changes, Does, idles, leaves-both, refuses, switches, cancels, to-safety, to-nominal, restarts}
 

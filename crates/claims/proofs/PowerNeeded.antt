@@ -1,12 +1,13 @@
 -- A run for each premise of demand 3 that is needed, which breaks the demand without it: two short ones, computed, and
 -- two long ones in nominal, by a law for each tick. Assumes nothing.
-use Prim.Native.Nat.{ℕ, zero, suc, _+_, _≤_}
+use Prim.Native.Nat.{ℕ, zero, suc, _≤_}
 use mathlib.Core.Path.{_≡_, refl, sym, ap, _∙_, subst}
 use mathlib.Core.Bool.{Bool, true, false, false≢true, and-false}
 use mathlib.Core.List.{List, [], _∷_, _++_, append-nil}
 use native.Mathlib.Omega.{arith}
 use lib.IntN.{ℤ, pos}
 use lib.ListN.{replicate, length-replicate}
+use Rattle.kinds.specs.Kinds.{isIn}
 use Rattle.modes.specs.Table.{entered, stepOf, olderOf}
 use Rattle.modes.specs.declared.Mode.the-variants.{Nominal}
 use Rattle.modes.specs.declared.ModeAge.{ModeAge}
@@ -23,27 +24,26 @@ use Rattle.settings.specs.Table.{lies, rowOf, find, readWriteRows, readOnlyRows
 use Rattle.settings.specs.Values.{settingOf, defaultsOf, defaultN}
 use Rattle.watchdog.proofs.Laws.{disabled, early}
 use Rattle.power.specs.Machine as small
-use Rattle.power.specs.Runs.{OffAtMost}
+use Rattle.power.specs.Runs.{channel, OffAtMost}
 use Rattle.power.specs.Claim.{mostOff, Powered}
 use Rattle.power.proofs.Tight.{all-off}
 use Rattle.command.specs.Table as codes
-use Rattle.command.specs.Codes.{isIn, baseCodes}
-use Rattle.command.specs.Decode.{fewerThanFour, headerIs, carried, listed, decodeBy, decodeOf}
-use Rattle.command.specs.declared.Command.the-variants.{NoOperation}
-use Rattle.command.specs.declared.Decoded.the-variants.{Run}
+use Rattle.command.specs.Decode.{fewerThanFour, headerIs, carried, listed, decodeOf}
+use Rattle.command.specs.Checks.{first, headerDiffers, idWrong, checks}
 use Rattle.memory.specs.Memory.{emptyStore, loadedFrom}
 use Rattle.memory.specs.Limits.{safetyLow, safetyHigh, timeoutOf, limitsOf}
 use Rattle.memory.specs.declared.Memory.{Memory}
 use Rattle.memory.proofs.Examples.{default-limits}
-use Rattle.state.specs.Parts.{modeOf, withPhase}
-use Rattle.state.specs.Start.{freshOf, neverReset, keepsTheRules, startOf, commandResetOf, byCommand}
+use Rattle.state.specs.Parts.{modeOf, wordCount, withPhase}
+use Rattle.state.specs.Start.{freshOf, neverReset, bidInRange, anyFitted, channelsInPlace, keepsTheRules, startOf, commandResetOf, byCommand}
 use Rattle.change.specs.Change.{isDark, fromNominalToSafety, leavesEmergency, enteringOf, timerAfter, resetsAfter}
 use Rattle.state.specs.declared.parts.Board.{Board}
 use Rattle.state.specs.declared.parts.Profile.{Profile}
-use Rattle.answers.specs.Answers.{headerOf, acceptedWith, acceptedOf}
+use Rattle.answers.specs.Answers.{acceptedWith, acceptedOf}
 use Rattle.answers.specs.declared.Outcome.the-variants.{NoTransfer}
 use Rattle.effects.specs.Effects.{restartedOf, runOf}
-use Rattle.commands.specs.Step.{isStartup, decodedOf, transferredOf, commandedOf}
+use Rattle.asking.specs.Checks.{isStartup, channelCodes, unavailable, channelWrong, checksumWrong, checksOf}
+use Rattle.commands.specs.Step.{returning, transferredOf, commandedOf}
 use Rattle.board.specs.Tick.{broughtBy, risenOf, changedOf, trippedOf, watchedAs, watchedIn, tickWith, allowedCount, tickOf}
 use Rattle.board.specs.declared.Ticked.{Ticked}
 use Rattle.unit.specs.Machine.{noMachine, begunOf, toldBy, toldOf}
@@ -52,7 +52,7 @@ use Rattle.unit.specs.declared.Machine.{Machine}
 use Rattle.unit.specs.declared.Told.{Told}
 use Rattle.groups.specs.Resets.{tellsWatchdogReset, tellsCommandReset, tellsReset}
 use Rattle.unit.specs.Runs.{Sample, told, Call, tick, afterCall, after, Reached}
-use Rattle.claims.specs.Power.{isOn, ForceEnabledBy, ForceEnabled, channelOf, Undisturbed, EachTick, AtLeastOne, NoneLatched, limits}
+use Rattle.claims.specs.Power.{isOn, isTick, ForceEnabledBy, ForceEnabled, channelOf, Undisturbed, EachTick, AtLeastOne, NoneLatched, limits}
 use Rattle.claims.specs.PowerReal.{profile, started, dead}
 use Rattle.claims.specs.PowerNeeded.{Fails, ButReset, ButOvercurrent, PowerNeeded}
 use Rattle.claims.proofs.Profiles.{after-profile}
@@ -100,7 +100,7 @@ record Computed : Type 0 where
 
 -- by computation alone
 computed : Computed
-unfolding after begunOf startOf keepsTheRules isWithin allBelow has setOf listOf whole overcurrentAt allOff forcedOn commandEnabledOff cleared freshOf neverReset loadedFrom emptyStore toldOf tickOf tickWith allowedCount broughtBy risenOf changedOf trippedOf watchedIn commandedOf isDark fromNominalToSafety leavesEmergency enteringOf timerAfter resetsAfter dog.risenOf dog.watchedOf timeoutOf limitsOf safetyLow safetyHigh settingOf parameterOf rowOf find readWriteRows readOnlyRows lies defaultsOf defaultN column defaultOf clampOf atLeast atMost lowOf highOf stepOf olderOf transferredOf decodedOf isStartup decodeOf decodeBy fewerThanFour headerIs isIn baseCodes listed carried codes.find codes.commandTable runOf restartedOf commandResetOf byCommand
+unfolding after begunOf startOf keepsTheRules bidInRange channelsInPlace anyFitted isWithin allBelow has setOf listOf whole overcurrentAt allOff forcedOn commandEnabledOff cleared freshOf neverReset loadedFrom emptyStore toldOf tickOf tickWith allowedCount broughtBy risenOf changedOf trippedOf watchedIn commandedOf isDark fromNominalToSafety leavesEmergency enteringOf timerAfter resetsAfter dog.risenOf dog.watchedOf timeoutOf limitsOf safetyLow safetyHigh settingOf parameterOf rowOf find readWriteRows readOnlyRows lies defaultsOf defaultN column defaultOf clampOf atLeast atMost lowOf highOf stepOf olderOf transferredOf returning first checksOf checks headerDiffers idWrong unavailable channelCodes channelWrong checksumWrong isStartup decodeOf fewerThanFour headerIs isIn listed carried codes.find codes.commandTable runOf restartedOf commandResetOf byCommand
 computed =
     record {
       restart-line = refl;
@@ -193,13 +193,8 @@ at-zero (suc w) = early 0 (suc w) (omega arith) (omega arith) (omega arith)
 
 -- the NOOP is accepted, and feeds the timer
 accepts-noop : (rail : ℤ) (limits : Limits) (b : Board) → modeOf b ≡ Nominal → b .profile ≡ profile → commandedOf rail limits true (fed .transfer) b ≡ acceptedOf 0x02 b
-unfolding commandedOf transferredOf decodedOf isStartup decodeOf decodeBy fewerThanFour headerIs isIn baseCodes listed carried codes.find codes.commandTable runOf
-accepts-noop rail limits b nominal of = rw (nominal, ap (λ (p : Profile). p .bid) of)
-
--- to this board the bytes are a NOOP
-reads-noop : (p : Profile) → p ≡ profile → decodeOf (headerOf p) (fed .transfer) ≡ Run NoOperation
-unfolding decodeOf decodeBy fewerThanFour headerIs isIn baseCodes listed carried codes.find codes.commandTable
-reads-noop p of = rw of
+unfolding commandedOf transferredOf returning first checksOf checks headerDiffers idWrong unavailable channelCodes channelWrong checksumWrong isStartup decodeOf fewerThanFour headerIs isIn listed carried codes.find codes.commandTable runOf
+accepts-noop rail limits b nominal of = rw (nominal, of)
 
 -- the timer that it leaves is 0, so nothing happens
 noop-watched : (b : Board) → watchedIn (acceptedOf 0x02 b) ≡ watchedAs NoEvent (acceptedOf 0x02 b)
@@ -281,11 +276,14 @@ stuck-ticks : (n : ℕ) (m : Machine) → Stuck m → EachTick Undisturbed m (re
 stuck-ticks zero m stuck = tt
 stuck-ticks (suc n) m stuck = (λ e. fed-undisturbed m stuck, stuck-ticks n (afterCall m (tick fed)) (still-stuck m stuck))
 
--- channel 0 is off at the end of each tick
-stuck-line : (n : ℕ) (m : Machine) → Stuck m → channelOf 0 m (replicate n (tick fed)) ≡ replicate (suc n) false
+-- channel 0 is off at the end of each tick, whatever the board's number of words: none are lent
+stuck-by : (number n : ℕ) (m : Machine) → Stuck m → channel afterCall (isTick number) (isOn 0) m (replicate n (tick fed)) ≡ replicate (suc n) false
 unfolding allowedCount
-stuck-line zero m stuck = rw (stuck .off)
-stuck-line (suc n) m stuck = rw (stuck .off) (ap (λ (l : List Bool). false ∷ l) (stuck-line n (afterCall m (tick fed)) (still-stuck m stuck)))
+stuck-by number zero m stuck = rw (stuck .off)
+stuck-by number (suc n) m stuck = rw (stuck .off) (ap (λ (l : List Bool). false ∷ l) (stuck-by number n (afterCall m (tick fed)) (still-stuck m stuck)))
+
+stuck-line : (n : ℕ) (m : Machine) → Stuck m → channelOf 0 m (replicate n (tick fed)) ≡ replicate (suc n) false
+stuck-line n m stuck = stuck-by (wordCount (m .board)) n m stuck
 
 -- that is n ticks and the state before them
 off-for : (n most : ℕ) (m : Machine) → Stuck m → OffAtMost most (channelOf 0 m (replicate n (tick fed))) → suc n ≤ most

@@ -28,10 +28,10 @@ use Rattle.memory.specs.Memory.{emptyStore, withDefaults, loadedFrom}
 use Rattle.memory.specs.Limits.{timeoutOf, limitsOf}
 use Rattle.memory.specs.declared.Memory.{Memory}
 use Rattle.memory.proofs.Examples.{default-limits, default-timeout}
-use Rattle.state.specs.Parts.{modeOf}
+use Rattle.state.specs.Parts.{modeOf, wordCount}
 use Rattle.change.specs.Change.{isDark, timerAfter}
 use Rattle.state.specs.declared.parts.Board.{Board}
-use Rattle.state.specs.Start.{freshOf, neverReset, keepsTheRules, startOf}
+use Rattle.state.specs.Start.{freshOf, neverReset, bidInRange, anyFitted, channelsInPlace, keepsTheRules, startOf}
 use Rattle.answers.specs.declared.Outcome.the-variants.{NoTransfer}
 use Rattle.commands.specs.Step.{commandedOf}
 use Rattle.board.specs.Tick.{risenOf, changedOf, trippedOf, watchedIn, tickWith, allowedCount, tickOf}
@@ -172,21 +172,21 @@ low =
 is-low : Low low
 is-low = record { below-safety-low = refl; below-safety-high = refl; below-emergency-low = refl; below-emergency-high = refl; no-command = refl }
 
--- n ticks are n times that input
-calm-inputs : (n : ℕ) (m : Machine) → Calm m → inputs afterCall isTick input m (replicate n dead) ≡ replicate n low
+-- n ticks are n times that input, whatever the board's number of words: none are lent
+calm-inputs : (number n : ℕ) (m : Machine) → Calm m → inputs afterCall (isTick number) input m (replicate n dead) ≡ replicate n low
 unfolding allowedCount
-calm-inputs zero m calm = refl
-calm-inputs (suc n) m calm =
-    rw (own (m .board) (calm .kept) (calm .rests)) (ap (λ (is : List small.Input). low ∷ is) (calm-inputs n (afterCall m dead) (still-calm m calm)))
+calm-inputs number zero m calm = refl
+calm-inputs number (suc n) m calm =
+    rw (own (m .board) (calm .kept) (calm .rests)) (ap (λ (is : List small.Input). low ∷ is) (calm-inputs number n (afterCall m dead) (still-calm m calm)))
 
 -- ---- the board
 pub started-calm : Calm started
-unfolding begunOf startOf keepsTheRules isWithin allBelow has freshOf loadedFrom emptyStore
+unfolding begunOf startOf keepsTheRules bidInRange channelsInPlace anyFitted isWithin allBelow has freshOf loadedFrom emptyStore
 started-calm = record { kept = refl; rests = refl }
 
 -- the profile keeps the rules
 pub accepted : keepsTheRules profile emptyStore ≡ true
-unfolding keepsTheRules isWithin allBelow has emptyStore
+unfolding keepsTheRules bidInRange channelsInPlace anyFitted isWithin allBelow has emptyStore
 accepted = refl
 
 -- the start alone is reached
@@ -222,7 +222,7 @@ started-small k fe = ap (seen k) started-is ∙ ap (λ (o : Bool). record { phas
 any-number : (k : ℕ) → ForceEnabled k started → (n : ℕ) → channelOf k started (replicate n dead) ≡ channel (small.tick times) (λ i. true) (λ x. x .on) small.start (replicate n low)
 any-number k fe n =
     same-line k started (in-touch k started reached fe (λ e. none-latched k fe)) (replicate n dead) (spares-each k (replicate n dead) started fe (calm-ticks n started started-calm))
-    ∙ ap (λ (is : List small.Input). channel (small.tick times) (λ i. true) (λ x. x .on) (small-of k started) is) (calm-inputs n started started-calm)
+    ∙ ap (λ (is : List small.Input). channel (small.tick times) (λ i. true) (λ x. x .on) (small-of k started) is) (calm-inputs (wordCount (started .board)) n started started-calm)
     ∙ ap (λ (s : small.State). channel (small.tick times) (λ i. true) (λ x. x .on) s (replicate n low)) (started-small k fe)
 
 -- turns of equal lengths are the same

@@ -26,14 +26,13 @@ use Rattle.command.specs.Decode.{decodeOf}
 use Rattle.command.specs.declared.Decoded.{Decoded}
 use Rattle.memory.specs.Limits.{limitsOf}
 use Rattle.memory.specs.declared.Store.{Store}
-use Rattle.state.specs.Parts.{modeOf}
+use Rattle.state.specs.Parts.{modeOf, wordCount}
 use Rattle.state.specs.Start.{freshOf, commandResetOf, watchdogResetOf}
 use Rattle.state.specs.declared.parts.Board.{Board}
 use Rattle.state.specs.declared.parts.Profile.{Profile}
 use Rattle.state.specs.declared.parts.Resets.{Resets}
-use Rattle.answers.specs.Answers.{headerOf}
 use Rattle.answers.specs.declared.Commanded.{Commanded}
-use Rattle.commands.specs.Step.{isStartup}
+use Rattle.asking.specs.Checks.{isStartup}
 use Rattle.board.specs.Tick.{risenOf, changedOf, trippedOf, watchedAs, allowedCount, tickOf}
 use Rattle.board.specs.declared.Ticked.{Ticked}
 use Rattle.claims.specs.Power.{ForceEnabledBy}
@@ -166,7 +165,7 @@ module _ (k : ℕ) (rail : ℤ) (named : ℕ) (words : List ℕ) (sent : Bool) (
 
   -- what the transfer is, and what it is to the small machine
   abbrev reading : Decoded
-  reading = decodeOf (headerOf (b .profile)) s
+  reading = decodeOf (b .profile .kind) (b .profile .bid) false s
 
   abbrev ask : small.Command
   ask = cond sent (asked reading) small.other
@@ -201,7 +200,7 @@ module _ (k : ℕ) (rail : ℤ) (named : ℕ) (words : List ℕ) (sent : Bool) (
   does = at-channel k settled fe rail own reading ask answered (step rail own settled s sent)
 
   -- step 5
-  module _ (allowed : allowedCount (length words) ≡ true) where
+  module _ (allowed : allowedCount (wordCount b) (length words) ≡ true) where
     abbrev after : Ticked
     after = tickOf rail named words sent s b
 

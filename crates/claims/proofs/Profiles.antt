@@ -10,6 +10,7 @@ use Rattle.modes.specs.declared.ModeAnswer as change
 use Rattle.power.specs.Machine as small
 use Rattle.command.specs.declared.Decoded.{Decoded}
 use Rattle.memory.specs.Limits.{limitsOf}
+use Rattle.state.specs.Parts.{wordCount}
 use Rattle.state.specs.Start.{freshOf, commandResetOf, watchdogResetOf}
 use Rattle.state.specs.declared.parts.Board.{Board}
 use Rattle.answers.specs.declared.Commanded.{Commanded}
@@ -44,7 +45,7 @@ commanded : (rail : ℤ) (limits : Limits) (sent : Bool) (s : List ℕ) (b : Boa
 commanded rail limits sent s b = done rail limits _ _ b _ (step rail limits b s sent)
 
 -- ---- the tick
-pub tick-profile : (m : Machine) (i : Sample) → isTick (tick i) ≡ true → told m i .machine .board .profile ≡ m .board .profile
+pub tick-profile : (m : Machine) (i : Sample) → isTick (wordCount (m .board)) (tick i) ≡ true → told m i .machine .board .profile ≡ m .board .profile
 unfolding toldOf watchdogResetOf freshOf risenOf changedOf trippedOf
 tick-profile m i happens =
     let kept = commanded (i .rail) (limitsOf (m .board .memory)) (i .sent) (i .transfer) (trippedOf (i .named) (changedOf (i .rail) (limitsOf (m .board .memory)) (risenOf (i .words) (m .board)))) in
@@ -54,7 +55,7 @@ tick-profile m i happens =
 pub call-profile : (m : Machine) (call : Call) → afterCall m call .board .profile ≡ m .board .profile
 call-profile m call = by-call (λ b. b .profile ≡ m .board .profile) (λ form b e. e) ticks m call refl
   where
-    ticks : (x : Machine) (i : Sample) → isTick (tick i) ≡ true → x .board .profile ≡ m .board .profile → told x i .machine .board .profile ≡ m .board .profile
+    ticks : (x : Machine) (i : Sample) → isTick (wordCount (x .board)) (tick i) ≡ true → x .board .profile ≡ m .board .profile → told x i .machine .board .profile ≡ m .board .profile
     ticks x i happens e = tick-profile x i happens ∙ e
 
 -- nor do any calls

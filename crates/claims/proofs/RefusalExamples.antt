@@ -11,13 +11,15 @@ use Rattle.modes.specs.Table.{stepOf, olderOf}
 use Rattle.modes.specs.declared.Mode.the-variants.{Nominal}
 use Rattle.watchdog.specs.Watchdog as dog
 use Rattle.watchdog.specs.declared.Event.the-variants.{PeripheralReset, WatchdogReset}
-use Rattle.command.specs.Decode.{fewerThanFour, headerIs, decodeBy, decodeOf}
+use Rattle.command.specs.Decode.{fewerThanFour}
+use Rattle.command.specs.Checks.{first, headerDiffers, checks}
 use Rattle.memory.specs.Memory.{emptyStore, loadedFrom, setIn}
 use Rattle.memory.specs.Limits.{safetyLow, safetyHigh, timeoutOf, limitsOf}
 use Rattle.state.specs.Start.{freshOf}
 use Rattle.change.specs.Change.{isDark, timerAfter}
 use Rattle.answers.specs.Answers.{notThisBoardOf}
-use Rattle.commands.specs.Step.{isStartup, turnedDown, decodedOf, transferredOf, commandedOf}
+use Rattle.asking.specs.Checks.{isStartup, checksOf}
+use Rattle.commands.specs.Step.{returning, transferredOf, commandedOf}
 use Rattle.board.specs.Tick.{risenOf, changedOf, trippedOf, watchedIn, tickWith, allowedCount, tickOf}
 use Rattle.framing.specs.declared.Due.the-variants.{Nothing}
 use Rattle.unit.specs.Machine.{toldOf}
@@ -37,5 +39,5 @@ forBoard2 = record { rail = + 15000; named = 0; words = []; sent = true; transfe
 pub refused-and-not-fed :
     (map (λ timer. tickAnswer (waiting timer) forBoard2) (650 ∷ 1000 ∷ []) ≡ some 3 ∷ some 3 ∷ [])
     × (map (λ timer. told (waiting timer) forBoard2 .event) (650 ∷ 1000 ∷ []) ≡ PeripheralReset ∷ WatchdogReset ∷ [])
-unfolding toldOf tickOf allowedCount limitsOf safetyLow safetyHigh set tickWith risenOf olderOf dog.risenOf changedOf stepOf isDark timerAfter trippedOf commandedOf transferredOf isStartup fewerThanFour decodedOf decodeOf decodeBy headerIs turnedDown notThisBoardOf watchedIn dog.watchedOf timeoutOf settingOf tables.parameterOf tables.rowOf tables.find tables.readWriteRows tables.lies setIn setOf withNumber tables.same tables.clampOf tables.atLeast tables.atMost tables.lowOf tables.highOf defaultsOf defaultN tables.column tables.defaultOf freshOf loadedFrom emptyStore
+unfolding toldOf tickOf allowedCount limitsOf safetyLow safetyHigh set tickWith risenOf olderOf dog.risenOf changedOf stepOf isDark timerAfter trippedOf commandedOf transferredOf returning first checksOf checks headerDiffers isStartup fewerThanFour notThisBoardOf watchedIn dog.watchedOf timeoutOf settingOf tables.parameterOf tables.rowOf tables.find tables.readWriteRows tables.lies setIn setOf withNumber tables.same tables.clampOf tables.atLeast tables.atMost tables.lowOf tables.highOf defaultsOf defaultN tables.column tables.defaultOf freshOf loadedFrom emptyStore
 refused-and-not-fed = (refl, refl)

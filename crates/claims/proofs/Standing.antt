@@ -3,6 +3,7 @@
 use Prim.Native.Nat.{ℕ}
 use mathlib.Core.Path.{_≡_, subst}
 use mathlib.Core.Bool.{true}
+use Rattle.state.specs.Parts.{wordCount}
 use Rattle.state.specs.Start.{neverReset}
 use Rattle.state.specs.declared.parts.Profile.{Profile}
 use Rattle.unit.specs.Machine.{toldOf}
@@ -15,7 +16,7 @@ use Rattle.claims.proofs.Profiles.{tick-profile}
 use Rattle.claims.proofs.PowerTick.{fresh-stands, tick-stands}
 
 -- a tick leaves the channel standing, where it is force-enabled: the profile is as it was
-ticks : (k : ℕ) (m : Machine) (i : Sample) → isTick (tick i) ≡ true → (ForceEnabled k m → Stands k (m .board)) → ForceEnabled k (told m i .machine) → Stands k (told m i .machine .board)
+ticks : (k : ℕ) (m : Machine) (i : Sample) → isTick (wordCount (m .board)) (tick i) ≡ true → (ForceEnabled k m → Stands k (m .board)) → ForceEnabled k (told m i .machine) → Stands k (told m i .machine .board)
 unfolding toldOf
 ticks k m i happens w fe =
     let before : ForceEnabled k m = subst (λ (p : Profile). ForceEnabledBy p k) (tick-profile m i happens) fe in

@@ -8,6 +8,7 @@ use mathlib.Core.List.{List, [], _∷_}
 use mathlib.Core.Option.{some}
 use lib.ListN.{getD, replicate}
 use native.Mathlib.Omega.{arith}
+use Rattle.kinds.specs.Kinds.{isIn}
 use Rattle.wire.specs.Numbers.{bytesOf, number}
 use Rattle.wire.specs.Replies.{shown, written, replyOf, room, laidOut, replyCode}
 use Rattle.settings.specs.Table.{lies, rowOf, find, readWriteRows, readOnlyRows, parameterOf, column, defaultOf, clampOf, atLeast, atMost, lowOf, highOf}
@@ -21,20 +22,21 @@ use Rattle.channels.specs.Chan.{Chan, whole}
 use Rattle.channels.specs.Operations.{cleared, forcedOn, allOff, overcurrentAt, commandEnabledOff, groupOn}
 use Rattle.channels.specs.Counting.{countAll}
 use Rattle.command.specs.Table as commands
-use Rattle.command.specs.Codes.{isIn, baseCodes}
-use Rattle.command.specs.Decode.{fewerThanFour, headerIs, groupIn, carried, listed, decodeBy, decodeOf}
+use Rattle.command.specs.Decode.{fewerThanFour, headerIs, groupIn, carried, listed, decodeOf}
+use Rattle.command.specs.Checks.{first, headerDiffers, idWrong, checks}
 use Rattle.watchdog.specs.Watchdog as dog
 use Rattle.memory.specs.Limits.{limitsOf, safetyLow, safetyHigh, timeoutOf}
 use Rattle.memory.specs.Memory.{emptyStore, loadedFrom}
 use Rattle.replies.specs.Layouts.{shortReply, faultsReply, channelWords}
-use Rattle.state.specs.Parts.{withPhase, withChannels}
-use Rattle.state.specs.Start.{freshOf, keepsTheRules, startOf, neverReset}
+use Rattle.state.specs.Parts.{wordCount, withPhase, withChannels}
+use Rattle.state.specs.Start.{freshOf, bidInRange, anyFitted, channelsInPlace, keepsTheRules, startOf, neverReset}
 use Rattle.change.specs.Change.{isDark, fromNominalToSafety, enteringOf, timerAfter, resetsAfter, leavesEmergency}
 use Rattle.answers.specs.Answers.{answerNumber, acceptedWith, acceptedOf, refusedOf, notThisBoardOf}
 use Rattle.answers.specs.declared.Answer.{Answer}
 use Rattle.answers.specs.declared.Answer.the-variants.{Accepted, FewerThanFourBytes, InStartup, NotThisBoard, CodeNotListed, TooShort, NotAvailable, Wrong}
 use Rattle.effects.specs.Effects.{isNominal, switchedOf, groupOnOf, switchedModeOf, faultsOf, runOf}
-use Rattle.commands.specs.Step.{isStartup, decodedOf, transferredOf, commandedOf}
+use Rattle.asking.specs.Checks.{isStartup, channelCodes, unavailable, channelWrong, checksumWrong, checksOf}
+use Rattle.commands.specs.Step.{returning, transferredOf, commandedOf}
 use Rattle.commands.proofs.Told.{same-number}
 use Rattle.board.specs.Tick.{broughtBy, risenOf, changedOf, trippedOf, watchedIn, tickWith, allowedCount, tickOf}
 use Rattle.framing.specs.declared.Due.the-variants.{Nothing}
@@ -59,12 +61,12 @@ woken = record { board = withPhase (entered Nominal) (withChannels (forcedOn 0b1
 
 -- those 50 ticks, worked out
 pub awake-is : awake ≡ woken
-unfolding after begunOf startOf keepsTheRules isWithin allBelow has setOf listOf whole cleared forcedOn allOff overcurrentAt freshOf loadedFrom emptyStore toldOf tickOf tickWith allowedCount broughtBy risenOf changedOf trippedOf watchedIn commandedOf olderOf stepOf dog.risenOf dog.watchedOf isDark fromNominalToSafety enteringOf timerAfter resetsAfter leavesEmergency limitsOf safetyLow safetyHigh timeoutOf settingOf parameterOf rowOf find readWriteRows readOnlyRows lies defaultsOf defaultN column defaultOf clampOf atLeast atMost lowOf highOf
+unfolding after begunOf startOf keepsTheRules bidInRange channelsInPlace anyFitted isWithin allBelow has setOf listOf whole cleared forcedOn allOff overcurrentAt freshOf loadedFrom emptyStore toldOf tickOf tickWith allowedCount broughtBy risenOf changedOf trippedOf watchedIn commandedOf olderOf stepOf dog.risenOf dog.watchedOf isDark fromNominalToSafety enteringOf timerAfter resetsAfter leavesEmergency limitsOf safetyLow safetyHigh timeoutOf settingOf parameterOf rowOf find readWriteRows readOnlyRows lies defaultsOf defaultN column defaultOf clampOf atLeast atMost lowOf highOf
 awake-is = refl
 
 -- the profile keeps document 01's rules, so the machine is one that can be reached
 pub awake-reached : Reached awake
-unfolding keepsTheRules isWithin allBelow has emptyStore
+unfolding keepsTheRules bidInRange channelsInPlace anyFitted isWithin allBelow has emptyStore
 awake-reached = record { there = noMachine; profile = profile; store = emptyStore; accepted = refl; past = replicate 50 (tick (quiet 15000)); is = refl }
 
 -- a program is caught by what the two then show
@@ -79,7 +81,7 @@ caught {p} {sees} {before} {last} r w d =
 
 -- each run, worked out
 pub all-caught : AllCaught
-unfolding stateAfter tickedWith refusing replyingNoop stayingInSafety unchanged countingAllNamed countAll groupOn groupIn number bytesOf shown written replyOf room laidOut replyCode shortReply faultsReply channelWords commands.commandTable commands.find isIn baseCodes fewerThanFour headerIs carried listed decodeBy decodeOf acceptedWith acceptedOf refusedOf notThisBoardOf isNominal switchedOf groupOnOf switchedModeOf faultsOf runOf isStartup decodedOf transferredOf toNominal has setOf listOf whole cleared forcedOn allOff overcurrentAt commandEnabledOff freshOf loadedFrom emptyStore toldOf tickOf tickWith allowedCount broughtBy risenOf changedOf trippedOf watchedIn commandedOf olderOf stepOf dog.risenOf dog.watchedOf isDark fromNominalToSafety enteringOf timerAfter resetsAfter leavesEmergency limitsOf safetyLow safetyHigh timeoutOf settingOf parameterOf rowOf find readWriteRows readOnlyRows lies defaultsOf defaultN column defaultOf clampOf atLeast atMost lowOf highOf
+unfolding stateAfter tickedWith refusing replyingNoop stayingInSafety unchanged countingAllNamed countAll groupOn groupIn number bytesOf shown written replyOf room laidOut replyCode shortReply faultsReply channelWords commands.commandTable commands.find isIn fewerThanFour headerIs carried listed decodeOf acceptedWith acceptedOf refusedOf notThisBoardOf isNominal switchedOf groupOnOf switchedModeOf faultsOf runOf isStartup transferredOf returning first checksOf checks headerDiffers idWrong unavailable channelCodes channelWrong checksumWrong toNominal has setOf listOf whole cleared forcedOn allOff overcurrentAt commandEnabledOff freshOf loadedFrom emptyStore toldOf tickOf tickWith allowedCount broughtBy risenOf changedOf trippedOf watchedIn commandedOf olderOf stepOf dog.risenOf dog.watchedOf isDark fromNominalToSafety enteringOf timerAfter resetsAfter leavesEmergency limitsOf safetyLow safetyHigh timeoutOf settingOf parameterOf rowOf find readWriteRows readOnlyRows lies defaultsOf defaultN column defaultOf clampOf atLeast atMost lowOf highOf
 all-caught =
     record {
       refuses-all = λ a refusal. caught refl (refused a refusal) (λ e. refusal (let z : 0 ≡ answerNumber a = cc in sym z));
@@ -114,7 +116,7 @@ stayed = lastTold wrong.staysInSafety lingering [] (quiet 15000)
 
 record Told-besides : Type 0 where
   noop-replied : lastTold wrong.answersNoop awake [] (sending 15000 wrong.groupOn) .replied ≡ true
-  lingering-happens : happens (quiet 15000) ≡ true
+  lingering-happens : happens (wordCount (lingering .board)) (quiet 15000) ≡ true
   lingering-no-reset : isByWatchdog (stayed .event) ≡ false
   lingering-no-command : wrong.tellsAcceptanceOf (0xAA ∷ 0x30 ∷ 0x32 ∷ []) (quiet 15000) stayed ≡ false
   lingering-stays : wrong.mode stayed ≡ Safety
@@ -126,7 +128,7 @@ record Told-besides : Type 0 where
   made-up-count : getD (lastTold wrong.makesUpCounts awake [] (wrong.reporting 0b0010 wrong.faults) .machine .board .channels .counts) 1 0 ≡ 1
 
 told-besides : Told-besides
-unfolding stateAfter tickedWith refusing replyingNoop stayingInSafety unchanged countingAllNamed countAll groupOn groupIn number bytesOf shown written replyOf room laidOut replyCode shortReply faultsReply channelWords commands.commandTable commands.find isIn baseCodes fewerThanFour headerIs carried listed decodeBy decodeOf acceptedWith acceptedOf refusedOf notThisBoardOf isNominal switchedOf groupOnOf switchedModeOf faultsOf runOf isStartup decodedOf transferredOf toNominal has setOf listOf whole cleared forcedOn allOff overcurrentAt commandEnabledOff freshOf loadedFrom emptyStore toldOf tickOf tickWith allowedCount broughtBy risenOf changedOf trippedOf watchedIn commandedOf olderOf stepOf dog.risenOf dog.watchedOf isDark fromNominalToSafety enteringOf timerAfter resetsAfter leavesEmergency limitsOf safetyLow safetyHigh timeoutOf settingOf parameterOf rowOf find readWriteRows readOnlyRows lies defaultsOf defaultN column defaultOf clampOf atLeast atMost lowOf highOf
+unfolding stateAfter tickedWith refusing replyingNoop stayingInSafety unchanged countingAllNamed countAll groupOn groupIn number bytesOf shown written replyOf room laidOut replyCode shortReply faultsReply channelWords commands.commandTable commands.find isIn fewerThanFour headerIs carried listed decodeOf acceptedWith acceptedOf refusedOf notThisBoardOf isNominal switchedOf groupOnOf switchedModeOf faultsOf runOf isStartup transferredOf returning first checksOf checks headerDiffers idWrong unavailable channelCodes channelWrong checksumWrong toNominal has setOf listOf whole cleared forcedOn allOff overcurrentAt commandEnabledOff freshOf loadedFrom emptyStore toldOf tickOf tickWith allowedCount broughtBy risenOf changedOf trippedOf watchedIn commandedOf olderOf stepOf dog.risenOf dog.watchedOf isDark fromNominalToSafety enteringOf timerAfter resetsAfter leavesEmergency limitsOf safetyLow safetyHigh timeoutOf settingOf parameterOf rowOf find readWriteRows readOnlyRows lies defaultsOf defaultN column defaultOf clampOf atLeast atMost lowOf highOf
 told-besides =
     record {
       noop-replied = awake-too (λ m. lastTold wrong.answersNoop m [] (sending 15000 wrong.groupOn) .replied) true refl;

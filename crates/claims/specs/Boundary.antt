@@ -16,7 +16,7 @@ use Rattle.modes.specs.declared.Mode.the-variants.{Startup, Nominal, Safety, Em
 use Rattle.watchdog.specs.declared.Event.{Event}
 use Rattle.watchdog.specs.declared.Event.the-variants.{PeripheralReset, WatchdogReset}
 use Rattle.memory.specs.Memory.{emptyStore, setIn}
-use Rattle.state.specs.{Parts.withPhase, Parts.withTimer, Parts.withMemory, Parts.withChannels, Start.freshOf, Start.neverReset}
+use Rattle.state.specs.{Parts.distributionBoard, Parts.withPhase, Parts.withTimer, Parts.withMemory, Parts.withChannels, Start.freshOf, Start.neverReset}
 use Rattle.state.specs.declared.parts.Board.{Board}
 use Rattle.answers.specs.Answers.{toldNumber}
 use Rattle.board.specs.{Tick.tickWith, declared.Ticked.Ticked}
@@ -113,7 +113,7 @@ limits =
 -- board 1, started with nothing stored and then brought into a mode, at an age that the rise of the tick makes one
 -- higher
 abbrev pub boardIn : Mode → ℕ → List ℕ → List ℕ → Board
-boardIn m age fs gs = withPhase (m aged (age - 1)) (freshOf (record { fitted = set fs; forced = set gs; bid = 1 }) emptyStore neverReset)
+boardIn m age fs gs = withPhase (m aged (age - 1)) (freshOf (distributionBoard 1 (set fs) (set gs)) emptyStore neverReset)
 
 abbrev pub someBoard : Mode → ℕ → Board
 someBoard m age = boardIn m age (0 ∷ []) (0 ∷ [])

@@ -12,7 +12,7 @@ use Rattle.modes.specs.declared.Limits.{Limits}
 use Rattle.channels.specs.Sets.{has}
 use Rattle.power.specs.{Runs.ends, Runs.channel, Runs.Stretch, Claim.Powered}
 use Rattle.memory.specs.Limits.{limitsOf}
-use Rattle.state.specs.declared.parts.Profile.{Profile}
+use Rattle.state.specs.{Parts.wordCount, declared.parts.Profile.Profile}
 use Rattle.unit.specs.declared.Machine.{Machine}
 use Rattle.unit.specs.Runs.{Sample, told, happens, Call, tick, line, afterCall, Reached}
 use Rattle.groups.specs.Resets.{tellsReset}
@@ -31,17 +31,17 @@ pub record ForceEnabledBy (p : Profile) (k : ℕ) : Type 0 where
 abbrev pub ForceEnabled : ℕ → Machine → Type 0
 ForceEnabled k m = ForceEnabledBy (m .board .profile) k
 
--- a tick that happens
-abbrev pub isTick : Call → Bool
-isTick (tick i) = happens i
-isTick (line received room) = false
+-- a tick that happens on a board with that number of words
+abbrev pub isTick : ℕ → Call → Bool
+isTick number (tick i) = happens number i
+isTick number (line received room) = false
 
 -- channel k at the end of each tick of a stretch from m, and the same with the channel before the stretch in front
 abbrev pub endsOf : ℕ → Machine → List Call → List Bool
-endsOf k m calls = ends afterCall isTick (isOn k) m calls
+endsOf k m calls = ends afterCall (isTick (wordCount (m .board))) (isOn k) m calls
 
 abbrev pub channelOf : ℕ → Machine → List Call → List Bool
-channelOf k m calls = channel afterCall isTick (isOn k) m calls
+channelOf k m calls = channel afterCall (isTick (wordCount (m .board))) (isOn k) m calls
 
 -- ---- the stretch
 -- a tick resets the machine, by what it tells: a watchdog reset, or a 0xAA that it accepted. `ResetIsTold` of `groups`
@@ -57,7 +57,7 @@ pub record Undisturbed (m : Machine) (i : Sample) : Type 0 where
 
 -- each tick of the stretch from m that happens is as `Met` says, in the machine that it meets
 abbrev pub AtTicks : (Machine → Sample → Type 0) → Machine → Call → Type 0
-AtTicks Met m (tick i) = isTick (tick i) ≡ true → Met m i
+AtTicks Met m (tick i) = isTick (wordCount (m .board)) (tick i) ≡ true → Met m i
 AtTicks Met m (line received room) = Unit {0}
 
 abbrev pub EachTick : (Machine → Sample → Type 0) → Machine → List Call → Type 0

@@ -7,13 +7,13 @@ use Prim.Native.Nat.{ℕ}
 use lib.{IntN.pos, ListN.replicate}
 use Rattle.power.specs.{Runs.turns, Claim.mostOff, Claim.leastOn}
 use Rattle.memory.specs.Memory.{emptyStore}
-use Rattle.state.specs.declared.parts.Profile.{Profile}
+use Rattle.state.specs.{Parts.distributionBoard, declared.parts.Profile.Profile}
 use Rattle.unit.specs.{Machine.noMachine, Machine.begunOf, declared.Machine.Machine, Runs.Call, Runs.tick, Runs.Reached}
 use Rattle.claims.specs.Power.{ForceEnabled, channelOf, Undisturbed, EachTick, AtLeastOne, NoneLatched, limits}
 
 -- board 1 with channels 0 to 3, of which 0 and 1 are force-enabled; nothing is stored
 abbrev pub profile : Profile
-profile = record { fitted = 15; forced = 3; bid = 1 }
+profile = distributionBoard 1 15 3
 
 abbrev pub started : Machine
 started = begunOf noMachine profile emptyStore .machine

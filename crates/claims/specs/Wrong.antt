@@ -11,10 +11,11 @@ use Rattle.wire.specs.Replies.{shown, replyCode}
 use Rattle.modes.specs.{Table.same, Table.stepOf, Table.olderOf, declared.Mode.Mode, declared.Limits.Limits}
 use Rattle.modes.specs.declared.Mode.the-variants.{Nominal, Safety}
 use Rattle.channels.specs.{Chan.chan, Operations.overcurrentAt, Counting.countAll, declared.Channels.Channels}
-use Rattle.command.specs.{Codes.isIn, Decode.codeOf}
+use Rattle.kinds.specs.Kinds.{isIn}
+use Rattle.command.specs.Decode.{codeOf}
 use Rattle.memory.specs.{Limits.limitsOf, Memory.emptyStore, declared.Store.Store}
-use Rattle.state.specs.{Parts.modeOf, Parts.withPhase, Parts.withChannels, Parts.withReply, Start.keepsTheRules, declared.parts.Board.Board}
-use Rattle.state.specs.declared.parts.Profile.{Profile}
+use Rattle.state.specs.Parts.{distributionBoard, wordCount, modeOf, withPhase, withChannels, withReply}
+use Rattle.state.specs.{Start.keepsTheRules, declared.parts.Board.Board, declared.parts.Profile.Profile}
 use Rattle.answers.specs.Answers.{answerNumber, toldNumber, shortTo, silentOf, notThisBoardOf, refusedOf}
 use Rattle.answers.specs.{declared.Answer.Answer, declared.Commanded.Commanded}
 use Rattle.answers.specs.declared.Answer.the-variants.{Accepted, FewerThanFourBytes, InStartup, NotThisBoard, CodeNotListed, TooShort, NotAvailable, Wrong}
@@ -58,7 +59,7 @@ module _ (three : ℕ → Board → Board) (four : ℤ → Limits → Bool → L
   tickedWith i b =
       let limits = limitsOf (b .memory) in
       let changed = changedOf (i .rail) limits (risenOf (i .words) b) in
-      cond (not (allowedCount (length (i .words)))) (notHappened b)
+      cond (not (allowedCount (wordCount b) (length (i .words)))) (notHappened b)
       (watchedIn (four (i .rail) limits (i .sent) (i .transfer) (three (i .named) changed)))
 
   abbrev pub toldWith : Machine → Sample → Told
@@ -106,7 +107,7 @@ inPhaseOf b t =
     }
 
 unfoldable pub stayingInSafety : Machine → Sample → Told
-stayingInSafety m i = cond (happens i && same (modeOf (m .board)) Safety) (inPhaseOf (m .board) (told m i)) (told m i)
+stayingInSafety m i = cond (happens (wordCount (m .board)) i && same (modeOf (m .board)) Safety) (inPhaseOf (m .board) (told m i)) (told m i)
 
 abbrev pub staysInSafety : Program
 staysInSafety = showing stayingInSafety
@@ -144,7 +145,7 @@ makesUpCounts = showing (toldWith countingAllNamed commandedOf)
 -- ---- the runs
 -- board 1 has channels 0 to 3, of which 0 is forced
 abbrev pub profile : Profile
-profile = record { fitted = 0b1111; forced = 0b0001; bid = 1 }
+profile = distributionBoard 1 0b1111 0b0001
 
 abbrev pub begun : Machine
 begun = begunOf noMachine profile emptyStore .machine
@@ -234,7 +235,7 @@ AtTheFirstTick sentence p = (m : Machine) (first : Sample) → sentence m first 
 
 -- demand 1, the table's "exactly when": the number that is given to the transfer is told
 abbrev pub TellsWhatIsGiven : OfATick
-TellsWhatIsGiven m i t = (n : ℕ) → happens i ≡ true → i .sent ≡ true → Given (metIn m i) n → answer t ≡ some n
+TellsWhatIsGiven m i t = (n : ℕ) → happens (wordCount (m .board)) i ≡ true → i .sent ≡ true → Given (metIn m i) n → answer t ≡ some n
 
 -- demand 2: a reply's code, at byte 2, is the command's with the lowest bit set; a code is a byte by its type
 abbrev pub RepliesWithItsCode : OfATick
@@ -248,7 +249,7 @@ tellsAcceptanceOf codes i t = isAccepted (answer t) && isIn (codeOf (i .transfer
 -- 0x32 leaves mode and age as the table makes them of the mode one tick older
 abbrev pub MovesByTheTable : OfATick
 MovesByTheTable m i t =
-    happens i ≡ true → isByWatchdog (t .event) ≡ false → tellsAcceptanceOf (0xAA ∷ 0x30 ∷ 0x32 ∷ []) i t ≡ false
+    happens (wordCount (m .board)) i ≡ true → isByWatchdog (t .event) ≡ false → tellsAcceptanceOf (0xAA ∷ 0x30 ∷ 0x32 ∷ []) i t ≡ false
     → t .machine .board .phase ≡ stepOf (olderOf (m .board .phase)) (i .rail) (limitsOf (m .board .memory))
 
 -- demand 2: after an accepted 0x30 the mode is nominal

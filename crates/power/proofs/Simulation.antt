@@ -11,7 +11,7 @@ use Rattle.power.specs.Runs.{ends, channel, Stretch}
 pub record Simulates {S I S′ I′ : Type 0} (call : S → I → S) (isTick : I → Bool) (tick′ : S′ → I′ → S′) (Inv : S → Type 0) (Allowed : S → I → Type 0) (project : S → S′) (input : S → I → I′) : Type 0 where
   pub kept : (s : S) (i : I) → Inv s → Allowed s i → Inv (call s i)
   pub ticks : (s : S) (i : I) → Inv s → Allowed s i → isTick i ≡ true → project (call s i) ≡ tick′ (project s) (input s i)
-  pub rests : (s : S) (i : I) → isTick i ≡ false → project (call s i) ≡ project s
+  pub rests : (s : S) (i : I) → Inv s → isTick i ≡ false → project (call s i) ≡ project s
 
 -- what the ticks of a stretch are to the smaller machine
 module _ {S I I′ : Type 0} (call : S → I → S) (isTick : I → Bool) (input : S → I → I′) where
@@ -33,7 +33,7 @@ module _ {S I S′ I′ : Type 0} (call : S → I → S) (isTick : I → Bool) (
       let rest = same-ends is (call s i) (M .kept s i h (a .0)) (a .1) in
       cases (isTick i)
       (λ e. rw (e, ← M .ticks s i h (a .0) e) (ap (λ (l : List Bool). on (project (call s i)) ∷ l) rest))
-      (λ e. rw (e, ← M .rests s i e) rest)
+      (λ e. rw (e, ← M .rests s i h e) rest)
 
   -- the two machines have one list
   pub same-channel : (s : S) → Inv s → (is : List I) → Stretch call Allowed s is → channel call isTick (λ x. on (project x)) s is ≡ channel tick′ (λ i. true) on (project s) (inputs call isTick input s is)
