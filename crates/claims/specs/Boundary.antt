@@ -110,8 +110,8 @@ limits =
       «emergency_high» = + 6400;
     }
 
--- board 1, started with nothing stored and then brought into a mode, at an age that the rise of the tick makes one
--- higher
+-- distribution board 1, started with nothing stored and then brought into a mode, at an age that the rise of the tick
+-- makes one higher
 abbrev pub boardIn : Mode → ℕ → List ℕ → List ℕ → Board
 boardIn m age fs gs = withPhase (m aged (age - 1)) (freshOf (distributionBoard 1 (set fs) (set gs)) emptyStore neverReset)
 

@@ -11,7 +11,7 @@ use Rattle.state.specs.{Parts.distributionBoard, declared.parts.Profile.Profile
 use Rattle.unit.specs.{Machine.noMachine, Machine.begunOf, declared.Machine.Machine, Runs.Call, Runs.tick, Runs.Reached}
 use Rattle.claims.specs.Power.{ForceEnabled, channelOf, Undisturbed, EachTick, AtLeastOne, NoneLatched, limits}
 
--- board 1 with channels 0 to 3, of which 0 and 1 are force-enabled; nothing is stored
+-- distribution board 1 with channels 0 to 3, of which 0 and 1 are force-enabled; nothing is stored
 abbrev pub profile : Profile
 profile = distributionBoard 1 15 3
 

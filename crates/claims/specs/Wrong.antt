@@ -143,7 +143,7 @@ abbrev pub makesUpCounts : Program
 makesUpCounts = showing (toldWith countingAllNamed commandedOf)
 
 -- ---- the runs
--- board 1 has channels 0 to 3, of which 0 is forced
+-- distribution board 1 has channels 0 to 3, of which 0 is forced
 abbrev pub profile : Profile
 profile = distributionBoard 1 0b1111 0b0001
 
