@@ -20,7 +20,7 @@ use Rattle.replies.specs.Layouts.{shortReply}
 use Rattle.state.specs.Start.{freshOf, watchdogResetOf}
 use Rattle.change.specs.Change.{isDark, fromNominalToSafety, enteringOf, timerAfter}
 use Rattle.answers.specs.Answers.{acceptedWith, acceptedOf, refusedOf}
-use Rattle.effects.specs.Effects.{isNominal, switchedOf, groupOffOf, groupStateOf, runOf}
+use Rattle.effects.specs.Effects.{isNominal, switchedOf, groupOffOf, groupStateOf, reportedOf, runOf}
 use Rattle.asking.specs.Checks.{isStartup, channelCodes, unavailable, channelWrong, checksumWrong, checksOf}
 use Rattle.commands.specs.Step.{returning, transferredOf, commandedOf}
 use Rattle.board.specs.Tick.{risenOf, changedOf, trippedOf, watchedIn, tickWith}
@@ -37,7 +37,7 @@ in-one [] none = refl
 in-one (r ∷ rs) (p and ps) = rw (p, in-one rs ps)
 
 each-row : Each rows
-unfolding set rows tickWith risenOf olderOf dog.risenOf changedOf stepOf enteringOf isDark fromNominalToSafety timerAfter whole has setOf trippedOf overcurrentAt commandedOf transferredOf returning first checksOf checks headerDiffers idWrong unavailable channelCodes channelWrong checksumWrong isStartup fewerThanFour decodeOf headerIs isIn commandTable.commandTable commandTable.find listed carried groupIn number bytesOf runOf groupOffOf groupStateOf switchedOf isNominal groupOff groupState acceptedOf acceptedWith refusedOf shortReply replies.shown replies.written replies.replyOf replies.room replies.laidOut replies.replyCode watchedIn dog.watchedOf timeoutOf settingOf tables.parameterOf tables.rowOf tables.find tables.readWriteRows tables.lies setIn setSetting withNumber tables.same tables.clampOf tables.atLeast tables.atMost tables.lowOf tables.highOf defaultsOf defaultN tables.column tables.defaultOf freshOf watchdogResetOf loadedFrom emptyStore
+unfolding set rows tickWith risenOf olderOf dog.risenOf changedOf stepOf enteringOf isDark fromNominalToSafety timerAfter whole has setOf trippedOf overcurrentAt commandedOf transferredOf returning first checksOf checks headerDiffers idWrong unavailable channelCodes channelWrong checksumWrong isStartup fewerThanFour decodeOf headerIs isIn commandTable.commandTable commandTable.find listed carried groupIn number bytesOf runOf reportedOf groupOffOf groupStateOf switchedOf isNominal groupOff groupState acceptedOf acceptedWith refusedOf shortReply replies.shown replies.written replies.replyOf replies.room replies.laidOut replies.replyCode watchedIn dog.watchedOf timeoutOf settingOf tables.parameterOf tables.rowOf tables.find tables.readWriteRows tables.lies setIn setSetting withNumber tables.same tables.clampOf tables.atLeast tables.atMost tables.lowOf tables.highOf defaultsOf defaultN tables.column tables.defaultOf freshOf watchdogResetOf loadedFrom emptyStore
 each-row =
     refl  -- 1
     and refl  -- 2

@@ -19,6 +19,7 @@ use Rattle.channels.proofs.Laws as of-channels
 use Rattle.power.specs.Machine as small
 use Rattle.command.specs.Decode.{fewerThanFour, codeOf, decodeOf}
 use Rattle.command.specs.declared.Command.{Command}
+use Rattle.command.specs.declared.Layout.{Layout}
 use Rattle.command.specs.declared.Refusal.{Refusal}
 use Rattle.command.specs.declared.Decoded.{Decoded}
 use Rattle.command.specs.declared.Decoded.the-variants.{Run, Refused}
@@ -33,7 +34,7 @@ use Rattle.answers.specs.declared.Answer.{Answer}
 use Rattle.answers.specs.declared.Answer.the-variants.{Accepted}
 use Rattle.answers.specs.declared.Outcome.the-variants.{Answered}
 use Rattle.answers.specs.declared.Commanded.{Commanded}
-use Rattle.effects.specs.Effects.{isNominal, switchedOf, groupOnOf, groupOffOf, groupStateOf, channelOnOf, channelOffOf, cancelledOf, switchedModeOf, faultsOf, housekeepingOf, parameterAnswered, rememberedOf, savedIn, seen, restartedOf, runOf}
+use Rattle.effects.specs.Effects.{isNominal, switchedOf, groupOnOf, groupOffOf, groupStateOf, channelOnOf, channelOffOf, cancelledOf, switchedModeOf, faultsOf, housekeepingOf, parameterAnswered, rememberedOf, savedIn, seen, restartedOf, reportedOf, runOf}
 use Rattle.asking.specs.Checks.{isStartup}
 use Rattle.commands.specs.Step.{transferredOf, commandedOf}
 use Rattle.commands.proofs.Stepwise.{turnedDown, decodedOf, steppedOf}
@@ -69,11 +70,7 @@ asked (Run (Command.GroupState g)) = small.switchOn
 asked (Run (Command.ChannelOn one)) = small.switchOn
 asked (Run (Command.ChannelOff one)) = small.switchOn
 asked (Run Command.CancelOperation) = small.other
-asked (Run Command.NoOperation) = small.other
-asked (Run Command.Watchdog) = small.other
-asked (Run Command.GetOvercurrentFaultState) = small.other
-asked (Run Command.GetHousekeeping) = small.other
-asked (Run (Command.GetParameter id)) = small.other
+asked (Run (Command.Report layout)) = small.other
 asked (Run (Command.SetParameter id v)) = small.other
 asked (Run (Command.ResetParameter id)) = small.other
 asked (Run Command.ResetConfiguration) = small.other
@@ -156,6 +153,14 @@ module _ (rail : ℤ) (limits : Limits) (b : Board) where
   unfolding acceptedWith
   measured reply = record { profile = refl; phase = refl; channels = refl }
 
+  -- a command that only has something told
+  reported : (code : ℕ) (layout : Layout) → Stays b (reportedOf code layout b .board)
+  unfolding reportedOf faultsOf housekeepingOf parameterAnswered acceptedOf
+  reported code Layout.Short = accepted _
+  reported code Layout.Faults = accepted _
+  reported code Layout.Housekeeping = measured _
+  reported code (Layout.Parameter id) = remembers _ _
+
   -- every command of the list
   run : (code : ℕ) (c : Command) → DoesIt (Run c) (runOf rail limits code c b)
   unfolding runOf groupOnOf groupOffOf groupStateOf channelOnOf channelOffOf cancelledOf faultsOf housekeepingOf parameterAnswered rememberedOf restartedOf acceptedOf
@@ -165,13 +170,9 @@ module _ (rail : ℤ) (limits : Limits) (b : Board) where
   run code (Command.ChannelOn one) = switched _ refl code _ (of-channels.switch-on one)
   run code (Command.ChannelOff one) = switched _ refl code _ (of-channels.switch-off one)
   run code Command.CancelOperation = cancels refl (takes code _)
-  run code Command.NoOperation = leaves-both refl (accepted _)
-  run code Command.Watchdog = leaves-both refl (accepted _)
   run code Command.SwitchToSafety = to-safety refl (switched-mode code (toSafety (b .phase)))
   run code Command.SwitchToNominal = to-nominal refl (switched-mode code (toNominal (b .phase) rail limits))
-  run code Command.GetOvercurrentFaultState = leaves-both refl (accepted _)
-  run code Command.GetHousekeeping = leaves-both refl (measured _)
-  run code (Command.GetParameter id) = leaves-both refl (remembers _ _)
+  run code (Command.Report layout) = leaves-both refl (reported code layout)
   run code (Command.SetParameter id v) = leaves-both refl (remembers _ _)
   run code (Command.ResetParameter id) = leaves-both refl (remembers _ _)
   run code Command.ResetConfiguration = leaves-both refl (remembers _ _)

@@ -22,7 +22,7 @@ use Rattle.memory.specs.Memory.{emptyStore, loadedFrom}
 use Rattle.state.specs.Start.{freshOf, commandResetOf}
 use Rattle.change.specs.Change.{isDark, fromNominalToSafety, enteringOf, timerAfter, resetsAfter, leavesEmergency}
 use Rattle.answers.specs.Answers.{acceptedWith, acceptedOf}
-use Rattle.effects.specs.Effects.{isNominal, switchedOf, groupOnOf, restartedOf, runOf}
+use Rattle.effects.specs.Effects.{isNominal, switchedOf, groupOnOf, restartedOf, reportedOf, runOf}
 use Rattle.asking.specs.Checks.{isStartup, channelCodes, unavailable, channelWrong, checksumWrong, checksOf}
 use Rattle.commands.specs.Step.{returning, transferredOf, commandedOf}
 use Rattle.board.specs.Tick.{broughtBy, risenOf, changedOf, trippedOf, watchedIn, tickWith, allowedCount, tickOf}
@@ -58,7 +58,7 @@ runs =
 
 -- on the board as it then is
 on-woken : map (timesTakenOff 0 woken) runs ≡ 1 ∷ 1 ∷ 2 ∷ 0 ∷ 0 ∷ []
-unfolding timesTakenOff hasReset tellsReset tellsWatchdogReset tellsCommandReset toldOf tickOf tickWith allowedCount broughtBy risenOf changedOf trippedOf watchedIn commandedOf transferredOf returning first checksOf checks headerDiffers idWrong unavailable channelCodes channelWrong checksumWrong isStartup fewerThanFour headerIs groupIn number carried listed decodeOf commands.commandTable commands.find isIn runOf groupOnOf switchedOf isNominal restartedOf commandResetOf acceptedOf acceptedWith channels.groupOn cleared forcedOn overcurrentAt has setOf listOf whole freshOf loadedFrom emptyStore olderOf stepOf dog.risenOf dog.watchedOf isDark fromNominalToSafety enteringOf timerAfter resetsAfter leavesEmergency limitsOf safetyLow safetyHigh timeoutOf settingOf parameterOf rowOf find readWriteRows readOnlyRows lies defaultsOf defaultN column defaultOf clampOf atLeast atMost lowOf highOf
+unfolding timesTakenOff hasReset tellsReset tellsWatchdogReset tellsCommandReset toldOf tickOf tickWith allowedCount broughtBy risenOf changedOf trippedOf watchedIn commandedOf transferredOf returning first checksOf checks headerDiffers idWrong unavailable channelCodes channelWrong checksumWrong isStartup fewerThanFour headerIs groupIn number carried listed decodeOf commands.commandTable commands.find isIn runOf reportedOf groupOnOf switchedOf isNominal restartedOf commandResetOf acceptedOf acceptedWith channels.groupOn cleared forcedOn overcurrentAt has setOf listOf whole freshOf loadedFrom emptyStore olderOf stepOf dog.risenOf dog.watchedOf isDark fromNominalToSafety enteringOf timerAfter resetsAfter leavesEmergency limitsOf safetyLow safetyHigh timeoutOf settingOf parameterOf rowOf find readWriteRows readOnlyRows lies defaultsOf defaultN column defaultOf clampOf atLeast atMost lowOf highOf
 on-woken = refl
 
 -- the number at the end of each run

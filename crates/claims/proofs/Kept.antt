@@ -24,6 +24,7 @@ use Rattle.channels.specs.Chan.{chan}
 use Rattle.command.specs.Table as commands
 use Rattle.command.specs.Decode.{fewerThanFour, codeOf, headerOf, headerIs, carried, listed, decodeOf}
 use Rattle.command.specs.declared.Command.{Command}
+use Rattle.command.specs.declared.Layout.{Layout}
 use Rattle.command.specs.declared.Refusal.{Refusal}
 use Rattle.command.specs.declared.Decoded.{Decoded}
 use Rattle.command.specs.declared.Decoded.the-variants.{Run, Refused}
@@ -37,7 +38,7 @@ use Rattle.state.specs.declared.parts.Board.{Board}
 use Rattle.answers.specs.Answers.{toldNumber, acceptedWith, acceptedOf, refusedOf, notThisBoardOf}
 use Rattle.answers.specs.declared.Answer.{Answer}
 use Rattle.answers.specs.declared.Commanded.{Commanded}
-use Rattle.effects.specs.Effects.{isNominal, switchedOf, groupOnOf, groupOffOf, groupStateOf, channelOnOf, channelOffOf, cancelledOf, switchedModeOf, faultsOf, housekeepingOf, parameterAnswered, rememberedOf, savedIn, restartedOf, runOf}
+use Rattle.effects.specs.Effects.{isNominal, switchedOf, groupOnOf, groupOffOf, groupStateOf, channelOnOf, channelOffOf, cancelledOf, switchedModeOf, faultsOf, housekeepingOf, parameterAnswered, rememberedOf, savedIn, restartedOf, reportedOf, runOf}
 use Rattle.asking.specs.Checks.{isStartup}
 use Rattle.commands.specs.Step.{readBy, commandedOf}
 use Rattle.commands.proofs.Stepwise.{turnedDown, decodedOf, steppedOf}
@@ -107,26 +108,29 @@ module _ (code : ℕ) where
   switched-mode (change.ModeAnswer.Accepted phase) b = accepted _
   switched-mode change.ModeAnswer.Unavailable b = refused _ b
 
+  reported : (layout : Layout) (b : Board) → Coded (reportedOf code layout b)
+  unfolding reportedOf faultsOf housekeepingOf parameterAnswered acceptedWith faultsReply housekeepingReply parameterReply laidOut bytesOf
+  reported Layout.Short b = accepted _
+  reported Layout.Faults b = coded (byte-2 _ _ _ _)
+  reported Layout.Housekeeping b = coded (byte-2 _ _ _ _)
+  reported (Layout.Parameter id) b = coded (byte-2 _ _ _ _)
+
   run : (rail : ℤ) (limits : Limits) (c : Command) (b : Board) → Coded (runOf rail limits code c b)
-  unfolding runOf groupOnOf groupOffOf groupStateOf channelOnOf channelOffOf cancelledOf faultsOf housekeepingOf parameterAnswered rememberedOf savedIn restartedOf acceptedWith faultsReply housekeepingReply parameterReply laidOut bytesOf
+  unfolding runOf reportedOf groupOnOf groupOffOf groupStateOf channelOnOf channelOffOf cancelledOf faultsOf housekeepingOf parameterAnswered rememberedOf savedIn restartedOf acceptedWith faultsReply housekeepingReply parameterReply laidOut bytesOf
   run rail limits (Command.GroupOn g) b = switched _ _ b
   run rail limits (Command.GroupOff g) b = switched _ _ b
   run rail limits (Command.GroupState g) b = switched _ _ b
   run rail limits (Command.ChannelOn one) b = switched _ _ b
   run rail limits (Command.ChannelOff one) b = switched _ _ b
   run rail limits Command.CancelOperation b = accepted _
-  run rail limits Command.NoOperation b = accepted _
-  run rail limits Command.Watchdog b = accepted _
   run rail limits Command.SwitchToSafety b = switched-mode (toSafety (b .phase)) b
   run rail limits Command.SwitchToNominal b = switched-mode (toNominal (b .phase) rail limits) b
-  run rail limits Command.GetOvercurrentFaultState b = coded (byte-2 _ _ _ _)
-  run rail limits Command.GetHousekeeping b = coded (byte-2 _ _ _ _)
-  run rail limits (Command.GetParameter id) b = coded (byte-2 _ _ _ _)
   run rail limits (Command.SetParameter id v) b = coded (byte-2 _ _ _ _)
   run rail limits (Command.ResetParameter id) b = coded (byte-2 _ _ _ _)
   run rail limits Command.ResetConfiguration b = accepted _
   run rail limits Command.LoadConfiguration b = accepted _
   run rail limits (Command.SaveConfiguration given) b = either (not (savedOf given (b .memory) .right)) (refused _ b) (accepted _)
+  run rail limits (Command.Report layout) b = reported layout b
   run rail limits Command.SystemReset b = silent refl
 
   turned-down : (r : Refusal) (b : Board) → Coded (turnedDown code r b)
@@ -234,7 +238,7 @@ module _ (rail : ℤ) (limits : Limits) (s : List ℕ) (b : Board) where
   moved Startup h e = absurd (not-0 5 e)
 
   nominal-step : codeOf s ≡ 0x30 → Nominal-if-0 (commandedOf rail limits true s b)
-  unfolding commandedOf steppedOf decodedOf decodeOf isIn commands.commandTable commands.find listed carried runOf toNominal turnedDown refusedOf notThisBoardOf
+  unfolding commandedOf steppedOf decodedOf decodeOf isIn commands.commandTable commands.find listed carried runOf reportedOf toNominal turnedDown refusedOf notThisBoardOf
   nominal-step e =
       rw (stepwise rail limits s b, e)
       (cases (fewerThanFour s)

@@ -41,7 +41,7 @@ use Rattle.state.specs.declared.parts.Board.{Board}
 use Rattle.state.specs.declared.parts.Profile.{Profile}
 use Rattle.answers.specs.Answers.{acceptedWith, acceptedOf}
 use Rattle.answers.specs.declared.Outcome.the-variants.{NoTransfer}
-use Rattle.effects.specs.Effects.{restartedOf, runOf}
+use Rattle.effects.specs.Effects.{restartedOf, reportedOf, runOf}
 use Rattle.asking.specs.Checks.{isStartup, channelCodes, unavailable, channelWrong, checksumWrong, checksOf}
 use Rattle.commands.specs.Step.{returning, transferredOf, commandedOf}
 use Rattle.board.specs.Tick.{broughtBy, risenOf, changedOf, trippedOf, watchedAs, watchedIn, tickWith, allowedCount, tickOf}
@@ -100,7 +100,7 @@ record Computed : Type 0 where
 
 -- by computation alone
 computed : Computed
-unfolding after begunOf startOf keepsTheRules bidInRange channelsInPlace anyFitted isWithin allBelow has setOf listOf whole overcurrentAt allOff forcedOn commandEnabledOff cleared freshOf neverReset loadedFrom emptyStore toldOf tickOf tickWith allowedCount broughtBy risenOf changedOf trippedOf watchedIn commandedOf isDark fromNominalToSafety leavesEmergency enteringOf timerAfter resetsAfter dog.risenOf dog.watchedOf timeoutOf limitsOf safetyLow safetyHigh settingOf parameterOf rowOf find readWriteRows readOnlyRows lies defaultsOf defaultN column defaultOf clampOf atLeast atMost lowOf highOf stepOf olderOf transferredOf returning first checksOf checks headerDiffers idWrong unavailable channelCodes channelWrong checksumWrong isStartup decodeOf fewerThanFour headerIs isIn listed carried codes.find codes.commandTable runOf restartedOf commandResetOf byCommand
+unfolding after begunOf startOf keepsTheRules bidInRange channelsInPlace anyFitted isWithin allBelow has setOf listOf whole overcurrentAt allOff forcedOn commandEnabledOff cleared freshOf neverReset loadedFrom emptyStore toldOf tickOf tickWith allowedCount broughtBy risenOf changedOf trippedOf watchedIn commandedOf isDark fromNominalToSafety leavesEmergency enteringOf timerAfter resetsAfter dog.risenOf dog.watchedOf timeoutOf limitsOf safetyLow safetyHigh settingOf parameterOf rowOf find readWriteRows readOnlyRows lies defaultsOf defaultN column defaultOf clampOf atLeast atMost lowOf highOf stepOf olderOf transferredOf returning first checksOf checks headerDiffers idWrong unavailable channelCodes channelWrong checksumWrong isStartup decodeOf fewerThanFour headerIs isIn listed carried codes.find codes.commandTable runOf reportedOf restartedOf commandResetOf byCommand
 computed =
     record {
       restart-line = refl;
@@ -193,7 +193,7 @@ at-zero (suc w) = early 0 (suc w) (omega arith) (omega arith) (omega arith)
 
 -- the NOOP is accepted, and feeds the timer
 accepts-noop : (rail : ℤ) (limits : Limits) (b : Board) → modeOf b ≡ Nominal → b .profile ≡ profile → commandedOf rail limits true (fed .transfer) b ≡ acceptedOf 0x02 b
-unfolding commandedOf transferredOf returning first checksOf checks headerDiffers idWrong unavailable channelCodes channelWrong checksumWrong isStartup decodeOf fewerThanFour headerIs isIn listed carried codes.find codes.commandTable runOf
+unfolding commandedOf transferredOf returning first checksOf checks headerDiffers idWrong unavailable channelCodes channelWrong checksumWrong isStartup decodeOf fewerThanFour headerIs isIn listed carried codes.find codes.commandTable runOf reportedOf
 accepts-noop rail limits b nominal of = rw (nominal, of)
 
 -- the timer that it leaves is 0, so nothing happens

@@ -34,7 +34,7 @@ use Rattle.change.specs.Change.{isDark, fromNominalToSafety, enteringOf, timerA
 use Rattle.answers.specs.Answers.{answerNumber, acceptedWith, acceptedOf, refusedOf, notThisBoardOf}
 use Rattle.answers.specs.declared.Answer.{Answer}
 use Rattle.answers.specs.declared.Answer.the-variants.{Accepted, FewerThanFourBytes, InStartup, NotThisBoard, CodeNotListed, TooShort, NotAvailable, Wrong}
-use Rattle.effects.specs.Effects.{isNominal, switchedOf, groupOnOf, switchedModeOf, faultsOf, runOf}
+use Rattle.effects.specs.Effects.{isNominal, switchedOf, groupOnOf, switchedModeOf, faultsOf, reportedOf, runOf}
 use Rattle.asking.specs.Checks.{isStartup, channelCodes, unavailable, channelWrong, checksumWrong, checksOf}
 use Rattle.commands.specs.Step.{returning, transferredOf, commandedOf}
 use Rattle.commands.proofs.Told.{same-number}
@@ -81,7 +81,7 @@ caught {p} {sees} {before} {last} r w d =
 
 -- each run, worked out
 pub all-caught : AllCaught
-unfolding stateAfter tickedWith refusing replyingNoop stayingInSafety unchanged countingAllNamed countAll groupOn groupIn number bytesOf shown written replyOf room laidOut replyCode shortReply faultsReply channelWords commands.commandTable commands.find isIn fewerThanFour headerIs carried listed decodeOf acceptedWith acceptedOf refusedOf notThisBoardOf isNominal switchedOf groupOnOf switchedModeOf faultsOf runOf isStartup transferredOf returning first checksOf checks headerDiffers idWrong unavailable channelCodes channelWrong checksumWrong toNominal has setOf listOf whole cleared forcedOn allOff overcurrentAt commandEnabledOff freshOf loadedFrom emptyStore toldOf tickOf tickWith allowedCount broughtBy risenOf changedOf trippedOf watchedIn commandedOf olderOf stepOf dog.risenOf dog.watchedOf isDark fromNominalToSafety enteringOf timerAfter resetsAfter leavesEmergency limitsOf safetyLow safetyHigh timeoutOf settingOf parameterOf rowOf find readWriteRows readOnlyRows lies defaultsOf defaultN column defaultOf clampOf atLeast atMost lowOf highOf
+unfolding stateAfter tickedWith refusing replyingNoop stayingInSafety unchanged countingAllNamed countAll groupOn groupIn number bytesOf shown written replyOf room laidOut replyCode shortReply faultsReply channelWords commands.commandTable commands.find isIn fewerThanFour headerIs carried listed decodeOf acceptedWith acceptedOf refusedOf notThisBoardOf isNominal switchedOf groupOnOf switchedModeOf faultsOf runOf reportedOf isStartup transferredOf returning first checksOf checks headerDiffers idWrong unavailable channelCodes channelWrong checksumWrong toNominal has setOf listOf whole cleared forcedOn allOff overcurrentAt commandEnabledOff freshOf loadedFrom emptyStore toldOf tickOf tickWith allowedCount broughtBy risenOf changedOf trippedOf watchedIn commandedOf olderOf stepOf dog.risenOf dog.watchedOf isDark fromNominalToSafety enteringOf timerAfter resetsAfter leavesEmergency limitsOf safetyLow safetyHigh timeoutOf settingOf parameterOf rowOf find readWriteRows readOnlyRows lies defaultsOf defaultN column defaultOf clampOf atLeast atMost lowOf highOf
 all-caught =
     record {
       refuses-all = λ a refusal. caught refl (refused a refusal) (λ e. refusal (let z : 0 ≡ answerNumber a = cc in sym z));
@@ -128,7 +128,7 @@ record Told-besides : Type 0 where
   made-up-count : getD (lastTold wrong.makesUpCounts awake [] (wrong.reporting 0b0010 wrong.faults) .machine .board .channels .counts) 1 0 ≡ 1
 
 told-besides : Told-besides
-unfolding stateAfter tickedWith refusing replyingNoop stayingInSafety unchanged countingAllNamed countAll groupOn groupIn number bytesOf shown written replyOf room laidOut replyCode shortReply faultsReply channelWords commands.commandTable commands.find isIn fewerThanFour headerIs carried listed decodeOf acceptedWith acceptedOf refusedOf notThisBoardOf isNominal switchedOf groupOnOf switchedModeOf faultsOf runOf isStartup transferredOf returning first checksOf checks headerDiffers idWrong unavailable channelCodes channelWrong checksumWrong toNominal has setOf listOf whole cleared forcedOn allOff overcurrentAt commandEnabledOff freshOf loadedFrom emptyStore toldOf tickOf tickWith allowedCount broughtBy risenOf changedOf trippedOf watchedIn commandedOf olderOf stepOf dog.risenOf dog.watchedOf isDark fromNominalToSafety enteringOf timerAfter resetsAfter leavesEmergency limitsOf safetyLow safetyHigh timeoutOf settingOf parameterOf rowOf find readWriteRows readOnlyRows lies defaultsOf defaultN column defaultOf clampOf atLeast atMost lowOf highOf
+unfolding stateAfter tickedWith refusing replyingNoop stayingInSafety unchanged countingAllNamed countAll groupOn groupIn number bytesOf shown written replyOf room laidOut replyCode shortReply faultsReply channelWords commands.commandTable commands.find isIn fewerThanFour headerIs carried listed decodeOf acceptedWith acceptedOf refusedOf notThisBoardOf isNominal switchedOf groupOnOf switchedModeOf faultsOf runOf reportedOf isStartup transferredOf returning first checksOf checks headerDiffers idWrong unavailable channelCodes channelWrong checksumWrong toNominal has setOf listOf whole cleared forcedOn allOff overcurrentAt commandEnabledOff freshOf loadedFrom emptyStore toldOf tickOf tickWith allowedCount broughtBy risenOf changedOf trippedOf watchedIn commandedOf olderOf stepOf dog.risenOf dog.watchedOf isDark fromNominalToSafety enteringOf timerAfter resetsAfter leavesEmergency limitsOf safetyLow safetyHigh timeoutOf settingOf parameterOf rowOf find readWriteRows readOnlyRows lies defaultsOf defaultN column defaultOf clampOf atLeast atMost lowOf highOf
 told-besides =
     record {
       noop-replied = awake-too (λ m. lastTold wrong.answersNoop m [] (sending 15000 wrong.groupOn) .replied) true refl;
