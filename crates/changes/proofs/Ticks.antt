@@ -1,4 +1,4 @@
--- A tick that happens (wordCount (m .board)) is its command step, and then the watchdog, which after an accepted command tells nothing.
+-- A tick that happens is its command step, and then the watchdog, which after an accepted command tells nothing.
 -- Assumes nothing.
 use Prim.Native.Nat.{ℕ, _≤_, _<_}
 use mathlib.Core.Path.{_≡_, refl, sym, ap, _∙_}
