@@ -9,7 +9,7 @@ use Rattle.reading.specs.{Lines.lineHeld, Lines.payloadIn, declared.Line.Line}
 use Rattle.framing.specs.Framing.{framedOf}
 use Rattle.image.specs.Image.{settingsOf}
 use Rattle.memory.specs.{Memory.emptyStore, declared.Store.Store}
-use Rattle.state.specs.{declared.parts.Profile.Profile, declared.starting.StartAnswer.StartAnswer}
+use Rattle.state.specs.{Parts.distributionBoard, declared.parts.Profile.Profile, declared.starting.StartAnswer.StartAnswer}
 use Rattle.unit.specs.{Machine.noMachine, Machine.begunOf, Machine.toldOf, Machine.heardOf, Machine.dueOf, declared.Machine.Machine}
 use Rattle.unit.specs.{declared.Begun.Begun, declared.Told.Told, declared.Heard.Heard}
 use Rattle.script.specs.{Printing.Page, Printing.page, Printing.typed, Printing.hexOf, Reading.wordsOf}
@@ -47,7 +47,7 @@ refusedText = 114 ∷ 101 ∷ 102 ∷ 117 ∷ 115 ∷ 101 ∷ 100 ∷ 32 ∷ 56 
 -- ---- starting
 
 abbrev pub profileOf : ℕ → ℕ → ℕ → Profile
-profileOf bid fitted forced = record { fitted = fitted; forced = forced; bid = bid }
+profileOf bid fitted forced = distributionBoard bid fitted forced
 
 -- settings stored under a save count, or nothing
 unfoldable pub storeOf : Bool → List ℕ → ℕ → Store

@@ -16,7 +16,6 @@ use script::printing::put;
 use script::printing::text;
 use script::reading::lent_part;
 use script::reading::lent_words;
-use state::Profile;
 use state::StartAnswer;
 use unit::Machine;
 
@@ -93,11 +92,7 @@ fn started(
 ) -> Ran
     ensures { λ r. ⌜ left r (now (out .exit)) ≡ startedOf (now (out .entry)) bench (begunOf (bench .machine) (profileOf bid fitted forced) (storeOf stored (now (image .entry)) «save_count»)) ⌝ }
 {
-    let profile = Profile {
-        fitted,
-        forced,
-        bid,
-    };
+    let profile = state::distribution(bid, fitted, forced);
     let store = store_of(stored, image, save_count);
     let s = unit::start(bench.machine, profile, store);
     let next = s.machine;
