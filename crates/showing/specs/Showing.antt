@@ -10,7 +10,7 @@ use Rattle.modes.specs.declared.ModeAge.{ModeAge}
 use Rattle.channels.specs.declared.Channels.{Channels}
 use Rattle.watchdog.specs.declared.Event.{Event}
 use Rattle.answers.specs.declared.Outcome.{Outcome}
-use Rattle.state.specs.{Parts.causeNumber, declared.parts.Resets.Resets, declared.parts.Board.Board}
+use Rattle.state.specs.{Parts.causeNumber, Parts.wordsOf, declared.parts.Resets.Resets, declared.parts.Board.Board}
 use Rattle.script.specs.Printing.{fieldOf, row, hexOf}
 use Rattle.naming.specs.Naming.{modeLetter, eventLetter, answerDigit, formLetter}
 
@@ -68,6 +68,6 @@ stateLine b =
     ∷ resetsText (b .resets)
     ++ memoryText (b .memory)
     ++ (32 ∷ row 4 (b .channels .counts))
-    ++ (32 ∷ row 4 (b .measured .words))
+    ++ (32 ∷ row 4 (wordsOf b))
     ++ replyText (b .reply)
     ++ 10 ∷ []

@@ -16,6 +16,7 @@ use watchdog::Event;
 use wire::Reply;
 ghost use mathlib.Core.Path.{_≡_};
 ghost use mathlib.Core.List.{_∷_};
+ghost use lib.ListN.{take};
 ghost use Rattle.script.specs.Printing.{page, typed, row};
 ghost use Rattle.showing.specs.Showing.{letterOf, replyText, madeText, frontText, tickLine, tickedLine, resetsText, storedText, memoryText, stateLine};
 
@@ -121,24 +122,27 @@ fn counts(out: &mut [u8], at: usize, c: Channels) -> usize
     words(out, at, &all)
 }
 
-// The words.
-fn measured(out: &mut [u8], at: usize, m: Measured) -> usize
-    ensures { λ r. ⌜ page (now (out .exit)) r ≡ typed (page (now (out .entry)) at) (32 ∷ row 4 (m .words)) ⌝ }
+// The words, as many as count.
+fn measured(out: &mut [u8], at: usize, m: Measured, count: usize) -> usize
+    ensures { λ r. ⌜ page (now (out .exit)) r ≡ typed (page (now (out .entry)) at) (32 ∷ row 4 (take count (m .words))) ⌝ }
 {
     let all = m.words;
-    words(out, at, &all)
+    words(out, at, wire::first_words(&all, count))
 }
 
 // The state line.
 pub fn state(b: Board, out: &mut [u8]) -> usize
     ensures { λ r. ⌜ page (now (out .exit)) r ≡ typed (page (now (out .entry)) 0) (stateLine b) ⌝ }
 {
+    let profile = b.profile;
+    let kind = profile.kind;
+    let count = kinds::word_count(kind);
     let form = b.form;
     let mut at = put(out, 0, naming::form_letter(form));
     at = resets(out, at, b.resets);
     at = memory(out, at, b.memory);
     at = counts(out, at, b.channels);
-    at = measured(out, at, b.measured);
+    at = measured(out, at, b.measured, count);
     at = reply(out, at, b.reply);
     put(out, at, 10)
 }

@@ -1,7 +1,7 @@
 pub mod Pages
 pub mod Seen
 pub mod Left
-pub mod Kinds
+pub mod BoardKinds
 pub mod Wire
 pub mod Hex
 pub mod Crc

@@ -6,6 +6,9 @@ use borrow.Author.Needs.{needs}
 use Rattle.showing.proofs.state.Statement.{statement}
 use Rattle.showing.proofs.state.Tie as tie
 
+word-count-requires : tie.Need-word-count-requires
+word-count-requires c κs = search needs
+
 form-letter-requires : tie.Need-form-letter-requires
 form-letter-requires c κs = search needs
 
@@ -35,12 +38,13 @@ same-length c = search needs
 
 returns : tie.Need-returns
 unfolding typed stateLine
-returns c = rw (c .before .before .put2 .ensures, c .before .before .before .before .before .before .reply .ensures, c .before .before .before .before .before .before .before .before .before .before .measured .ensures, c .before .before .before .before .before .before .before .before .before .before .before .before .before .before .counts .ensures, c .before .before .before .before .before .before .before .before .before .before .before .before .before .before .before .before .before .before .memory .ensures, c .before .before .before .before .before .before .before .before .before .before .before .before .before .before .before .before .before .before .before .before .before .before .resets .ensures, c .before .before .before .before .before .before .before .before .before .before .before .before .before .before .before .before .before .before .before .before .before .before .before .before .before .before .put .ensures, c .before .before .before .before .before .before .before .before .before .before .before .before .before .before .before .before .before .before .before .before .before .before .before .before .before .before .before .form-letter .ensures) (simp typed-append)
+returns c = rw (c .before .before .put2 .ensures, c .before .before .before .before .before .before .reply .ensures, c .before .before .before .before .before .before .before .before .before .before .measured .ensures, c .before .before .before .before .before .before .before .before .before .before .before .before .before .before .counts .ensures, c .before .before .before .before .before .before .before .before .before .before .before .before .before .before .before .before .before .before .memory .ensures, c .before .before .before .before .before .before .before .before .before .before .before .before .before .before .before .before .before .before .before .before .before .before .resets .ensures, c .before .before .before .before .before .before .before .before .before .before .before .before .before .before .before .before .before .before .before .before .before .before .before .before .before .before .put .ensures, c .before .before .before .before .before .before .before .before .before .before .before .before .before .before .before .before .before .before .before .before .before .before .before .before .before .before .before .form-letter .ensures, c .before .before .before .before .before .before .before .before .before .before .before .before .before .before .before .before .before .before .before .before .before .before .before .before .before .before .before .before .before .word-count .ensures) (simp typed-append)
 
 pub state-spec : {M : Type 1} → statement M
 state-spec =
     tie.close
     (tie.spec
+    word-count-requires
     form-letter-requires
     put-requires
     resets-requires
