@@ -33,6 +33,7 @@ pub mod Lines
 pub mod Naming
 pub mod Speaking
 pub mod Showing
+pub mod Starting
 pub mod Trial
 pub mod Transcript
 pub mod Session

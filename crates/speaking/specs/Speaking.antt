@@ -1,11 +1,13 @@
--- What a read of the text line and a framing print. Characters are their ASCII codes: 32 is a space, 10 ends a line.
--- Assumes nothing: these are definitions.
+-- What a read of the text line and a framing print, and the buffer that is lent for it. Characters are their ASCII
+-- codes: 32 is a space, 10 ends a line. Assumes nothing: these are definitions.
 use Prim.Native.Nat.{ℕ}
 use mathlib.Core.List.{List, [], _∷_, _++_}
+use lib.ListN.{replicate}
 use Rattle.wire.specs.declared.forms.Form.{Form}
 use Rattle.reading.specs.declared.Line.{Line}
 use Rattle.framing.specs.declared.Framed.{Framed}
 use Rattle.script.specs.Printing.{hexOf, fieldOf}
+use Rattle.speaking.specs.declared.Span.{Span}
 
 -- form raw; form ascii
 abbrev pub formName : Form → List ℕ
@@ -43,3 +45,16 @@ framedText Framed.OutputTooShort = refused 51
 
 unfoldable pub framedLine : Framed → List ℕ → List ℕ
 framedLine answer buffer = framedText answer ++ wholeText buffer
+
+-- a buffer before it is lent: each byte is 0xEE
+unfoldable pub blank : List ℕ
+blank = replicate 1024 0xEE
+
+-- where a command's payload lies
+abbrev pub spanOf : Line → Span
+spanOf (Line.Command start end behind) = record { start = start; end = end }
+spanOf (Line.Switch form behind) = record { start = 0; end = 0 }
+spanOf Line.NoFrame = record { start = 0; end = 0 }
+spanOf (Line.TooLong behind) = record { start = 0; end = 0 }
+spanOf (Line.NotOfForm behind) = record { start = 0; end = 0 }
+spanOf (Line.ScratchTooShort behind) = record { start = 0; end = 0 }

@@ -1,8 +1,10 @@
-// What a read of the text line and a framing print, each with the whole of the buffer that was lent.
+// What a read of the text line and a framing print, each with the whole of the buffer that was lent, and that buffer
+// before it is lent.
 ghost use mathlib.Core.Path.{_≡_};
+ghost use Prim.Native.Nat.{min};
 ghost use mathlib.Core.List.{_++_};
 ghost use Rattle.script.specs.Printing.{page, typed, fieldOf};
-ghost use Rattle.speaking.specs.Speaking.{formName, commandText, lineText, wholeText, heardLine, framedText, framedLine};
+ghost use Rattle.speaking.specs.Speaking.{formName, commandText, lineText, wholeText, heardLine, framedText, framedLine, blank, spanOf};
 use framing::Framed;
 use reading::Line;
 use script::printing::field;
@@ -95,4 +97,42 @@ pub fn framed(answer: Framed, buffer: &[u8], out: &mut [u8]) -> usize
 {
     let at = framing(answer, out);
     whole(out, at, buffer)
+}
+
+// A buffer that nothing was written to.
+pub fn untouched() -> [u8; 1024]
+    ensures { λ r. ⌜ r ≡ blank ⌝ }
+{
+    [0xEE; 1024]
+}
+
+// How much of such a buffer is lent: all of it where more is asked for.
+pub fn within(count: usize) -> usize
+    ensures { λ r. ⌜ r ≡ min count 1024 ⌝ }
+{
+    if count < 1024 { count } else { 1024 }
+}
+
+// Where a command's payload lies; with any other answer there is none.
+pub struct Span {
+    pub start: usize,
+    pub end: usize,
+}
+
+// The span of what a read of the text line answers.
+pub fn span_of(line: Line) -> Span
+    ensures { λ r. ⌜ r ≡ spanOf line ⌝ }
+{
+    match line {
+        Line::Command {
+            start,
+            end,
+            behind: _,
+        } => Span { start, end },
+        Line::Switch { form: _, behind: _ } => Span { start: 0, end: 0 },
+        Line::NoFrame => Span { start: 0, end: 0 },
+        Line::TooLong { behind: _ } => Span { start: 0, end: 0 },
+        Line::NotOfForm { behind: _ } => Span { start: 0, end: 0 },
+        Line::ScratchTooShort { behind: _ } => Span { start: 0, end: 0 },
+    }
 }

@@ -1,22 +1,21 @@
 -- What a line does: the bench after it, and what it prints. Characters are their ASCII codes: 10 ends a line.
 -- Assumes nothing: these are definitions.
 use Prim.Native.Nat.{ℕ, min}
-use mathlib.Core.{Bool.Bool, Bool.true, Bool.false, Bool.cond, List.List, List.[], List._∷_, List._++_}
+use mathlib.Core.{Bool.false, List.List, List.[], List._∷_, List._++_}
 use lib.ListN.{length, take, replicate}
 use Rattle.wire.specs.{Numbers.signed, Replies.found, declared.forms.Form.Form}
 use Rattle.hex.specs.Hex.{laid}
 use Rattle.reading.specs.{Lines.lineHeld, Lines.payloadIn, declared.Line.Line}
 use Rattle.framing.specs.Framing.{framedOf}
-use Rattle.image.specs.Image.{settingsOf}
-use Rattle.memory.specs.{Memory.emptyStore, declared.Store.Store}
-use Rattle.state.specs.{Parts.distributionBoard, declared.parts.Profile.Profile, declared.starting.StartAnswer.StartAnswer}
+use Rattle.state.specs.{Parts.distributionBoard, declared.parts.Profile.Profile}
 use Rattle.unit.specs.{Machine.noMachine, Machine.begunOf, Machine.toldOf, Machine.heardOf, Machine.dueOf, declared.Machine.Machine}
 use Rattle.unit.specs.{declared.Begun.Begun, declared.Told.Told, declared.Heard.Heard}
 use Rattle.script.specs.{Printing.Page, Printing.page, Printing.typed, Printing.hexOf, Reading.wordsOf}
 use Rattle.lines.specs.{declared.Asked.Asked, declared.Look.Look}
 use Rattle.showing.specs.Showing.{tickedLine, stateLine}
-use Rattle.speaking.specs.Speaking.{heardLine, framedLine}
-use Rattle.trial.specs.{declared.Bench.Bench, declared.Ran.Ran, declared.Span.Span}
+use Rattle.speaking.specs.Speaking.{heardLine, framedLine, blank, spanOf}
+use Rattle.starting.specs.Starts.{okText, isThere, startText, storeOf}
+use Rattle.trial.specs.{declared.Bench.Bench, declared.Ran.Ran}
 
 -- nothing was started, and no words were lent
 unfoldable pub emptyBench : Bench
@@ -34,33 +33,14 @@ left r held = shown (r .bench) (page held (r .printed))
 abbrev pub printed : List ℕ → Bench → List ℕ → Shown
 printed held b text = shown b (typed (page held 0) text)
 
--- bad; ok; refused 8
+-- bad
 abbrev pub badText : List ℕ
 badText = 98 ∷ 97 ∷ 100 ∷ 10 ∷ []
-
-abbrev pub okText : List ℕ
-okText = 111 ∷ 107 ∷ 10 ∷ []
-
-abbrev pub refusedText : List ℕ
-refusedText = 114 ∷ 101 ∷ 102 ∷ 117 ∷ 115 ∷ 101 ∷ 100 ∷ 32 ∷ 56 ∷ 10 ∷ []
 
 -- ---- starting
 
 abbrev pub profileOf : ℕ → ℕ → ℕ → Profile
 profileOf bid fitted forced = distributionBoard bid fitted forced
-
--- settings stored under a save count, or nothing
-unfoldable pub storeOf : Bool → List ℕ → ℕ → Store
-storeOf stored image count = cond stored (record { settings = settingsOf image; «save_count» = count; held = true }) emptyStore
-
--- an accepted machine is on the bench; where it is refused, the start tells the one that was there
-abbrev pub isThere : StartAnswer → Bool → Bool
-isThere StartAnswer.Accepted before = true
-isThere StartAnswer.ProfileBreaksARule before = before
-
-abbrev pub startText : StartAnswer → List ℕ
-startText StartAnswer.Accepted = okText
-startText StartAnswer.ProfileBreaksARule = refusedText
 
 unfoldable pub startedOf : List ℕ → Bench → Begun → Shown
 startedOf held bench s =
@@ -82,18 +62,6 @@ tickedOf held bench t =
     (tickedLine (t .outcome) (t .event) (t .replied) (t .machine .board))
 
 -- ---- the text line, with a scratch buffer or an output of so many bytes, all 0xEE before
-
-unfoldable pub blank : List ℕ
-blank = replicate 1024 0xEE
-
--- where a command's payload lies
-abbrev pub spanOf : Line → Span
-spanOf (Line.Command start end behind) = record { start = start; end = end }
-spanOf (Line.Switch form behind) = record { start = 0; end = 0 }
-spanOf Line.NoFrame = record { start = 0; end = 0 }
-spanOf (Line.TooLong behind) = record { start = 0; end = 0 }
-spanOf (Line.NotOfForm behind) = record { start = 0; end = 0 }
-spanOf (Line.ScratchTooShort behind) = record { start = 0; end = 0 }
 
 unfoldable pub answerLine : Line → Form → List ℕ → List ℕ → List ℕ
 answerLine line form received scratch =
@@ -123,16 +91,6 @@ lookLine m (Look.Frame room) = framingLine m (take room blank)
 lookLine m Look.Show = stateLine (m .board)
 
 -- ---- a line
-
--- before a machine was started only a start is of a form
-unfoldable pub allowedOf : Bool → Asked → Asked
-allowedOf true asked = asked
-allowedOf false (Asked.Start bid fitted forced stored count) = Asked.Start bid fitted forced stored count
-allowedOf false (Asked.Lend count) = Asked.Bad
-allowedOf false (Asked.Tick rail overcurrent sent count) = Asked.Bad
-allowedOf false (Asked.Receive room count) = Asked.Bad
-allowedOf false (Asked.Look look) = Asked.Bad
-allowedOf false Asked.Bad = Asked.Bad
 
 -- what a line that asks for this does, with the bytes of its byte string, where its text goes into a buffer
 unfoldable pub ranOf : List ℕ → Bench → Asked → List ℕ → Shown

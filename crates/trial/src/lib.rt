@@ -1,22 +1,21 @@
 // A machine on the bench, and what one line of a replay script does to it.
 ghost use mathlib.Core.Path.{_≡_};
-ghost use Prim.Native.Nat.{min};
 ghost use lib.ListN.{take};
 ghost use Rattle.wire.specs.Numbers.{signed};
 ghost use Rattle.unit.specs.Machine.{begunOf, toldOf};
 ghost use Rattle.script.specs.Printing.{page, typed};
 ghost use Rattle.script.specs.Reading.{wordsOf};
-ghost use Rattle.trial.specs.Benches.{emptyBench, left, printed, okText, isThere, startText, startedOf, storeOf, withLent, tickedOf, blank, spanOf, answerLine, receivedOf, framingLine, readLine, lookLine, profileOf, allowedOf, ranOf};
+ghost use Rattle.speaking.specs.Speaking.{blank};
+ghost use Rattle.starting.specs.Starts.{okText, storeOf, allowedOf};
+ghost use Rattle.trial.specs.Benches.{emptyBench, left, printed, startedOf, withLent, tickedOf, answerLine, receivedOf, framingLine, readLine, lookLine, profileOf, ranOf};
 use lines::Asked;
 use lines::Look;
-use memory::Store;
 use reading::Line;
 use script::printing::bytes;
 use script::printing::put;
 use script::printing::text;
 use script::reading::lent_part;
 use script::reading::lent_words;
-use state::StartAnswer;
 use unit::Machine;
 
 // A machine on the bench, once one was started, and the words for its next tick.
@@ -45,40 +44,6 @@ pub fn none() -> Bench
     }
 }
 
-// Whether a machine is there after a start.
-fn is_there(answer: StartAnswer, before: bool) -> bool
-    ensures { λ r. ⌜ r ≡ isThere answer before ⌝ }
-{
-    match answer {
-        StartAnswer::Accepted => true,
-        StartAnswer::ProfileBreaksARule => before,
-    }
-}
-
-// What a start prints.
-fn start_line(answer: StartAnswer, out: &mut [u8]) -> usize
-    ensures { λ r. ⌜ page (now (out .exit)) r ≡ typed (page (now (out .entry)) 0) (startText answer) ⌝ }
-{
-    match answer {
-        StartAnswer::Accepted => text(out, 0, b"ok\n"),
-        StartAnswer::ProfileBreaksARule => text(out, 0, b"refused 8\n"),
-    }
-}
-
-// What is stored: settings under a save count, or nothing.
-fn store_of(stored: bool, image: &[u8], save_count: u16) -> Store
-    ensures { λ r. ⌜ r ≡ storeOf stored (now (image .entry)) «save_count» ⌝ }
-{
-    if stored {
-        return Store {
-            settings: image::read(image),
-            save_count,
-            held: true,
-        };
-    }
-    Store::empty()
-}
-
 // Starts a machine, if its profile and its stored settings keep the rules.
 fn started(
     mut bench: Bench,
@@ -93,16 +58,16 @@ fn started(
     ensures { λ r. ⌜ left r (now (out .exit)) ≡ startedOf (now (out .entry)) bench (begunOf (bench .machine) (profileOf bid fitted forced) (storeOf stored (now (image .entry)) «save_count»)) ⌝ }
 {
     let profile = state::distribution(bid, fitted, forced);
-    let store = store_of(stored, image, save_count);
+    let store = starting::store_of(stored, image, save_count);
     let s = unit::start(bench.machine, profile, store);
     let next = s.machine;
     let answer = s.answer;
-    let there = is_there(answer, bench.started);
+    let there = starting::is_there(answer, bench.started);
     bench.machine = next;
     bench.started = there;
     Ran {
         bench,
-        printed: start_line(answer, out),
+        printed: starting::start_line(answer, out),
     }
 }
 
@@ -151,53 +116,15 @@ fn ticked(
     }
 }
 
-// A buffer that nothing was written to.
-fn untouched() -> [u8; 1024]
-    ensures { λ r. ⌜ r ≡ blank ⌝ }
-{
-    [0xEE; 1024]
-}
-
-// How much of such a buffer is lent: all of it where more is asked for.
-fn within(count: usize) -> usize
-    ensures { λ r. ⌜ r ≡ min count 1024 ⌝ }
-{
-    if count < 1024 { count } else { 1024 }
-}
-
 // What a bus read finds.
 fn read(m: Machine, count: usize, out: &mut [u8]) -> usize
     ensures { λ r. ⌜ page (now (out .exit)) r ≡ typed (page (now (out .entry)) 0) (readLine m count) ⌝ }
 {
-    let mut buffer = untouched();
-    let n = within(count);
+    let mut buffer = speaking::untouched();
+    let n = speaking::within(count);
     unit::bus_read(m, &mut buffer[..n]);
     let at = bytes(out, 0, wire::first(&buffer, n));
     put(out, at, 10)
-}
-
-// Where a command's payload lies; with any other answer there is none.
-struct Span {
-    start: usize,
-    end: usize,
-}
-
-// The span of what a read of the text line answers.
-fn span_of(line: Line) -> Span
-    ensures { λ r. ⌜ r ≡ spanOf line ⌝ }
-{
-    match line {
-        Line::Command {
-            start,
-            end,
-            behind: _,
-        } => Span { start, end },
-        Line::Switch { form: _, behind: _ } => Span { start: 0, end: 0 },
-        Line::NoFrame => Span { start: 0, end: 0 },
-        Line::TooLong { behind: _ } => Span { start: 0, end: 0 },
-        Line::NotOfForm { behind: _ } => Span { start: 0, end: 0 },
-        Line::ScratchTooShort { behind: _ } => Span { start: 0, end: 0 },
-    }
 }
 
 // What a read of the text line prints.
@@ -210,7 +137,7 @@ fn answer<'a>(
 ) -> usize
     ensures { λ r. ⌜ page (now (out .exit)) r ≡ typed (page (now (out .entry)) 0) (answerLine line (m .board .form) (now (received .entry)) (now (scratch .entry))) ⌝ }
 {
-    let span = span_of(line);
+    let span = speaking::span_of(line);
     let payload = unit::payload(m, received, scratch, span.start, span.end);
     speaking::heard(line, payload, scratch, out)
 }
@@ -219,8 +146,8 @@ fn answer<'a>(
 fn received(mut bench: Bench, bytes: &[u8], room: usize, out: &mut [u8]) -> Ran
     ensures { λ r. ⌜ left r (now (out .exit)) ≡ receivedOf (now (out .entry)) bench (now (bytes .entry)) (take room blank) ⌝ }
 {
-    let mut buffer = untouched();
-    let n = within(room);
+    let mut buffer = speaking::untouched();
+    let n = speaking::within(room);
     let heard = unit::read_line(bench.machine, bytes, &mut buffer[..n]);
     let next = heard.machine;
     let line = heard.line;
@@ -235,8 +162,8 @@ fn received(mut bench: Bench, bytes: &[u8], room: usize, out: &mut [u8]) -> Ran
 fn framed(m: Machine, room: usize, out: &mut [u8]) -> usize
     ensures { λ r. ⌜ page (now (out .exit)) r ≡ typed (page (now (out .entry)) 0) (framingLine m (take room blank)) ⌝ }
 {
-    let mut buffer = untouched();
-    let n = within(room);
+    let mut buffer = speaking::untouched();
+    let n = speaking::within(room);
     let framed = unit::frame(m, &mut buffer[..n]);
     speaking::framed(framed, wire::first(&buffer, n), out)
 }
@@ -252,39 +179,11 @@ fn looked(m: Machine, look: Look, out: &mut [u8]) -> usize
     }
 }
 
-// What is asked where no machine was started: only a start is.
-fn allowed(started: bool, asked: Asked) -> Asked
-    ensures { λ r. ⌜ r ≡ allowedOf started asked ⌝ }
-{
-    if started {
-        return asked;
-    }
-    match asked {
-        Asked::Start {
-            bid: _,
-            fitted: _,
-            forced: _,
-            stored: _,
-            save_count: _,
-        } => asked,
-        Asked::Lend { count: _ } => Asked::Bad,
-        Asked::Tick {
-            rail: _,
-            overcurrent: _,
-            sent: _,
-            count: _,
-        } => Asked::Bad,
-        Asked::Receive { room: _, count: _ } => Asked::Bad,
-        Asked::Look(_) => Asked::Bad,
-        Asked::Bad => Asked::Bad,
-    }
-}
-
 // Runs what a line asks for, with the bytes that it holds.
 pub fn run(bench: Bench, asked: Asked, held: &[u8], out: &mut [u8]) -> Ran
     ensures { λ r. ⌜ left r (now (out .exit)) ≡ ranOf (now (out .entry)) bench (allowedOf (bench .started) asked) (now (held .entry)) ⌝ }
 {
-    match allowed(bench.started, asked) {
+    match starting::allowed(bench.started, asked) {
         Asked::Start {
             bid,
             fitted,

@@ -7,7 +7,7 @@ use Rattle.hex.specs.Hex.{laid}
 use Rattle.framing.specs.Framing.{framedOf}
 use Rattle.unit.specs.Machine.{dueOf}
 use Rattle.trial.specs.Benches.{framingLine}
-use Rattle.trial.proofs.Fronts.{lent, untouched, whole, front}
+use Rattle.speaking.proofs.Fronts.{lent, untouched, whole, front}
 use borrow.Author.Needs.{needs}
 use Rattle.trial.proofs.framed.Statement.{statement}
 use Rattle.trial.proofs.framed.Tie as tie

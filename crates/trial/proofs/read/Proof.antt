@@ -5,7 +5,7 @@ use Rattle.wire.specs.Replies.{found}
 use Rattle.script.specs.Printing.{typed}
 use Rattle.script.proofs.Turns.{typed-append}
 use lib.ListN.{length, take}
-use Rattle.trial.proofs.Fronts.{lent, whole, front}
+use Rattle.speaking.proofs.Fronts.{lent, whole, front}
 use borrow.Author.Needs.{needs}
 use Rattle.trial.proofs.read.Statement.{statement}
 use Rattle.trial.proofs.read.Tie as tie

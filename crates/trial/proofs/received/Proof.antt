@@ -6,7 +6,7 @@ use lib.ListN.{length, take}
 use Rattle.reading.specs.Lines.{lineHeld}
 use Rattle.unit.specs.Machine.{heardOf}
 use Rattle.trial.specs.Benches.{receivedOf}
-use Rattle.trial.proofs.Fronts.{lent, untouched, whole, front}
+use Rattle.speaking.proofs.Fronts.{lent, untouched, whole, front}
 use borrow.Author.Needs.{needs}
 use Rattle.trial.proofs.received.Statement.{statement}
 use Rattle.trial.proofs.received.Tie as tie

@@ -1,8 +1,8 @@
 -- By whether a machine was started, and what is asked. Assumes nothing.
-use Rattle.trial.specs.Benches.{allowedOf}
+use Rattle.starting.specs.Starts.{allowedOf}
 use borrow.Author.Needs.{needs}
-use Rattle.trial.proofs.allowed.Statement.{statement}
-use Rattle.trial.proofs.allowed.Tie as tie
+use Rattle.starting.proofs.allowed.Statement.{statement}
+use Rattle.starting.proofs.allowed.Tie as tie
 
 returns : tie.Need-returns
 unfolding allowedOf

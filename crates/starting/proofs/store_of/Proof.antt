@@ -1,8 +1,8 @@
 -- By whether something is stored. Assumes nothing.
-use Rattle.trial.specs.Benches.{storeOf}
+use Rattle.starting.specs.Starts.{storeOf}
 use borrow.Author.Needs.{needs}
-use Rattle.trial.proofs.store_of.Statement.{statement}
-use Rattle.trial.proofs.store_of.Tie as tie
+use Rattle.starting.proofs.store_of.Statement.{statement}
+use Rattle.starting.proofs.store_of.Tie as tie
 
 read-requires : tie.Need-read-requires
 read-requires c κs = search needs

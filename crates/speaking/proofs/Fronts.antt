@@ -9,7 +9,7 @@ use native.Mathlib.Nat.{min-le-right, min-eq-left, min-eq-right}
 use lib.ListN.{length, take, drop, length-replicate}
 use lib.Seq.{length-take-le, length-front, take-all, take-append-seam}
 use Rattle.laws.proofs.Lists.{lt-or-le}
-use Rattle.trial.specs.Benches.{blank}
+use Rattle.speaking.specs.Speaking.{blank}
 
 blank-length : length blank ≡ 1024
 unfolding blank

@@ -1,8 +1,8 @@
 -- By what the start answers. Assumes nothing.
 use Rattle.script.specs.Printing.{typed}
 use borrow.Author.Needs.{needs}
-use Rattle.trial.proofs.start_line.Statement.{statement}
-use Rattle.trial.proofs.start_line.Tie as tie
+use Rattle.starting.proofs.start_line.Statement.{statement}
+use Rattle.starting.proofs.start_line.Tie as tie
 
 enum-told : tie.Need-enum-told
 enum-told c = search needs

@@ -1,7 +1,7 @@
 -- Only a command has a payload. Assumes nothing.
 use borrow.Author.Needs.{needs}
-use Rattle.trial.proofs.span_of.Statement.{statement}
-use Rattle.trial.proofs.span_of.Tie as tie
+use Rattle.speaking.proofs.span_of.Statement.{statement}
+use Rattle.speaking.proofs.span_of.Tie as tie
 
 enum-known-line : tie.Need-enum-known-line
 enum-known-line c = search needs
