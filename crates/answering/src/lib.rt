@@ -29,7 +29,7 @@ fn stat_told(outcome: Outcome) -> u8
     }
 }
 
-// The status of an accepted 0x50: NEW where words came since the last one.
+// The status of an accepted 0x50: NEW where the words are still new as raw readings.
 fn new_where(fresh: bool) -> u8
     ensures { λ r. ⌜ r ≡ newWhere fresh ⌝ }
 {

@@ -1,7 +1,8 @@
-// What a transfer asks of a board: the checks in their order, and what comes of them.
+// What a transfer asks of a board: the checks that need no more of it than its kind, its BID and its mode, and what comes
+// of them.
 ghost use mathlib.Core.Path.{_≡_};
 ghost use Rattle.asking.specs.Checks.{isStartup};
-ghost use Rattle.asking.specs.Asked.{refusedBy, askedOf};
+ghost use Rattle.asking.specs.Asked.{refusedBy, askedNumber, askedOf, numberAsked};
 use answers::Answer;
 use answers::Outcome;
 use command::Command;
@@ -10,7 +11,8 @@ use command::Refusal;
 use kinds::Kind;
 use modes::Mode;
 
-// What a transfer comes to: no reply, with what is told instead; a reply that refuses it; or a command to run.
+// What a transfer comes to: no reply, with what is told instead; a reply that refuses it; or a command to run, which may
+// still be refused for the mode, its channel or its checksum.
 pub enum Asked {
     Silence(Outcome),
     Refusal(Answer),
@@ -50,6 +52,7 @@ fn refused_by(r: Refusal) -> Asked
 // What a transfer asks of a board of a kind and a BID in a mode; where none was sent, nothing.
 pub fn asked_of(kind: Kind, bid: u8, mode: Mode, sent: bool, transfer: &[u8]) -> Asked
     ensures { λ r. ⌜ r ≡ askedOf kind bid mode sent (now (transfer .entry)) ⌝ }
+    ensures number { λ r. ⌜ askedNumber r ≡ numberAsked kind bid mode sent (now (transfer .entry)) ⌝ }
 {
     if !sent {
         return Asked::Silence(Outcome::NoTransfer);

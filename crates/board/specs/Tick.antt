@@ -3,6 +3,7 @@
 use Prim.Native.Nat.{ℕ}
 use mathlib.Core.{Bool.Bool, Bool.true, Bool.false, Bool.cond, Bool.not, Bool._||_, List.List, List._++_, Option.Option, Option.some}
 use lib.{Dec.eqb, IntN.ℤ, ListN.length, ListN.take, ListN.drop, ListN.replicate}
+use Rattle.kinds.specs.Kinds.{wordRoom}
 use Rattle.modes.specs.{Table.olderOf, Table.stepOf, declared.Limits.Limits}
 use Rattle.channels.specs.Operations.{overcurrentAt}
 use Rattle.watchdog.specs.Watchdog as dog
@@ -20,9 +21,9 @@ use Rattle.board.specs.declared.Ticked.{Ticked}
 
 -- ---- step 1: age and timer go up by one, and words that came take the place of the old
 -- as many as the board has are words brought, and are new both as raw and as engineering readings; behind them the
--- room for the longest board's words is 0
+-- room, which is that of the board with the most words, is 0
 abbrev pub held : List ℕ → List ℕ
-held words = take 130 words ++ drop (length words) (replicate 130 0)
+held words = take wordRoom words ++ drop (length words) (replicate wordRoom 0)
 
 abbrev pub bothNew : Fresh
 bothNew = record { raw = true; engineering = true }

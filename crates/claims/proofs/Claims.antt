@@ -3,6 +3,7 @@ use Rattle.refusals.proofs.Answered.{exactly-when}
 use Rattle.refusals.proofs.Refused.{refused-command}
 use Rattle.refusals.proofs.RefusedTicks.{refused-tick}
 use Rattle.refusals.proofs.Untouched.{other-refusals}
+use Rattle.refusals.proofs.Rules.{base-board}
 use Rattle.groups.proofs.Groups.{groups}
 use Rattle.groups.proofs.Altered.{altered}
 use Rattle.groups.proofs.Resets.{reset-is-told}
@@ -33,6 +34,7 @@ claims =
       refused-command = refused-command;
       refused-tick = refused-tick;
       other-refusals = other-refusals;
+      base-board = base-board;
       groups = groups;
       altered = altered;
       reset-is-told = reset-is-told;

@@ -8,7 +8,7 @@ use Rattle.modes.specs.declared.Limits.{Limits}
 use Rattle.memory.specs.declared.Store.{Store}
 use Rattle.state.specs.{declared.parts.Board.Board, declared.parts.Profile.Profile}
 use Rattle.unit.specs.{declared.Machine.Machine, Runs.Sample, Runs.Reached}
-use Rattle.refusals.specs.{Conditions.ExactlyWhen, Refused.RefusedCommand, RefusedTicks.RefusedTick, Untouched.OtherRefusals}
+use Rattle.refusals.specs.{Conditions.ExactlyWhen, Refused.RefusedCommand, RefusedTicks.RefusedTick, Untouched.OtherRefusals, Rules.BaseBoard}
 use Rattle.groups.specs.{Groups.Groups, Altered.Altered, Resets.ResetIsTold, Unfitted.Unfitted, Counts.Counts}
 use Rattle.changes.specs.{StepsOfChannels.StepsOfChannels, ChannelsAfter.ChannelsAfter, SettingsChange.SettingsChange}
 use Rattle.changes.specs.{ModeChange.ModeChange, CountsShown.CountsShown, SoundMachine.SoundMachine}
@@ -24,6 +24,7 @@ pub record Claims : Type 0 where
   pub refused-command : RefusedCommand
   pub refused-tick : RefusedTick
   pub other-refusals : OtherRefusals
+  pub base-board : BaseBoard
   -- demand 2: what commands, overcurrent and resets do, at every tick
   pub groups : (rail : ℤ) (limits : Limits) (transfer : List ℕ) (board : Board) → Groups rail limits transfer board
   pub altered : (rail : ℤ) (limits : Limits) (transfer : List ℕ) (board : Board) → Altered rail limits transfer board

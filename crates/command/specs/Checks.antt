@@ -1,6 +1,6 @@
 -- Document 01's table of refusals, 1 to 7, in its order, for every kind of board: the first check that applies answers,
--- and where none does the number is 0. This is the one list: the decoder promises its number with the mode alone, and
--- the command step with all that a board brings. `7 when b` is a check with the number 7 that applies where b holds.
+-- and where none does the number is 0. The command step is defined by this list, with all that a board brings; the
+-- decoder promises its number with the mode alone. `7 when b` is a check with the number 7 that applies where b holds.
 -- Assumes nothing: these are definitions.
 use Prim.Native.Nat.{ℕ}
 use mathlib.Core.Bool.{Bool, true, false, cond, not, _&&_, _||_}

@@ -23,7 +23,7 @@ pub struct Group {
     pub spoken: u32,
 }
 
-// The commands that the decoder knows, by the names of their ICD pages.
+// The commands that the decoder knows, by short names after their ICD pages.
 enum Name {
     SystemReset,
     NoOperation,
@@ -53,8 +53,8 @@ enum Listed {
     Missing,
 }
 
-// How a reply is laid out, by what it tells: nothing more than its 5 bytes, the overcurrent faults, the measured words, or
-// a parameter.
+// How a reply is laid out, by what it tells: nothing more than its 5 bytes, the overcurrent faults, the measured words,
+// or a parameter.
 pub enum Layout {
     Short,
     Faults,
@@ -62,8 +62,9 @@ pub enum Layout {
     Parameter(u16),
 }
 
-// A command with what it carries: a group, a channel, a parameter's id, an id and a value, or a checksum. A command that
-// only has something told, as a NOOP has, is one case with the layout of its reply.
+// A command with what it carries: a group, a channel, a parameter's id, an id and a value, or a checksum. The commands
+// that change neither mode, channels nor memory are one case with the layout of their reply: 0x02, 0x06, 0x42, 0x82, and
+// 0x50, which ends NEW besides.
 pub enum Command {
     SystemReset,
     CancelOperation,
@@ -250,7 +251,7 @@ fn carried(name: Name, transfer: &[u8]) -> Decoded
 }
 
 // A command as the table has it: long enough, with its key, and then what it carries. A code that has no row is not
-// listed, whatever a board's list says.
+// listed; no list of a kind has one.
 fn by_list(entry: Listed, transfer: &[u8]) -> Decoded
     ensures { λ r. ⌜ r ≡ listed entry (now (transfer .entry)) ⌝ }
 {

@@ -14,7 +14,8 @@ use Rattle.answers.specs.declared.Outcome.the-variants.{NoTransfer, Answered}
 use Rattle.effects.specs.Effects.{runOf}
 use Rattle.asking.specs.Checks.{isStartup, checksOf}
 
--- the command that a transfer is to a board, and what it does; a transfer that none of the checks refuses is a command
+-- the command that a transfer is to a board, and what it does; a transfer that none of the checks refuses is a command,
+-- so the second row is not reached
 abbrev pub doneOf : ℤ → Limits → ℕ → Decoded → Board → Commanded
 doneOf rail limits code (Run c) b = runOf rail limits code c b
 doneOf rail limits code (Refused r) b = silentOf (Answered Accepted) b

@@ -1,12 +1,14 @@
--- Document 01's effects, command by command, in its order. `code` is the command's code, from which the reply's is
--- made; the last argument is the board as the command finds it. Assumes nothing: these are definitions.
+-- Document 01's effects, command by command, in its order. Where a command knows a 6 or a 7 of its own, its function
+-- answers that too; the step takes an effect only where no check applies, so there those rows are not reached. `code` is
+-- the command's code, from which the reply's is made; the last argument is the board as the command finds it. Assumes
+-- nothing: these are definitions.
 use Prim.Native.Nat.{ℕ}
 use mathlib.Core.Bool.{Bool, true, false, cond, not}
 use lib.IntN.{ℤ}
 use Rattle.wire.specs.Replies.{replyOf}
 use Rattle.modes.specs.{Commands.toSafety, Commands.toNominal, declared.Mode.Mode, declared.Limits.Limits}
 use Rattle.modes.specs.declared.Mode.the-variants.{Startup, Nominal, Safety, Emergency}
-use Rattle.modes.specs.declared.ModeAnswer as change
+use Rattle.modes.specs.declared.ModeAnswer as switch
 use Rattle.channels.specs.Operations.{groupOn, groupOff, groupState, switchOn, switchOff, commandEnabledOff, wrongToSwitchOn, wrongToSwitchOff}
 use Rattle.channels.specs.declared.Channels.{Channels}
 use Rattle.command.specs.{declared.Group.Group, declared.Command.Command, declared.Layout.Layout}
@@ -60,10 +62,10 @@ cancelledOf code b = acceptedOf code (withChannels (commandEnabledOff (b .profil
 
 -- ---- 0x30 and 0x32: the mode that the command leads to, with what the change brings for the channels; 6 where it is
 -- not available
-unfoldable pub switchedModeOf : ℕ → change.ModeAnswer → Board → Commanded
-switchedModeOf code (change.ModeAnswer.Accepted phase) b =
+unfoldable pub switchedModeOf : ℕ → switch.ModeAnswer → Board → Commanded
+switchedModeOf code (switch.ModeAnswer.Accepted phase) b =
     acceptedOf code (withPhase phase (withChannels (enteringOf (modeOf b) (phase .mode) (b .profile) (b .channels)) b))
-switchedModeOf code change.ModeAnswer.Unavailable b = refusedOf NotAvailable code b
+switchedModeOf code switch.ModeAnswer.Unavailable b = refusedOf NotAvailable code b
 
 -- ---- 0x42: the sets of channels, and how often each one tripped
 unfoldable pub faultsOf : ℕ → Board → Commanded
@@ -108,7 +110,8 @@ savedIn code given b =
 unfoldable pub restartedOf : Board → Commanded
 restartedOf b = silentOf (Answered Accepted) (commandResetOf b)
 
--- ---- the commands that only have something told; 0x02 and 0x06 do nothing more than be accepted
+-- ---- the commands that change neither mode, channels nor memory, by the layout of their reply; 0x02 and 0x06 do nothing
+-- more than be accepted
 unfoldable pub reportedOf : ℕ → Layout → Board → Commanded
 reportedOf code Layout.Short b = acceptedOf code b
 reportedOf code Layout.Faults b = faultsOf code b

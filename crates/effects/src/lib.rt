@@ -111,7 +111,8 @@ fn restarted(b: Board) -> Obeyed
     }
 }
 
-// A command that only has something told: of those parts the timer alone is changed, and by 0x50 what is new.
+// A command that changes neither mode, channels nor memory: of those parts the timer alone is another, and after 0x50
+// what is new.
 fn reported(b: Board, layout: Layout) -> Obeyed
     ensures { λ r. ⌜ r ≡ obeyedIn (reportedOf anyCode layout b) ⌝ }
 {

@@ -1,49 +1,71 @@
--- What goes by the kind of board: all that differs between the boards stands on this page, and nowhere else. A set of
--- channels is a number whose bit c is channel c, and `a ∷ b ∷ []` is a list of two. Assumes nothing: these are
--- definitions.
+-- What goes by the kind of board: all that differs between the boards, but for the layouts of their readings, is defined
+-- on this page and on no other. IVID is 7 for all of them. A set of channels is a number whose bit c is channel c; `a ∷ b ∷ []` is a list of two, and `cond b x y` is x where b holds,
+-- else y. Assumes nothing: these are definitions.
 use Prim.Native.Nat.{ℕ, _-_, _^_}
 use mathlib.Core.{Bool.Bool, Bool.true, Bool.false, Bool.cond, Bool._||_, List.List, List.[], List._∷_}
 use lib.Dec.{eqb}
 use Rattle.kinds.specs.declared.Kind.{Kind}
 use Rattle.kinds.specs.declared.Kind.the-variants.{Distribution, Battery, Integrated}
 
--- STID; the last BID, where the first is 1; how many measured words a tick brings, where it brings any; the channels
--- that the layout has a place for; the defaults of Table 3-25 that differ, of CH_STARTUP_ENA_BF and CH_LATCHOFF_ENA_BF
--- and of CH_STARTUP_KEY and CH_LATCHOFF_KEY, 0 where the table gives none; and the codes that the board has
+-- ---- what a kind of board has
 pub record KindOfBoard : Type 0 where
-  pub stid : ℕ
-  pub lastBid : ℕ
-  pub words : ℕ
-  pub places : ℕ
-  pub enabled : ℕ
-  pub key : ℕ
-  pub codes : List ℕ
+  pub stid : ℕ  -- its STID
+  pub lastBid : ℕ  -- the last of its BIDs; the first is 1
+  pub words : ℕ  -- how many measured words a tick brings, where it brings any
+  pub places : ℕ  -- the channels that its layout has a place for
+  pub enableBits : ℕ  -- the default of CH_STARTUP_ENA_BF and CH_LATCHOFF_ENA_BF, 0 where Table 3-25 gives none
+  pub enableKey : ℕ  -- the default of CH_STARTUP_KEY and CH_LATCHOFF_KEY, likewise
+  pub codes : List ℕ  -- the commands that it knows, by their codes
 
 -- channels 0 to n - 1
-abbrev pub first : ℕ → ℕ
-first n = 2 ^ n - 1
+abbrev pub below : ℕ → ℕ
+below n = 2 ^ n - 1
 
--- all boards have these
-abbrev pub distributionCodes : List ℕ
-distributionCodes = 0xAA ∷ 0x02 ∷ 0x04 ∷ 0x06 ∷ 0x10 ∷ 0x12 ∷ 0x14 ∷ 0x16 ∷ 0x18 ∷ 0x30 ∷ 0x32 ∷ 0x42 ∷ 0x50 ∷ 0x82 ∷ 0x84 ∷ 0x86 ∷ 0x90 ∷ 0x92 ∷ 0x94 ∷ []
-
-abbrev pub batteryCodes : List ℕ
-batteryCodes = 0xAA ∷ 0x02 ∷ 0x06 ∷ 0x30 ∷ 0x32 ∷ 0x82 ∷ 0x84 ∷ 0x86 ∷ 0x90 ∷ 0x92 ∷ 0x94 ∷ []
-
-abbrev pub integratedCodes : List ℕ
-integratedCodes = 0xAA ∷ 0x02 ∷ 0x04 ∷ 0x06 ∷ 0x10 ∷ 0x12 ∷ 0x14 ∷ 0x16 ∷ 0x18 ∷ 0x30 ∷ 0x32 ∷ 0x42 ∷ 0x82 ∷ 0x84 ∷ 0x86 ∷ 0x90 ∷ 0x92 ∷ 0x94 ∷ []
-
+-- ---- the distribution board (PDU); the battery board (PBU), with whether its ABF is placed, by which nothing goes yet;
+-- and the integrated board (PIU), which has more places and words with a daughterboard. The codes of their own that the
+-- last two will have, 0x44, 0x60 and 0x62, and 0xA0, are not there yet.
 abbrev pub boardOf : Kind → KindOfBoard
-boardOf Distribution = record { stid = 0x11; lastBid = 8; words = 122; places = first 32; enabled = 0x111; key = 0x11111222; codes = distributionCodes }
-boardOf (Battery abf) = record { stid = 0x12; lastBid = 4; words = 39; places = first 0; enabled = 0; key = 0; codes = batteryCodes }
-boardOf (Integrated daughterboard) = record { stid = 0x1A; lastBid = 1; words = cond daughterboard 130 53; places = cond daughterboard (first 32) (first 9); enabled = 0x23; key = 0x11111134; codes = integratedCodes }
+boardOf Distribution =
+    record {
+      stid = 0x11;
+      lastBid = 8;
+      words = 122;
+      places = below 32;
+      enableBits = 0x111;
+      enableKey = 0x11111222;
+      codes = 0xAA ∷ 0x02 ∷ 0x04 ∷ 0x06 ∷ 0x10 ∷ 0x12 ∷ 0x14 ∷ 0x16 ∷ 0x18 ∷ 0x30 ∷ 0x32 ∷ 0x42 ∷ 0x50 ∷ 0x82 ∷ 0x84 ∷ 0x86 ∷ 0x90 ∷ 0x92 ∷ 0x94 ∷ [];
+    }
+boardOf (Battery abf) =
+    record {
+      stid = 0x12;
+      lastBid = 4;
+      words = 39;
+      places = below 0;
+      enableBits = 0;
+      enableKey = 0;
+      codes = 0xAA ∷ 0x02 ∷ 0x06 ∷ 0x30 ∷ 0x32 ∷ 0x82 ∷ 0x84 ∷ 0x86 ∷ 0x90 ∷ 0x92 ∷ 0x94 ∷ [];
+    }
+boardOf (Integrated daughterboard) =
+    record {
+      stid = 0x1A;
+      lastBid = 1;
+      words = cond daughterboard 130 53;
+      places = cond daughterboard (below 32) (below 9);
+      enableBits = 0x23;
+      enableKey = 0x11111134;
+      codes = 0xAA ∷ 0x02 ∷ 0x04 ∷ 0x06 ∷ 0x10 ∷ 0x12 ∷ 0x14 ∷ 0x16 ∷ 0x18 ∷ 0x30 ∷ 0x32 ∷ 0x42 ∷ 0x82 ∷ 0x84 ∷ 0x86 ∷ 0x90 ∷ 0x92 ∷ 0x94 ∷ [];
+    }
+
+-- the room for measured words: the most that a kind has
+abbrev pub wordRoom : ℕ
+wordRoom = 130
 
 -- whether a code is in a list
 unfoldable pub isIn : ℕ → List ℕ → Bool
 isIn code [] = false
 isIn code (c ∷ codes) = eqb code c || isIn code codes
 
--- a profile of this kind can be started: the other two wait for their requests
+-- a profile of this kind can be started: of the other two none can, until they have their own codes
 abbrev pub isServed : Kind → Bool
 isServed Distribution = true
 isServed (Battery abf) = false

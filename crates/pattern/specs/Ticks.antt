@@ -3,7 +3,7 @@
 use Prim.Native.Nat.{ℕ, zero, suc, _+_, _-_, _*_, _/_, _%_}
 use mathlib.Core.{Bool.cond, List.List, List.[], List._∷_, List._++_}
 use lib.{Dec.ltb, Dec.eqb, IntN.pos, ListN.length, ListN.getD, ListN.take, ListN.drop, ListN.set}
-use Rattle.kinds.specs.Kinds.{boardOf}
+use Rattle.kinds.specs.Kinds.{boardOf, wordRoom}
 use Rattle.kinds.specs.declared.Kind.the-variants.{Distribution}
 use Rattle.pattern.specs.{Pattern.waking, Pattern.nextOf, Pattern.drawOf, declared.ticks.Transfer.Transfer}
 use Rattle.pattern.specs.declared.ticks.Brought.{Brought}
@@ -73,7 +73,7 @@ wordCount = boardOf Distribution .words
 
 -- the room for words at first, each its own place
 abbrev pub wordsFirst : List ℕ
-wordsFirst = numbersFrom 0 130
+wordsFirst = numbersFrom 0 wordRoom
 
 -- before a tick with words (w) one of them becomes the draw
 abbrev pub changedOf : ℕ → ℕ → List ℕ → List ℕ

@@ -31,6 +31,7 @@ use Rattle.command.specs.Checks.{Check, _when_, first}
 use Rattle.command.proofs.Laws.{none, _and_, at-code, tableCodes, has-a-command}
 use Rattle.state.specs.Parts.{modeOf}
 use Rattle.asking.specs.Checks.{_is_, isStartup, unavailable, channelCodes, channelWrong, checksumWrong, checksOf}
+use Rattle.memory.specs.Memory.{isRight}
 use Rattle.commands.specs.Step.{commandedOf}
 use Rattle.commands.proofs.Told.{same-number, number-told}
 use Rattle.refusals.specs.Conditions as claim
@@ -144,7 +145,7 @@ only-one t n m g h =
     (lt-or-le m n))
     (lt-or-le n m)
 
--- ---- the list of checks that the step is known to answer by, and the table's rows, have the same first number
+-- ---- the list of checks that the step is defined by, and the table's rows, have the same first number
 or-false : (b : Bool) → b ≡ b || false
 or-false true = refl
 or-false false = refl
@@ -179,7 +180,13 @@ read-whole Int64 x = (refl, refl)
 read-whole Uint64 x = (refl, refl)
 read-whole Double x = cases (nanPattern binary64 x) (λ e. rw e (refl, refl)) (λ e. rw e (refl, refl))
 
--- startup is asked for in two ways
+-- an id is wrong, and a mode startup, in two ways of writing
+id-same : (c : ℕ) (p : Parameter) → checks.idWrong c p ≡ claim.idWrong c p
+unfolding checks.idWrong claim.idWrong
+id-same c (ReadWrite type) = refl
+id-same c (ReadOnly type) = refl
+id-same c Unknown = refl
+
 startup-same : (m : Mode) → isStartup m ≡ m is Startup
 unfolding isStartup
 startup-same Startup = refl
@@ -222,8 +229,8 @@ module _ (t : Sent) where
   -- 0x84 as a whole: its four checks are one 5 and one 7
   parameter-checked : (p : Parameter)
       → first (5 when ltb (length s) 6 ∷ 7 when checks.idWrong 0x84 p ∷ 5 when checks.valueReads p (valuePart s) checks.isTooShort ∷ 7 when checks.valueReads p (valuePart s) checks.isNaN ∷ [])
-      ≡ first (5 when (ltb (length s) 6 || valueShort p t) ∷ 7 when ((checks.idWrong 0x84 p || valueNaN p t) || false) ∷ [])
-  unfolding first checks.idWrong
+      ≡ first (5 when (ltb (length s) 6 || valueShort p t) ∷ 7 when ((claim.idWrong 0x84 p || valueNaN p t) || false) ∷ [])
+  unfolding first checks.idWrong claim.idWrong
   parameter-checked (ReadWrite type) =
       cases (ltb (length s) 6)
       (λ e. rw e)
@@ -237,15 +244,15 @@ module _ (t : Sent) where
 
   module _ (listed : isIn (code t) (kind t .codes) ≡ true) where
     set-agrees : code t ≡ 0x84 → Agree
-    unfolding first checksOf checks.checks isIn commandTable.find commandTable.commandTable neededBy unavailable channelCodes keyWrong channelWrong checksumWrong
+    unfolding first checksOf checks.checks isIn commandTable.find commandTable.commandTable neededBy unavailable channelCodes keyWrong channelWrong checksumWrong isRight
     set-agrees e = rw (listed, e) (parameter-checked (parameterOf (id t)))
 
     other-agrees : eqb (code t) 0x84 ≡ false → Agree
-    unfolding first checksOf checks.checks
+    unfolding first checksOf checks.checks unavailable channelCodes channelWrong checksumWrong isRight
     other-agrees e =
         let h = has-a-command (t .board .profile .kind) (code t) listed in
-        rw (listed, e, lengths-agree (code t) h, keys-agree (code t) h)
-        (joined (ltb (length s) (neededBy lengths (code t))) (claim.notAvailable t) (keyWrong (code t) (t at 4)) (checks.idWrong (code t) (parameterOf (id t))) false (claim.channelWrong t) (claim.checksumWrong t))
+        rw (listed, id-same (code t) (parameterOf (id t)), e, lengths-agree (code t) h, keys-agree (code t) h)
+        (joined (ltb (length s) (neededBy lengths (code t))) (claim.notAvailable t) (keyWrong (code t) (t at 4)) (claim.idWrong (code t) (parameterOf (id t))) false (claim.channelWrong t) (claim.checksumWrong t))
 
   from-4 : Agree
   unfolding first checksOf checks.checks

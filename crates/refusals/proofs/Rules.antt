@@ -26,7 +26,8 @@ use Rattle.state.specs.declared.parts.Profile.{Profile}
 use Rattle.grammar.specs.Grammar.{Read, fails, reads, times, end}
 use Rattle.sheet.specs.Form.{head, tickLine, Sheet, sheet, sheetIn}
 use Rattle.sheet.proofs.Behind.{went}
-use Rattle.refusals.specs.Rules.{InRange, KeepsAllRules, OfTheForm}
+use Rattle.refusals.specs.Conditions.{codesIn}
+use Rattle.refusals.specs.Rules.{InRange, KeepsAllRules, OfTheForm, BaseBoard}
 
 -- ---- tests
 both : (x y : Bool) → (x && y) ≡ true → (x ≡ true) × (y ≡ true)
@@ -181,3 +182,8 @@ read-form s w i e =
       nothing-behind = at-end s (l .place) (n .place) (n .what) (n .first);
     })
     (lt-or-le 65536 (length s))
+
+-- ---- the distribution board is document 01's
+pub base-board : BaseBoard
+unfolding codesIn
+base-board = record { stid = refl; last-bid = refl; words = refl; places = refl; base-list = refl; started = refl }

@@ -14,14 +14,14 @@ use Rattle.value.specs.{Types.width, declared.ValueType.ValueType}
 use Rattle.value.specs.declared.ValueType.the-variants.{Int8, Uint8, Int16, Uint16, Int32, Uint32, Float, Int64, Uint64, Double}
 use Rattle.settings.specs.{Table.parameterOf, declared.Parameter.Parameter}
 use Rattle.settings.specs.declared.Parameter.the-variants.{ReadWrite, ReadOnly, Unknown}
-use Rattle.modes.specs.declared.Mode.the-variants.{Startup}
-use Rattle.modes.specs.declared.Limits.{Limits}
-use Rattle.command.specs.Checks.{Check, _when_, idWrong}
+use Rattle.modes.specs.{Table._at-least_, Table.same, declared.Mode.Mode, declared.Limits.Limits}
+use Rattle.modes.specs.declared.Mode.the-variants.{Startup, Nominal, Safety, Emergency}
+use Rattle.channels.specs.Sets.{has}
+use Rattle.image.specs.Image.{settingsChecksum}
+use Rattle.command.specs.Checks.{Check, _when_}
 use Rattle.memory.specs.Limits.{limitsOf}
 use Rattle.state.specs.{Parts.modeOf, Parts.wordCount, declared.parts.Board.Board}
 use Rattle.answers.specs.{Answers.toldNumber, declared.Commanded.Commanded}
-use Rattle.asking.specs.Checks as asking
-use Rattle.asking.specs.Checks.{_is_}
 use Rattle.commands.specs.Step.{commandedOf}
 use Rattle.unit.specs.{declared.Machine.Machine, Runs.Sample, Runs.told, Runs.happens, Runs.afterStep3}
 
@@ -83,6 +83,10 @@ lengths =
     ∷ (0x90 needs 5) ∷ (0x92 needs 5) ∷ (0x94 needs 7)
     ∷ []
 
+unfoldable pub codesIn : List Need → List ℕ
+codesIn [] = []
+codesIn ((k needs n) ∷ more) = k ∷ codesIn more
+
 unfoldable pub neededBy : List Need → ℕ → ℕ
 neededBy [] c = 0
 neededBy ((k needs n) ∷ more) c = cond (eqb c k) n (neededBy more c)
@@ -98,18 +102,32 @@ valueShort Unknown t = false
 abbrev pub shorterThanNeeded : Sent → Bool
 shorterThanNeeded t = t has-fewer-than neededBy lengths (code t) bytes || eqb (code t) 0x84 && valueShort (parameterOf (id t)) t
 
--- ---- 6: the channel commands outside nominal, 0x32 in emergency, 0x30 in emergency, or in safety with the rail below
--- safety low: `asking` spells it out
+-- ---- 6: the five channel commands outside nominal; 0x32 in emergency; 0x30 in emergency, and in safety unless the rail
+-- is at least safety low
+infix 70 _in-mode_
+abbrev pub _in-mode_ : Sent → Mode → Bool
+t in-mode m = same (modeOf (t .board)) m
+
 abbrev pub notAvailable : Sent → Bool
-notAvailable t = asking.unavailable (code t) (modeOf (t .board)) (t .rail) (t .limits)
+notAvailable t =
+    cond (isIn (code t) (0x10 ∷ 0x12 ∷ 0x14 ∷ 0x16 ∷ 0x18 ∷ [])) (not (t in-mode Nominal))
+    (cond (eqb (code t) 0x32) (t in-mode Emergency)
+    (cond (eqb (code t) 0x30) (t in-mode Emergency || t in-mode Safety && not (t .rail at-least t .limits .«safety_low»))
+    false))
 
 -- ---- 7
 unfoldable pub keyWrong : ℕ → ℕ → Bool
 keyWrong c key = eqb c 0xAA && key differs-from 0xA6 || isIn c (0x90 ∷ 0x92 ∷ 0x94 ∷ []) && key differs-from 0xA7
 
--- 0x16, 0x18: there is no such channel or it is not fitted, and for 0x18 also a force-enabled one
+-- 0x16, 0x18: an index above 31 or a channel that is not fitted, and for 0x18 also a force-enabled one
+abbrev pub notThere : Sent → Bool
+notThere t = ltb 31 (t at 4) || not (has (t .board .profile .fitted) (t at 4))
+
 abbrev pub channelWrong : Sent → Bool
-channelWrong t = asking.channelWrong (code t) (t .board .profile) (t at 4)
+channelWrong t =
+    cond (eqb (code t) 0x16) (notThere t)
+    (cond (eqb (code t) 0x18) (notThere t || has (t .board .profile .forced) (t at 4))
+    false)
 
 -- a NaN, which only the two float types have
 abbrev pub isNaN : ValueType → ℕ → Bool
@@ -130,18 +148,32 @@ valueNaN (ReadOnly type) t = false
 valueNaN Unknown t = false
 
 -- an id that is unknown (0x82), unknown or read-only (0x84, 0x86), or a value that is a NaN (0x84)
+abbrev pub unknown : Parameter → Bool
+unknown (ReadWrite type) = false
+unknown (ReadOnly type) = false
+unknown Unknown = true
+
+abbrev pub unsettable : Parameter → Bool
+unsettable (ReadWrite type) = false
+unsettable (ReadOnly type) = true
+unsettable Unknown = true
+
+unfoldable pub idWrong : ℕ → Parameter → Bool
+idWrong c p = eqb c 0x82 && unknown p || (eqb c 0x84 || eqb c 0x86) && unsettable p
+
 abbrev pub parameterWrong : Sent → Bool
 parameterWrong t = idWrong (code t) (parameterOf (id t)) || eqb (code t) 0x84 && valueNaN (parameterOf (id t)) t
 
 -- 0x94: neither 0 nor that of the settings in force
 abbrev pub checksumWrong : Sent → Bool
-checksumWrong t = asking.checksumWrong (code t) (checksum t) (t .board .memory)
+checksumWrong t =
+    eqb (code t) 0x94 && not (eqb (checksum t) 0 || eqb (checksum t) (settingsChecksum (t .board .memory .current)))
 
 -- ---- the table
 abbrev pub refusals : Sent → List Check
 refusals t =
     1 when (t has-fewer-than 4 bytes)
-    ∷ 2 when (modeOf (t .board) is Startup)
+    ∷ 2 when (t in-mode Startup)
     ∷ 3 when notTheBoards t
     ∷ 4 when notListed t
     ∷ 5 when shorterThanNeeded t

@@ -1,10 +1,12 @@
--- The rules of a profile, written out as document 01 gives them, with the numbers of its kind of board, and what a
--- session sheet is made of, in the parts of the grammar of `sheet`: refusals 8 and 14 are told by these. `(c : ℕ) × B`
--- is some number c of which B holds. Assumes nothing: these are definitions.
-use Prim.Native.Nat.{ℕ, _≤_, _<_}
+-- The rules of a profile, written out as document 01 gives them with the numbers of its kind of board, and for now a kind
+-- that can be started; what a session sheet is made of, in the parts of the grammar of `sheet`: refusals 8 and 14 are
+-- told by these; and that the distribution board is document 01's board. `(c : ℕ) × B` is some number c of which B
+-- holds. Assumes nothing: these are definitions and the statement of a claim.
+use Prim.Native.Nat.{ℕ, _-_, _^_, _≤_, _<_}
 use mathlib.Core.{Path._≡_, Bool.true, List.List}
 use lib.{ListN.length, Signed._≤ℤ_}
 use Rattle.kinds.specs.Kinds.{boardOf, isServed}
+use Rattle.kinds.specs.declared.Kind.the-variants.{Distribution}
 use Rattle.value.specs.declared.ValueType.{ValueType}
 use Rattle.settings.specs.{Table.Range, Table.readWrite, Table.rowOf, Table.lowEnd, Table.highEnd, Values.settingOf}
 use Rattle.channels.specs.Sets.{has}
@@ -12,6 +14,7 @@ use Rattle.memory.specs.declared.Store.{Store}
 use Rattle.state.specs.declared.parts.Profile.{Profile}
 use Rattle.grammar.specs.Grammar.{reads, times}
 use Rattle.sheet.specs.Form.{Top, head, Tick, tickLine}
+use Rattle.refusals.specs.Conditions.{lengths, codesIn}
 
 -- ---- a profile, with the settings that may come with it
 -- a stored value lies in the range that its row of Table 3-25 gives; where the row gives no end, in that of its type.
@@ -45,3 +48,13 @@ pub record OfTheForm (s : List ℕ) : Type 0 where
   pub behind-ticks : ℕ
   pub ticks-stand : times (top .count) (tickLine 256) s behind-top ≡ reads ticks behind-ticks
   pub nothing-behind : behind-ticks ≡ length s
+
+-- ---- the board of document 01: STID 0x11, BID 1 to 8, 122 words, a place for each of 32 channels, the base list of
+-- codes, which is that of the lengths, and one that can be started
+pub record BaseBoard : Type 0 where
+  pub stid : boardOf Distribution .stid ≡ 0x11
+  pub last-bid : boardOf Distribution .lastBid ≡ 8
+  pub words : boardOf Distribution .words ≡ 122
+  pub places : boardOf Distribution .places ≡ 2 ^ 32 - 1
+  pub base-list : boardOf Distribution .codes ≡ codesIn lengths
+  pub started : isServed Distribution ≡ true

@@ -64,10 +64,10 @@ pub data Row : Type 0 where
 -- ---- Table 3-25, from the lowest id to the highest, where "n/a" is 0; the defaults that differ between the boards are
 -- the distribution board's
 abbrev pub enabled : ℕ
-enabled = boardOf Distribution .enabled
+enabled = boardOf Distribution .enableBits
 
 abbrev pub key : ℕ
-key = boardOf Distribution .key
+key = boardOf Distribution .enableKey
 
 unfoldable pub readWriteRows : List Row
 readWriteRows =

@@ -2,13 +2,14 @@
 use mathlib.Core.Path.{sym}
 use borrow.Author.Tests.{not-true, not-false}
 use Rattle.asking.specs.Asked.{askedOf}
+use Rattle.asking.proofs.Numbers.{with-number}
 use borrow.Author.Needs.{needs}
 use Rattle.asking.proofs.asked_of.Statement.{statement}
 use Rattle.asking.proofs.asked_of.Tie as tie
 
 returns : tie.Need-returns
 unfolding askedOf
-returns c = rw (c .if1 .taken)
+returns c = with-number _ _ _ _ _ (rw (c .if1 .taken))
 
 is-startup-requires : tie.Need-is-startup-requires
 is-startup-requires c κs = search needs
@@ -27,11 +28,11 @@ refused-by-requires c κs = search needs
 
 returns-2 : tie.Need-returns-2
 unfolding askedOf
-returns-2 c = rw (c .before .before .before .before .before .if1 .left, ← c .before .before .before .before .is-startup .ensures, sym (c .before .before .before .decode .ensures .0), c .before .c .given .1)
+returns-2 c = with-number _ _ _ _ _ (rw (c .before .before .before .before .before .if1 .left, ← c .before .before .before .before .is-startup .ensures, sym (c .before .before .before .decode .ensures .0), c .before .c .given .1))
 
 returns-3 : tie.Need-returns-3
 unfolding askedOf
-returns-3 c = rw (c .before .before .before .before .before .before .if1 .left, ← c .before .before .before .before .before .is-startup .ensures, sym (c .before .before .before .before .decode .ensures .0), c .before .before .r .given .1, c .refused-by .ensures)
+returns-3 c = with-number _ _ _ _ _ (rw (c .before .before .before .before .before .before .if1 .left, ← c .before .before .before .before .before .is-startup .ensures, sym (c .before .before .before .before .decode .ensures .0), c .before .before .r .given .1, c .refused-by .ensures))
 
 pub asked-of-spec : {M : Type 1} → statement M
 asked-of-spec =

@@ -35,7 +35,7 @@ obeying : (j : tie.Joined2) → let start = j .before .before .before .before .b
 obeying j =
     let start = j .before .before .before .before .before .before .before .before .before in
     record {
-      asks = rw (j .before .before .before .before .before .asked-of .ensures, j .before .before .before .before .before .before .mode .ensures);
+      asks = rw (j .before .before .before .before .before .asked-of .ensures .0, j .before .before .before .before .before .before .mode .ensures);
       tells = rw (j .before .before .before .before .obeyed .ensures, toZ-ofZ w16 (start .args .rail) (start .fits .rail));
       keeps = j .before .before .before .memory-change .ensures;
       alters-it = remembered (j .before);
