@@ -1,4 +1,5 @@
--- What an answered transfer leaves of the memory, and the reply that then waits. Assumes nothing: these are definitions.
+-- What an answered transfer leaves of the memory, and the reply that then waits. Assumes nothing: these are
+-- definitions.
 use Prim.Native.Nat.{ℕ}
 use mathlib.Core.Bool.{Bool, true, false}
 use Rattle.wire.specs.{Replies.replyOf, declared.reply.Reply.Reply}

@@ -1,5 +1,5 @@
-// What a transfer asks of a board: the checks that need no more of it than its kind, its BID and its mode, and what comes
-// of them.
+// What a transfer asks of a board: the checks that need no more of it than its kind, its BID and its mode, and what
+// comes of them.
 ghost use mathlib.Core.Path.{_≡_};
 ghost use Rattle.asking.specs.Checks.{isStartup};
 ghost use Rattle.asking.specs.Asked.{refusedBy, askedNumber, askedOf, numberAsked};
@@ -11,8 +11,8 @@ use command::Refusal;
 use kinds::Kind;
 use modes::Mode;
 
-// What a transfer comes to: no reply, with what is told instead; a reply that refuses it; or a command to run, which may
-// still be refused for the mode, its channel or its checksum.
+// What a transfer comes to: no reply, with what is told instead; a reply that refuses it; or a command to run, which
+// may still be refused for the mode, its channel or its checksum.
 pub enum Asked {
     Silence(Outcome),
     Refusal(Answer),

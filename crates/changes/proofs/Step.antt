@@ -1,5 +1,5 @@
--- What the command step makes of timer, mode, memory and reply, for every board and every transfer, by what each command
--- does. Assumes nothing.
+-- What the command step makes of timer, mode, memory and reply, for every board and every transfer, by what each
+-- command does. Assumes nothing.
 use Prim.Native.Nat.{ℕ}
 use mathlib.Core.Path.{_≡_, refl, sym, ap, _∙_, subst}
 use mathlib.Core.Bool.{Bool, true, false, false≢true}

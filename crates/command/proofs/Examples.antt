@@ -1,5 +1,5 @@
--- Group masks by the length of the transfer, the first rows of document 01's boundary table, and boards of another kind.
--- Assumes nothing.
+-- Group masks by the length of the transfer, the first rows of document 01's boundary table, and boards of another
+-- kind. Assumes nothing.
 use Prim.Native.Nat.{ℕ, _+_, _*_}
 use mathlib.Core.Path.{_≡_, refl, ap}
 use mathlib.Core.Bool.{true, false}

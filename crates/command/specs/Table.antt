@@ -1,6 +1,6 @@
 -- The commands that the decoder knows: the code, the bytes and the key of each, as the ICD's command pages give them.
--- Which of them a board has, the list of its kind says, in `kinds`. `a ∷ b ∷ []` is a list of two, and `cond b x y` is x where b
--- holds, else y. Assumes nothing.
+-- Which of them a board has, the list of its kind says, in `kinds`. `a ∷ b ∷ []` is a list of two, and `cond b x y` is
+-- x where b holds, else y. Assumes nothing.
 use Prim.Native.Nat.{ℕ}
 use mathlib.Core.{Bool.cond, List.List, List.[], List._∷_}
 use lib.Dec.{eqb}

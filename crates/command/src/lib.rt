@@ -63,8 +63,8 @@ pub enum Layout {
 }
 
 // A command with what it carries: a group, a channel, a parameter's id, an id and a value, or a checksum. The commands
-// that change neither mode, channels nor memory are one case with the layout of their reply: 0x02, 0x06, 0x42, 0x82, and
-// 0x50, which ends NEW besides.
+// that change neither mode, channels nor memory are one case with the layout of their reply: 0x02, 0x06, 0x42, 0x82,
+// and 0x50, which ends NEW besides.
 pub enum Command {
     SystemReset,
     CancelOperation,

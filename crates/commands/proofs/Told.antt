@@ -1,6 +1,6 @@
 -- What the command step makes of every transfer: it accepts it and the timer is 0, or it hands the board on as it was,
--- or it only answers, with the timer or without it. So the checks and the command's own tests, one after the other, come
--- to the table's answer. Assumes nothing.
+-- or it only answers, with the timer or without it. So the checks and the command's own tests, one after the other,
+-- come to the table's answer. Assumes nothing.
 use Prim.Native.Nat.{ℕ, _≤_}
 use mathlib.Core.Path.{_≡_, refl, sym, ap, _∙_, subst}
 use mathlib.Core.Bool.{Bool, true, false, cond, not}

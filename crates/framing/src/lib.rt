@@ -1,5 +1,5 @@
-// What the text line says: the frame of a reply, which is <rsp>, the reply, </rsp>, CR, LF, or the same of the echo of a
-// switch. Functions on slices and a form.
+// What the text line says: the frame of a reply, which is <rsp>, the reply, </rsp>, CR, LF, or the same of the echo of
+// a switch. Functions on slices and a form.
 ghost use mathlib.Core.Path.{_≡_};
 ghost use Prim.Native.Nat.{_+_, _≤_};
 ghost use lib.ListN.{length};

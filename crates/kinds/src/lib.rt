@@ -1,5 +1,5 @@
-// The kinds of board, and what goes by the kind: the table of specs/Kinds.antt, with a function for each column that code
-// asks for, and which kinds can be started.
+// The kinds of board, and what goes by the kind: the table of specs/Kinds.antt, with a function for each column that
+// code asks for, and which kinds can be started.
 ghost use mathlib.Core.Path.{_≡_};
 ghost use Rattle.kinds.specs.Kinds.{boardOf, isIn, isServed};
 

@@ -1,5 +1,5 @@
--- Document 01's number for each answer of a read and the place that it tells. 0 stands for an answer that is no refusal.
--- Assumes nothing: these are definitions.
+-- Document 01's number for each answer of a read and the place that it tells. 0 stands for an answer that is no
+-- refusal. Assumes nothing: these are definitions.
 use Prim.Native.Nat.{ℕ}
 use mathlib.Core.Bool.{Bool, true, false, cond, not, _&&_, _||_}
 use mathlib.Core.{List.List, List.[], Option.Option, Option.none, Option.some}

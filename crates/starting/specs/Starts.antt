@@ -1,5 +1,5 @@
--- What a line may ask before a machine is there, what a start is given, and what comes of it. Characters are their ASCII
--- codes: 10 ends a line. Assumes nothing: these are definitions.
+-- What a line may ask before a machine is there, what a start is given, and what comes of it. Characters are their
+-- ASCII codes: 10 ends a line. Assumes nothing: these are definitions.
 use Prim.Native.Nat.{ℕ}
 use mathlib.Core.{Bool.Bool, Bool.true, Bool.false, Bool.cond, List.List, List.[], List._∷_}
 use Rattle.image.specs.Image.{settingsOf}

@@ -107,8 +107,8 @@ fn due_after(outcome: Outcome, replied: bool, due: Due) -> Due
 }
 
 // One tick: the rail in millivolts, the channels that reported overcurrent, the words lent, and no transfer or one.
-// With no transfer its slice is not looked at. Words that are neither none nor as many as the board has are refused, and
-// the machine stays as it was.
+// With no transfer its slice is not looked at. Words that are neither none nor as many as the board has are refused,
+// and the machine stays as it was.
 pub fn tick(
     m: Machine,
     rail: i16,
