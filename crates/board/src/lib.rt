@@ -2,6 +2,7 @@
 ghost use mathlib.Core.List.{[]};
 ghost use mathlib.Core.Path.{_≡_};
 ghost use Prim.Native.Nat.{min};
+ghost use Rattle.kinds.specs.Kinds.{boardOf};
 ghost use Rattle.answers.specs.Answers.{toldNumber};
 ghost use Rattle.channels.specs.Operations.{overcurrentAt};
 ghost use Rattle.change.specs.Change.{enteringOf};
@@ -108,6 +109,14 @@ fn is_reset(event: Event) -> bool
     }
 }
 
+// How many words a board of a profile has.
+fn words_of(p: Profile) -> usize
+    ensures { λ r. ⌜ r ≡ boardOf (p .kind) .words ⌝ }
+{
+    let kind = p.kind;
+    kinds::word_count(kind)
+}
+
 // Whether a tick of a board with that number of words may bring so many.
 fn is_allowed(number: usize, count: usize) -> bool
     ensures { λ r. ⌜ r ≡ allowedCount number count ⌝ }
@@ -136,9 +145,7 @@ pub fn tick(
     let mut outcome = Outcome::WrongWordCount;
     let mut event = Event::NoEvent;
     let mut replied = false;
-    let profile = b.profile;
-    let kind = profile.kind;
-    let number = kinds::word_count(kind);
+    let number = words_of(b.profile);
     if is_allowed(number, words.len()) {
         let limits = b.memory.limits();
         let settled = settle(b, rail, overcurrent, limits);

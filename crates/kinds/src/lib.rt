@@ -1,7 +1,9 @@
 // The kinds of board, and what goes by the kind: the table of specs/Kinds.antt, with a function for each column that
 // code asks for, and which kinds can be started.
 ghost use mathlib.Core.Path.{_≡_};
+ghost use mathlib.Core.Bool.{false};
 ghost use Rattle.kinds.specs.Kinds.{boardOf, isIn, isServed};
+ghost use Rattle.kinds.specs.declared.Kind.the-variants.{Distribution, Battery, Integrated};
 
 // A kind of board: the battery board with whether its ABF is placed, the integrated board with whether it has a
 // daughterboard.
@@ -69,74 +71,95 @@ fn is_among(codes: &[u8], code: u8) -> bool
     false
 }
 
+// Whether the distribution board has a code in its list.
+fn distribution_lists(code: u8) -> bool
+    ensures { λ r. ⌜ r ≡ isIn code (boardOf Distribution .codes) ⌝ }
+{
+    is_among(
+        &[
+            0xAA,
+            0x02,
+            0x04,
+            0x06,
+            0x10,
+            0x12,
+            0x14,
+            0x16,
+            0x18,
+            0x30,
+            0x32,
+            0x42,
+            0x50,
+            0x82,
+            0x84,
+            0x86,
+            0x90,
+            0x92,
+            0x94,
+        ],
+        code,
+    )
+}
+
+// Whether the battery board has a code in its list.
+fn battery_lists(code: u8) -> bool
+    ensures { λ r. ⌜ r ≡ isIn code (boardOf (Battery false) .codes) ⌝ }
+{
+    is_among(
+        &[
+            0xAA,
+            0x02,
+            0x06,
+            0x30,
+            0x32,
+            0x82,
+            0x84,
+            0x86,
+            0x90,
+            0x92,
+            0x94,
+        ],
+        code,
+    )
+}
+
+// Whether the integrated board has a code in its list.
+fn integrated_lists(code: u8) -> bool
+    ensures { λ r. ⌜ r ≡ isIn code (boardOf (Integrated false) .codes) ⌝ }
+{
+    is_among(
+        &[
+            0xAA,
+            0x02,
+            0x04,
+            0x06,
+            0x10,
+            0x12,
+            0x14,
+            0x16,
+            0x18,
+            0x30,
+            0x32,
+            0x42,
+            0x82,
+            0x84,
+            0x86,
+            0x90,
+            0x92,
+            0x94,
+        ],
+        code,
+    )
+}
+
 // Whether a kind of board has a code in its list.
 pub fn lists(kind: Kind, code: u8) -> bool
     ensures { λ r. ⌜ r ≡ isIn code (boardOf kind .codes) ⌝ }
 {
     match kind {
-        Kind::Distribution => is_among(
-            &[
-                0xAA,
-                0x02,
-                0x04,
-                0x06,
-                0x10,
-                0x12,
-                0x14,
-                0x16,
-                0x18,
-                0x30,
-                0x32,
-                0x42,
-                0x50,
-                0x82,
-                0x84,
-                0x86,
-                0x90,
-                0x92,
-                0x94,
-            ],
-            code,
-        ),
-        Kind::Battery { abf: _ } => is_among(
-            &[
-                0xAA,
-                0x02,
-                0x06,
-                0x30,
-                0x32,
-                0x82,
-                0x84,
-                0x86,
-                0x90,
-                0x92,
-                0x94,
-            ],
-            code,
-        ),
-        Kind::Integrated { daughterboard: _ } => is_among(
-            &[
-                0xAA,
-                0x02,
-                0x04,
-                0x06,
-                0x10,
-                0x12,
-                0x14,
-                0x16,
-                0x18,
-                0x30,
-                0x32,
-                0x42,
-                0x82,
-                0x84,
-                0x86,
-                0x90,
-                0x92,
-                0x94,
-            ],
-            code,
-        ),
+        Kind::Distribution => distribution_lists(code),
+        Kind::Battery { abf: _ } => battery_lists(code),
+        Kind::Integrated { daughterboard: _ } => integrated_lists(code),
     }
 }
 

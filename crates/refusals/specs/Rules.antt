@@ -1,7 +1,7 @@
--- The rules of a profile, written out as document 01 gives them with the numbers of its kind of board, and for now a
--- kind that can be started; what a session sheet is made of, in the parts of the grammar of `sheet`: refusals 8 and 14
--- are told by these; and that the distribution board is document 01's board. `(c : ℕ) × B` is some number c of which B
--- holds. Assumes nothing: these are definitions and the statement of a claim.
+-- The rules of a profile, written out as document 01 gives them with the numbers of its kind of board, which is one that
+-- can be started; what a session sheet is made of, in the parts of the grammar of `sheet`: refusals 8 and 14 are told by
+-- these; and that the distribution board is document 01's board. `(c : ℕ) × B` is some number c of which B holds.
+-- Assumes nothing: these are definitions and the statement of a claim.
 use Prim.Native.Nat.{ℕ, _-_, _^_, _≤_, _<_}
 use mathlib.Core.{Path._≡_, Bool.true, List.List}
 use lib.{ListN.length, Signed._≤ℤ_}

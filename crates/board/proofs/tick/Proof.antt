@@ -27,15 +27,15 @@ use Rattle.board.proofs.is_allowed.Reads as is-allowed-reads
 use Rattle.board.proofs.is_reset.Reads as is-reset-reads
 use Rattle.board.proofs.settle.Reads as settle-reads
 use Rattle.commands.proofs.commanded.Reads as commanded-reads
-use Rattle.kinds.proofs.word_count.Reads as word-count-reads
+use Rattle.board.proofs.words_of.Reads as words-of-reads
 use Rattle.memory.proofs.Memory.limits.Reads as limits-reads
 use Rattle.memory.proofs.Memory.timeout.Reads as timeout-reads
 use Rattle.state.proofs.watchdog_reset.Reads as watchdog-reset-reads
 use Rattle.watchdog.proofs.seconds_in_ticks.Reads as seconds-in-ticks-reads
 use Rattle.watchdog.proofs.watched.Reads as watched-reads
 
-word-count-requires : tie.Need-word-count-requires
-word-count-requires c κs = search needs
+words-of-requires : tie.Need-words-of-requires
+words-of-requires c κs = search needs
 
 is-allowed-requires : tie.Need-is-allowed-requires
 is-allowed-requires c κs = search needs
@@ -70,7 +70,7 @@ watchdog-reset-requires c κs = search needs
 -- ---- where the way with a transfer and the way without meet
 -- what each call asks and ensures, in the order of the calls
 abbrev claims : lts.Claims
-claims = (word-count-reads.Asked, word-count-reads.Learnt, is-allowed-reads.Asked, is-allowed-reads.Learnt, limits-reads.Asked, limits-reads.Learnt, settle-reads.Asked, settle-reads.Learnt, bring-reads.Asked, bring-reads.Learnt, commanded-reads.Asked, commanded-reads.Learnt, timeout-reads.Asked, timeout-reads.Learnt, seconds-in-ticks-reads.Asked, seconds-in-ticks-reads.Learnt, watched-reads.Asked, watched-reads.Learnt, is-reset-reads.Asked, is-reset-reads.Learnt, watchdog-reset-reads.Asked, watchdog-reset-reads.Learnt)
+claims = (words-of-reads.Asked, words-of-reads.Learnt, is-allowed-reads.Asked, is-allowed-reads.Learnt, limits-reads.Asked, limits-reads.Learnt, settle-reads.Asked, settle-reads.Learnt, bring-reads.Asked, bring-reads.Learnt, commanded-reads.Asked, commanded-reads.Learnt, timeout-reads.Asked, timeout-reads.Learnt, seconds-in-ticks-reads.Asked, seconds-in-ticks-reads.Learnt, watched-reads.Asked, watched-reads.Learnt, is-reset-reads.Asked, is-reset-reads.Learnt, watchdog-reset-reads.Asked, watchdog-reset-reads.Learnt)
 
 abbrev Joined : Type 0
 Joined = lts.Joined2 claims reads.Pre reads.Post
@@ -89,7 +89,7 @@ obeyed c =
     let limits = limitsOf (a .t1 .memory) in
     let r = toZ-ofZ w16 (a .rail) (c .before .before .before .before .before .before .before .before .before .before .before .before .before .before .before .before .before .before .fits .rail) in
     let l : c .before .before .before .before .before .before .before .before .before .before .limits .result ≡ limits = c .before .before .before .before .before .before .before .before .before .before .limits .ensures in
-    let n = c .before .before .before .before .before .before .before .before .before .before .before .before .before .before .word-count .ensures in
+    let n = c .before .before .before .before .before .before .before .before .before .before .before .before .before .before .words-of .ensures in
     let s : c .before .before .before .before .before .before .before .before .before .settle .result ≡ settledIn (trippedOf (a .overcurrent) (changedOf (a .rail) limits (risenOf [] (a .t1)))) = c .before .before .before .before .before .before .before .before .before .settle .ensures ∙ rw (r, l) in
     let f = found-apart (a .rail) limits (a .overcurrent) (now (a .words)) (a .t1) (c .before .before .before .before .before .before .before .before .before .settle .result) (measuredAs (c .before .before .before .bring .last .1 .1 .0) (c .before .before .before .bring .result)) s (c .before .before .before .bring .ensures ∙ rw n) in
     ⊎-elim
@@ -99,7 +99,7 @@ obeyed c =
 
 -- the number of words is one that this board allows
 allowed : (c : lts.Then1 claims reads.Pre reads.Post) → let a = c .before .before .before .before .before .before .args in allowedCount (wordCount (a .t1)) (length (now (a .words))) ≡ true
-allowed c = rw (sym (c .before .before .word-count .ensures)) (sym (c .before .is-allowed .ensures) ∙ c .if1 .taken)
+allowed c = rw (sym (c .before .before .words-of .ensures)) (sym (c .before .is-allowed .ensures) ∙ c .if1 .taken)
 
 -- ---- the three ways to the end
 returns : tie.Need-returns
@@ -130,13 +130,13 @@ unfolding tickOf
 returns-3 c =
     let a = c .before .before .before .before .before .before .args in
     with-number (a .rail) (a .overcurrent) (now (a .words)) (a .sent) (now (a .transfer)) (a .t1)
-    (rw (sym (c .before .before .word-count .ensures), sym (c .before .is-allowed .ensures), c .if1 .left))
+    (rw (sym (c .before .before .words-of .ensures), sym (c .before .is-allowed .ensures), c .if1 .left))
 
 pub tick-spec : {M : Type 1} → statement M
 tick-spec =
     tie.close
     (tie.spec
-    word-count-requires
+    words-of-requires
     is-allowed-requires
     limits-requires
     settle-requires
