@@ -6,7 +6,7 @@ use mathlib.Core.List.{List, [], _∷_}
 use mathlib.Core.Option.{some}
 use lib.Dec.{eqb}
 use borrow.Author.Tests.{eq-eqb}
-use Rattle.laws.proofs.Cases.{cases}
+use Rattle.laws.proofs.Cases.{cases, both, neither}
 use Rattle.modes.specs.Table.{Row, from_when_to_, modeTable, number, same, first, stepOf, olderOf}
 use Rattle.modes.specs.Commands.{toNominal, toSafety, leaves}
 use Rattle.modes.specs.declared.Mode.{Mode}
@@ -23,7 +23,7 @@ use Rattle.unit.specs.Runs.{Sample, afterStep3}
 use Rattle.groups.specs.Resets.{isAccepted, tellsWatchdogReset, tellsCommandReset, tellsReset}
 use Rattle.changes.specs.ModeChange.{_is-in_, here, further, modeCommands, before, afterwards, limits, ByARow, TableAlone, ModeChange}
 use Rattle.changes.proofs.Step.{Takes, leaving, obeying}
-use Rattle.changes.proofs.Ticks.{of-accepted, both-hold, neither, step, tells, leaves-step-4, accepted-leaves, told-0, step-0, code-is}
+use Rattle.changes.proofs.Ticks.{of-accepted, step, tells, leaves-step-4, accepted-leaves, told-0, step-0, code-is}
 
 -- ---- the table
 -- a mode is itself
@@ -60,7 +60,7 @@ led [] s e = absurd (false≢true (sym e ∙ same-itself (s .mode)))
 led ((from m when t to n) ∷ rows) s e =
     cases (same m (s .mode) && t)
     (λ a.
-    let h = both-hold (same m (s .mode)) t a in
+    let h = both (same m (s .mode)) t a in
     let r : (from s .mode when true to n) ≡ (from m when t to n) = rw (is-same m (s .mode) (h .0), h .1) in
     rw a (record { row = here r; just-entered = refl }))
     (λ a. let l = led rows s (rw a at e) in rw a (record { row = further (l .row); just-entered = l .just-entered }))

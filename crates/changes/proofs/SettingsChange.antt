@@ -3,7 +3,7 @@
 use mathlib.Core.Path.{_≡_, refl, ap, _∙_}
 use mathlib.Core.Bool.{false, _&&_}
 use lib.Dec.{eqb}
-use Rattle.laws.proofs.Cases.{cases}
+use Rattle.laws.proofs.Cases.{cases, neither}
 use Rattle.kinds.specs.Kinds.{isIn}
 use Rattle.command.specs.Decode.{codeOf}
 use Rattle.memory.specs.Limits.{limitsOf}
@@ -22,7 +22,7 @@ use Rattle.groups.proofs.Resets.{reset-is-told}
 use Rattle.changes.specs.Accepted.{acceptsOneOf}
 use Rattle.changes.specs.SettingsChange.{settingCommands, savingCommands, SettingsChange}
 use Rattle.changes.proofs.Step.{Takes, leaving, obeying}
-use Rattle.changes.proofs.Ticks.{of-accepted, neither, step, leaves-all, tells, leaves-step-4}
+use Rattle.changes.proofs.Ticks.{of-accepted, step, leaves-all, tells, leaves-step-4}
 
 -- a reset takes its settings from the store, and leaves that
 reset-store : (b : Board) → watchdogResetOf b .memory .store ≡ b .memory .store

@@ -5,7 +5,7 @@ use mathlib.Core.Path.{_≡_, refl, sym, _∙_, subst}
 use mathlib.Core.Bool.{Bool, true, false, cond, _&&_, and-false}
 use mathlib.Core.List.{List, [], _∷_}
 use lib.IntN.{ℤ}
-use Rattle.laws.proofs.Cases.{cases}
+use Rattle.laws.proofs.Cases.{cases, both}
 use Rattle.modes.specs.declared.Mode.{Mode}
 use Rattle.modes.specs.declared.Limits.{Limits}
 use Rattle.channels.specs.Sets.{has}
@@ -42,7 +42,7 @@ use Rattle.groups.proofs.Unfitted.{unfitted}
 use Rattle.changes.specs.SoundMachine.{SoundMachine}
 use Rattle.changes.proofs.Ranges.{InRange, loaded}
 use Rattle.changes.proofs.Step.{Takes, leaving, obeying}
-use Rattle.changes.proofs.Ticks.{both-hold, step, leaves-all, leaves-step-4}
+use Rattle.changes.proofs.Ticks.{step, leaves-all, leaves-step-4}
 
 -- ---- what every step keeps
 -- a channel that is not both on and latched
@@ -216,13 +216,13 @@ rules-are p store = refl
 -- an accepted start
 begun : (there : Machine) (p : Profile) (store : Store) → keepsTheRules p store ≡ true → Sound (begunOf there p store .machine .board)
 unfolding begunOf startOf
-begun there p store e = rw e (fresh p store neverReset (both-hold (keeps p) (storedInRange store) (sym (rules-are p store) ∙ e) .1))
+begun there p store e = rw e (fresh p store neverReset (both (keeps p) (storedInRange store) (sym (rules-are p store) ∙ e) .1))
 
 -- the claim
 pub sound-machine : (m : Machine) (r : Reached m) → SoundMachine m r
 sound-machine m r =
     let u : Sound (m .board) = subst (λ (x : Machine). Sound (x .board)) (sym (r .is)) (run _ (r .past) (begun (r .there) (r .profile) (r .store) (r .accepted))) in
-    let k = both-hold (keeps (r .profile)) (storedInRange (r .store)) (sym (rules-are (r .profile) (r .store)) ∙ r .accepted) .0 in
+    let k = both (keeps (r .profile)) (storedInRange (r .store)) (sym (rules-are (r .profile) (r .store)) ∙ r .accepted) .0 in
     record {
       apart = λ c h. u .apart .each c h .not-both;
       in-force = u .range .current;

@@ -1,22 +1,20 @@
 -- A tick that happens is its command step, and then the watchdog, which after an accepted command tells nothing.
 -- Assumes nothing.
-use Prim.Native.Nat.{ℕ, _≤_, _<_}
+use Prim.Native.Nat.{ℕ, _≤_}
 use mathlib.Core.Path.{_≡_, refl, sym, ap, _∙_}
-use mathlib.Core.Bool.{Bool, true, false, _&&_, _||_, or-false, false≢true}
+use mathlib.Core.Bool.{Bool, true, false, _&&_, or-false, false≢true}
 use mathlib.Core.List.{[], _∷_}
-use mathlib.Core.Logic.{⊎-elim}
 use mathlib.Core.Option.{Option, none, some}
 use native.Mathlib.Omega.{arith}
 use lib.Dec.{eqb}
 use borrow.Author.Tests.{eqb-true}
-use Rattle.laws.proofs.Cases.{cases}
-use Rattle.laws.proofs.Lists.{lt-or-le}
+use Rattle.laws.proofs.Cases.{cases, both}
 use Rattle.kinds.specs.Kinds.{isIn}
 use Rattle.command.specs.Decode.{codeOf}
 use Rattle.watchdog.specs.Watchdog as dog
 use Rattle.watchdog.specs.declared.Event.{Event}
 use Rattle.watchdog.specs.declared.Event.the-variants.{NoEvent, PeripheralReset, WatchdogReset}
-use Rattle.watchdog.proofs.Laws.{early, disabled}
+use Rattle.watchdog.proofs.Laws.{quiet-at-0}
 use Rattle.memory.specs.Limits.{timeoutOf, limitsOf}
 use Rattle.answers.specs.Answers.{toldNumber}
 use Rattle.answers.specs.declared.Commanded.{Commanded}
@@ -44,27 +42,13 @@ is-accepted (some n) e = ap some (eqb-true n 0 e)
 pub of-accepted : (o : Option ℕ) (x y : Bool) → o ≡ some 0 → (isAccepted o && x) ≡ y → x ≡ y
 of-accepted o x y e h = rw e at h
 
--- a conjunction that holds holds on both sides
-pub both-hold : (x y : Bool) → (x && y) ≡ true → (x ≡ true) × (y ≡ true)
-both-hold true y e = (refl, e)
-both-hold false y e = absurd (false≢true e)
-
--- a disjunction that fails fails on both sides
-pub neither : (x y : Bool) → (x || y) ≡ false → (x ≡ false) × (y ≡ false)
-neither true y e = absurd (false≢true (sym e))
-neither false y e = (refl, e)
-
 -- a list of one code has that code and no other
 pub only-one : (code k : ℕ) (y : Bool) → isIn code (k ∷ []) ≡ y → eqb code k ≡ y
 unfolding isIn
 only-one code k y e = rw or-false at e
 
 -- ---- step 5
--- a timer at 0 brings no event
-quiet-at-0 : (w : ℕ) → dog.watchedOf 0 w ≡ NoEvent
-quiet-at-0 w = ⊎-elim (λ (h : 0 < w). early 0 w h h (omega arith)) (λ (h : w ≤ 0). disabled 0 w (omega arith)) (lt-or-le 0 w)
-
--- so a step that left it at 0 is followed by none
+-- a step that left the timer at 0 is followed by no event
 fed-quiet : (x : Commanded) → x .board .timer ≡ 0 → isByWatchdog (watchedIn x .event) ≡ false
 unfolding watchedIn
 fed-quiet x z = rw (z, quiet-at-0 (dog.secondsInTicks (timeoutOf (x .board .memory))))
@@ -152,7 +136,7 @@ module _ (m : Machine) (i : Sample) where
 
   -- both parts of it
   both-told : (k : ℕ) → Accepts k → (isAccepted (toldNumber (told m i .outcome)) ≡ true) × (isIn (codeOf (i .transfer)) (k ∷ []) ≡ true)
-  both-told k h = both-hold (isAccepted (toldNumber (told m i .outcome))) (isIn (codeOf (i .transfer)) (k ∷ [])) h
+  both-told k h = both (isAccepted (toldNumber (told m i .outcome))) (isIn (codeOf (i .transfer)) (k ∷ [])) h
 
   -- the tick tells 0
   pub told-0 : (k : ℕ) → Accepts k → toldNumber (told m i .outcome) ≡ some 0

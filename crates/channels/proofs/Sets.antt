@@ -15,16 +15,9 @@ use lib.Pow.{pow-pos, pow-add, pow-mono, pow-lt, high}
 use lib.Bits.{bitAnd, bitOr, bitXor, differ, and-shr, or-shr, xor-shr, and-step, or-step, xor-step, xor-add-and, and-mask, and-le-l}
 use lib.ListN.{length, getD}
 use lib.Seq.{ext-getD}
+use Rattle.laws.proofs.Cases.{both}
 use Rattle.laws.proofs.Lists.{lt-or-le}
 use Rattle.channels.specs.Sets.{has, bit, setOf, allBelow, isWithin, withChannel, listOf}
-
-and-left : (x y : Bool) → (x && y) ≡ true → x ≡ true
-and-left true y e = refl
-and-left false y e = e
-
-and-right : (x y : Bool) → (x && y) ≡ true → y ≡ true
-and-right true y e = e
-and-right false y e = absurd (false≢true e)
 
 not-true : (x : Bool) → not x ≡ true → x ≡ false
 not-true true e = absurd (false≢true e)
@@ -220,8 +213,8 @@ unfolding allBelow
 allBelow-each zero p e c h = absurd (not-suc-le-zero h)
 allBelow-each (suc n) p e c h =
     ⊎-elim
-    (λ (q : c ≡ n). rw q (and-left (p n) (allBelow n p) e))
-    (λ (l : c < n). allBelow-each n p (and-right (p n) (allBelow n p) e) c l)
+    (λ (q : c ≡ n). rw q (both (p n) (allBelow n p) e .0))
+    (λ (l : c < n). allBelow-each n p (both (p n) (allBelow n p) e .1) c l)
     (eq-or-lt-of-le (le-of-suc-le-suc h))
 
 pub each-allBelow : (n : ℕ) (p : ℕ → Bool) → ((c : ℕ) → c < n → p c ≡ true) → allBelow n p ≡ true

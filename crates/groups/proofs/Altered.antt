@@ -2,13 +2,13 @@
 -- checks. Assumes nothing.
 use Prim.Native.Nat.{ℕ, suc, _<_}
 use mathlib.Core.Path.{_≡_, refl, sym, ap, _∙_, subst}
-use mathlib.Core.Bool.{Bool, true, false, not, _&&_, _||_, and-false, false≢true}
+use mathlib.Core.Bool.{Bool, true, false, not, _&&_, and-false, false≢true}
 use mathlib.Core.List.{List, [], _∷_}
 use lib.Dec.{eqb, ltb}
 use lib.IntN.{ℤ}
 use native.Mathlib.Omega.{arith}
 use borrow.Author.Tests.{ltb-false, eq-eqb}
-use Rattle.laws.proofs.Cases.{cases}
+use Rattle.laws.proofs.Cases.{cases, neither}
 use Rattle.kinds.specs.Kinds.{isIn}
 use Rattle.modes.specs.Table.{same}
 use Rattle.modes.specs.declared.Mode.the-variants.{Nominal}
@@ -63,11 +63,6 @@ none-here : (n : ℕ) (t : Bool) (rest : List Check) → first (suc n when t ∷
 unfolding first
 none-here n true rest e = absurd (omega arith)
 none-here n false rest e = refl
-
--- a disjunction that fails fails on both sides
-neither : (x y : Bool) → (x || y) ≡ false → (x ≡ false) × (y ≡ false)
-neither true y e = absurd (false≢true (sym e))
-neither false y e = (refl, e)
 
 -- what is not false is true
 not-false : (x : Bool) → not x ≡ false → x ≡ true

@@ -1,10 +1,9 @@
 -- Why a tick tells of a reset exactly where the board starts over: step 1 makes every age at least 1, no row of the
 -- table and no command but 0xAA leads into startup, and both kinds of reset do so at age 0. Assumes nothing.
-use Prim.Native.Nat.{ℕ, _+_, _<_, _≤_, min}
+use Prim.Native.Nat.{ℕ, _+_, _<_, min}
 use mathlib.Core.Path.{_≡_, refl, sym, ap, _∙_, subst}
 use mathlib.Core.Bool.{Bool, true, false, cond, _&&_, _||_, and-false, false≢true}
 use mathlib.Core.List.{List, [], _∷_}
-use mathlib.Core.Logic.{⊎-elim}
 use native.Mathlib.Omega.{arith}
 use lib.Dec.{eqb}
 use lib.IntN.{ℤ}
@@ -18,9 +17,8 @@ use Rattle.modes.specs.declared.Limits.{Limits}
 use Rattle.wire.specs.Replies.{shown, written, replyOf, room}
 use Rattle.channels.proofs.Laws.{cleared-each}
 use Rattle.command.specs.Decode.{codeOf}
-use Rattle.laws.proofs.Lists.{lt-or-le}
 use Rattle.watchdog.specs.Watchdog as dog
-use Rattle.watchdog.proofs.Laws.{early, disabled}
+use Rattle.watchdog.proofs.Laws.{quiet-at-0}
 use Rattle.watchdog.specs.declared.Event.{Event}
 use Rattle.watchdog.specs.declared.Event.the-variants.{NoEvent, PeripheralReset, WatchdogReset}
 use Rattle.memory.specs.Limits.{timeoutOf, limitsOf}
@@ -145,10 +143,6 @@ watchdog-resets x = go (dog.watchedOf (x .board .timer) (dog.secondsInTicks (tim
     go PeripheralReset e = failed e
     go WatchdogReset e = refl
 
--- a timer at 0 brings no event
-timer-at-0 : (w : ℕ) → dog.watchedOf 0 w ≡ NoEvent
-timer-at-0 w = ⊎-elim (λ (h : 0 < w). early 0 w h h (omega arith)) (λ (h : w ≤ 0). disabled 0 w (omega arith)) (lt-or-le 0 w)
-
 -- a reset sets the timer to 0
 reset-timer : (b : Board) → commandResetOf b .timer ≡ 0
 unfolding commandResetOf freshOf
@@ -160,7 +154,7 @@ unfolding watchedIn
 command-resets x b e =
     let w = dog.secondsInTicks (timeoutOf (x .board .memory)) in
     let t : x .board .timer ≡ 0 = ap (λ (y : Board). y .timer) e ∙ reset-timer b in
-    ap (λ (n : ℕ). watchedAs (dog.watchedOf n w) x .board) t ∙ ap (λ (v : Event). watchedAs v x .board) (timer-at-0 w) ∙ e
+    ap (λ (n : ℕ). watchedAs (dog.watchedOf n w) x .board) t ∙ ap (λ (v : Event). watchedAs v x .board) (quiet-at-0 w) ∙ e
 
 -- an accepted 0xAA leaves the board of its reset
 left-reset : (rail : ℤ) (limits : Limits) (s : List ℕ) (b : Board) (x : Commanded) → Leaves rail limits s b (codeOf s) x

@@ -8,7 +8,7 @@ use native.Mathlib.Omega.{arith}
 use borrow.Author.Tests.{le-leb, lt-leb, le-ltb, eqb-true}
 use lib.IntN.{ℤ}
 use lib.Dec.{T, eqb}
-use Rattle.laws.proofs.Cases.{cases}
+use Rattle.laws.proofs.Cases.{cases, both}
 use Rattle.modes.specs.declared.Mode.{Mode}
 use Rattle.modes.specs.declared.Mode.the-variants.{Startup, Nominal, Safety, Emergency}
 use Rattle.modes.specs.declared.ModeAge.{ModeAge}
@@ -117,16 +117,12 @@ by-row : (s : ModeAge) (n : Mode) (applies : Bool) {t : ModeAge} → (applies �
 by-row s n true h r = enters n (h refl)
 by-row s n false h r = r
 
-both-left : (a b : Bool) → (a && b) ≡ true → a ≡ true
-both-left true b e = refl
-both-left false b e = e
-
 by-rows : (rows : List Row) (s : ModeAge) → Moves rows → Change s (first rows s)
 unfolding Moves
 by-rows [] s t = stays
 by-rows ((from m when b to n) ∷ rows) s t =
     by-row s n (same m (s .mode) && b)
-    (λ e. rw (eqb-true (number m) (number (s .mode)) (both-left (same m (s .mode)) b e)) at (t .0))
+    (λ e. rw (eqb-true (number m) (number (s .mode)) (both (same m (s .mode)) b e .0)) at (t .0))
     (by-rows rows s (t .1))
 
 -- a step is one change, or none

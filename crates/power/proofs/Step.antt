@@ -5,7 +5,7 @@ use mathlib.Core.Bool.{Bool, true, false, _||_, true≢false}
 use Prim.Native.Nat.{ℕ, suc, _+_, _-_, _^_, _≤_, _<_, max, min}
 use native.Mathlib.Omega.{arith}
 use borrow.Author.Tests.{leb-false, ltb-true}
-use Rattle.laws.proofs.Cases.{cases}
+use Rattle.laws.proofs.Cases.{cases, neither}
 use Rattle.modes.specs.Table.{_reaches_, _exceeds_, _at-least_, _above_, _below_, _aged_, stepOf, olderOf}
 use Rattle.modes.specs.Commands.{toSafety, toNominal}
 use Rattle.modes.specs.declared.Mode.{Mode}
@@ -15,11 +15,6 @@ use Rattle.power.specs.Machine.{State, Times, Command, switchToNominal, 
 -- a test cannot come to both
 pub clash : {X : Type 0} {b : Bool} → b ≡ true → b ≡ false → X
 clash t f = absurd (true≢false (sym t ∙ f))
-
--- where neither holds, the second does not
-or-false : (a b : Bool) → a || b ≡ false → b ≡ false
-or-false true b e = clash refl e
-or-false false b e = e
 
 -- the age after the rise
 abbrev risen : ℕ → ℕ
@@ -96,7 +91,7 @@ by-table t fits i Safety a o h =
 by-table t fits i Emergency a o h =
     cases (i .rail above i .«emergency_high» || risen a reaches t .period)
     (λ e. rw e (off-on refl h refl (omega arith)))
-    (λ e. rw e (off-off refl h refl (omega (arith, leb-false (t .period) (risen a) (or-false (i .rail above i .«emergency_high») (risen a reaches t .period) e)))))
+    (λ e. rw e (off-off refl h refl (omega (arith, leb-false (t .period) (risen a) (neither (i .rail above i .«emergency_high») (risen a reaches t .period) e .1)))))
 
 -- a command moves only between nominal and safety: it leaves the channel on, and does not shorten what it is held for
 to-safety : {t : Times} {s : State} {a : ℕ} {o : Bool} → Good t s (state Nominal a o) → Good t s (state Safety 0 o)

@@ -1,7 +1,7 @@
 -- One of document 01's eight answers is given to every transfer, and it is the one told. Assumes nothing.
 use Prim.Native.Nat.{ℕ, suc, _+_, _≤_, _<_}
 use mathlib.Core.Path.{_≡_, refl, sym, ap, subst, _∙_}
-use mathlib.Core.Bool.{Bool, true, false, not, _&&_, _||_, false≢true}
+use mathlib.Core.Bool.{Bool, true, false, not, _&&_, _||_, or-false, false≢true}
 use mathlib.Core.List.{List, [], _∷_}
 use mathlib.Core.Logic.{⊎-elim}
 use mathlib.Core.Option.{some}
@@ -146,10 +146,6 @@ only-one t n m g h =
     (lt-or-le n m)
 
 -- ---- the list of checks that the step is defined by, and the table's rows, have the same first number
-or-false : (b : Bool) → b ≡ b || false
-or-false true = refl
-or-false false = refl
-
 -- checks with one number are one, where none of another number stands between
 joined : (short un key param nan channel sum : Bool)
     → first (5 when short ∷ 6 when un ∷ 7 when key ∷ 7 when param ∷ 7 when nan ∷ 7 when channel ∷ 7 when sum ∷ [])
@@ -209,7 +205,7 @@ module _ (t : Sent) where
   unfolding isIn commandTable.find commandTable.commandTable keyWrong
   keys-agree k h =
       at-code (λ c. checks.keyWrong (commandTable.find commandTable.commandTable c) s ≡ keyWrong c (t at 4)) k tableCodes h
-      (or-false (not (eqb (t at 4) 0xA6)) and refl and refl and refl and refl and refl and refl and refl and refl and refl and refl and refl and refl and refl and refl and refl and refl and refl and refl and none)
+      (sym (or-false (not (eqb (t at 4) 0xA6))) and refl and refl and refl and refl and refl and refl and refl and refl and refl and refl and refl and refl and refl and refl and refl and refl and refl and refl and none)
 
   -- 0x84 behind its id, where that can be set: the value's bytes count from the sixth on
   long-enough : (type : ValueType) → 6 ≤ length s → ltb (length (drop 6 s)) (width type) ≡ valueShort (ReadWrite type) t
@@ -234,7 +230,7 @@ module _ (t : Sent) where
   parameter-checked (ReadWrite type) =
       cases (ltb (length s) 6)
       (λ e. rw e)
-      (λ e. rw (e, ← or-false (valueNaN (ReadWrite type) t)) (value-checked type (ltb-false (length s) 6 e)))
+      (λ e. rw (e, or-false (valueNaN (ReadWrite type) t)) (value-checked type (ltb-false (length s) 6 e)))
   parameter-checked (ReadOnly type) = cases (ltb (length s) 6) (λ e. rw e) (λ e. rw e)
   parameter-checked Unknown = cases (ltb (length s) 6) (λ e. rw e) (λ e. rw e)
 

@@ -10,7 +10,7 @@ use lib.Dec.{T, eqb, leb}
 use lib.ListN.{length}
 use lib.Signed.{leZ, leZ-yes}
 use borrow.Author.Tests.{leb-true, le-leb, lt-leb, eqb-true, eq-eqb, ne-eqb}
-use Rattle.laws.proofs.Cases.{cases}
+use Rattle.laws.proofs.Cases.{cases, both}
 use Rattle.laws.proofs.Lists.{lt-or-le}
 use Rattle.kinds.specs.Kinds.{boardOf, isServed}
 use Rattle.value.specs.declared.ValueType.{ValueType}
@@ -28,11 +28,6 @@ use Rattle.sheet.specs.Form.{head, tickLine, Sheet, sheet, sheetIn}
 use Rattle.sheet.proofs.Behind.{went}
 use Rattle.refusals.specs.Conditions.{codesIn}
 use Rattle.refusals.specs.Rules.{InRange, KeepsAllRules, OfTheForm, BaseBoard}
-
--- ---- tests
-both : (x y : Bool) → (x && y) ≡ true → (x ≡ true) × (y ≡ true)
-both true y e = (refl, e)
-both false y e = absurd (false≢true e)
 
 -- ---- some channel is in a set that is not empty
 picked : (n : ℕ) (p : ℕ → Bool) → allBelow n (λ c. not (p c)) ≡ false → (c : ℕ) × (p c ≡ true)

@@ -46,6 +46,10 @@ module _ (timer w : ℕ) (on : 0 < w) where
       (λ (l : r ≤ timer). let g : r < timer = omega (arith, n) in late h (omega (arith, a .reached)))
       (lt-or-le timer r)
 
+-- a timer at 0 brings no event, whatever the timeout
+pub quiet-at-0 : (w : ℕ) → watchedOf 0 w ≡ NoEvent
+quiet-at-0 w = ⊎-elim (λ (h : 0 < w). early 0 w h h (omega arith)) (λ (h : w ≤ 0). disabled 0 w (omega arith)) (lt-or-le 0 w)
+
 -- one timer value alone has the report
 pub once : (w a b : ℕ) → ReportAt w a → ReportAt w b → a ≡ b
 once w a b p q = omega (arith, p .reached, p .only-now, q .reached, q .only-now)
