@@ -1,10 +1,12 @@
 -- A board that is changed part by part comes to the board that the five steps speak of. Assumes nothing.
 use Prim.Native.Nat.{ℕ}
-use mathlib.Core.Bool.{Bool, true, false, false≢true}
+use mathlib.Core.Bool.{Bool, true, false, cond, _&&_, false≢true}
 use mathlib.Core.List.{List, []}
-use mathlib.Core.Path.{_≡_, refl, sym, ap, _∙_}
+use mathlib.Core.Path.{_≡_, refl, sym, _∙_}
+use lib.Dec.{eqb}
 use lib.IntN.{ℤ}
 use lib.ListN.{length}
+use Rattle.laws.proofs.Cases.{neither}
 use Rattle.modes.specs.declared.Limits.{Limits}
 use Rattle.watchdog.specs.Watchdog as dog
 use Rattle.watchdog.specs.declared.Event.{Event}
@@ -16,7 +18,7 @@ use Rattle.state.specs.declared.parts.Board.{Board}
 use Rattle.state.specs.declared.parts.Measured.{Measured}
 use Rattle.answers.specs.declared.Commanded.{Commanded}
 use Rattle.answers.specs.declared.Outcome.{Outcome}
-use Rattle.answers.specs.declared.Outcome.the-variants.{NoTransfer}
+use Rattle.answers.specs.declared.Outcome.the-variants.{WrongWordCount, NoTransfer}
 use Rattle.commands.specs.Step.{commandedOf}
 use Rattle.board.specs.declared.Settled.{Settled}
 use Rattle.board.specs.declared.Ticked.{Ticked}
@@ -44,9 +46,16 @@ module _ (rail : ℤ) (limits : Limits) (named : ℕ) (words : List ℕ) (b : Bo
   abbrev pub found : Board
   found = trippedOf named (changedOf rail limits (risenOf words b))
 
-  pub found-apart : (s : Settled) (m : Measured) → s ≡ settledIn (trippedOf named (changedOf rail limits (risenOf [] b))) → m ≡ broughtBy (wordCount b) words (b .measured) → placed s m b ≡ found
-  unfolding risenOf changedOf trippedOf
-  found-apart s m se me = rw (se, me)
+  -- where the tick does not happen, the words that are held stay, and so does each part
+  pub found-apart : (happens : Bool) → allowedCount (wordCount b) (length words) ≡ happens → {rail′ : ℤ} {limits′ : Limits} (s : Settled) (m : Measured)
+      → rail′ ≡ rail
+      → limits′ ≡ limits
+      → s ≡ settledIn (cond happens (trippedOf named (changedOf rail′ limits′ (risenOf [] b))) b)
+      → m ≡ broughtBy (wordCount b) words (b .measured)
+      → placed s m b ≡ cond happens found b
+  unfolding risenOf changedOf trippedOf allowedCount broughtBy
+  found-apart true allowed s m re le se me = rw (se, me, re, le)
+  found-apart false refused s m re le se me = rw (se, me, neither (eqb (length words) 0) _ refused .1)
 
 -- ---- the command
 -- where none was sent, nothing changes and nothing is made
@@ -67,6 +76,27 @@ pub one-sent : {rail rail′ : ℤ} {limits limits′ : Limits} (sent : Bool) (s
     → _≡_ {A = Commanded} (record { board = board; outcome = outcome; replied = replied }) (commandedOf rail limits sent s b)
 one-sent sent s c board outcome replied re le be made e f g = rw (e, f, g, ← re, ← le, ← be) made
 
+-- a transfer is looked at only in a tick that happens; where none is, the tick tells that there was none, or that it did
+-- not happen
+abbrev pub notHeard : Board → Commanded
+notHeard b = record { board = b; outcome = WrongWordCount; replied = false }
+
+module _ (rail : ℤ) (limits : Limits) (sent : Bool) (s : List ℕ) (b found : Board) where
+  abbrev pub obeyedWhere : Bool → Commanded
+  obeyedWhere happens = cond happens (commandedOf rail limits sent s found) (notHeard b)
+
+  pub heard : (happens : Bool) → (happens && sent) ≡ true → (made : Commanded) → made ≡ commandedOf rail limits sent s (cond happens found b) → made ≡ obeyedWhere happens
+  heard true both made e = e
+  heard false none made e = absurd (false≢true none)
+
+  pub unheard : (happens : Bool) → (happens && sent) ≡ false → {board : Board} {outcome : Outcome} {replied : Bool}
+      → board ≡ cond happens found b
+      → outcome ≡ cond happens NoTransfer WrongWordCount
+      → replied ≡ false
+      → _≡_ {A = Commanded} (record { board = board; outcome = outcome; replied = replied }) (obeyedWhere happens)
+  unheard true none e f g = rw (e, f, g) (none-sent rail limits sent s found none)
+  unheard false none e f g = rw (e, f, g)
+
 -- ---- behind the command
 -- with no reset everything stays, with one the board starts over and the reply is lost
 keeps : (e : Event) (c : Commanded) → isReset e ≡ false → _≡_ {A = Ticked} (record { board = c .board; outcome = c .outcome; event = e; replied = c .replied }) (watchedAs e c)
@@ -82,18 +112,25 @@ loses PeripheralReset c q = absurd (false≢true q)
 loses WatchdogReset c q = refl
 
 -- ---- the whole tick, from what the command made of the board and what the watchdog does
-module _ (rail : ℤ) (named : ℕ) (words : List ℕ) (sent : Bool) (s : List ℕ) (b : Board) (allowed : allowedCount (wordCount b) (length words) ≡ true) where
-  module _ (c : Commanded) (obeyed : c ≡ commandedOf rail (limitsOf (b .memory)) sent s (found rail (limitsOf (b .memory)) named words b)) where
-    -- a tick that happens ends with the watchdog
-    happens : watchedIn c ≡ tickOf rail named words sent s b
-    unfolding tickOf tickWith
-    happens = rw (allowed, obeyed)
+module _ (rail : ℤ) (named : ℕ) (words : List ℕ) (sent : Bool) (s : List ℕ) (b : Board) where
+  abbrev obeyedIn : Bool → Commanded
+  obeyedIn = obeyedWhere rail (limitsOf (b .memory)) sent s b (found rail (limitsOf (b .memory)) named words b)
 
-    module _ (e : Event) (watched : e ≡ dog.watchedOf (c .board .timer) (dog.secondsInTicks (timeoutOf (c .board .memory)))) where
-      pub kept : isReset e ≡ false → _≡_ {A = Ticked} (record { board = c .board; outcome = c .outcome; event = e; replied = c .replied }) (tickOf rail named words sent s b)
-      unfolding watchedIn
-      kept q = keeps e c q ∙ ap (λ (x : Event). watchedAs x c) watched ∙ happens
+  abbrev watchedWhere : Bool → Commanded → Event
+  watchedWhere happens c = cond happens (dog.watchedOf (c .board .timer) (dog.secondsInTicks (timeoutOf (c .board .memory)))) NoEvent
 
-      pub lost : isReset e ≡ true → _≡_ {A = Ticked} (record { board = watchdogResetOf (c .board); outcome = c .outcome; event = e; replied = false }) (tickOf rail named words sent s b)
-      unfolding watchedIn
-      lost q = loses e c q ∙ ap (λ (x : Event). watchedAs x c) watched ∙ happens
+  -- a tick that happens ends with the watchdog, and one that does not leaves the board
+  ends : (happens : Bool) → allowedCount (wordCount b) (length words) ≡ happens → watchedAs (watchedWhere happens (obeyedIn happens)) (obeyedIn happens) ≡ tickOf rail named words sent s b
+  unfolding tickOf tickWith watchedIn
+  ends true allowed = rw allowed
+  ends false refused = rw refused
+
+  module _ (happens : Bool) (is : allowedCount (wordCount b) (length words) ≡ happens) (c : Commanded) (obeyed : c ≡ obeyedIn happens) (e : Event) (watched : e ≡ watchedWhere happens c) where
+    reached : watchedAs e c ≡ tickOf rail named words sent s b
+    reached = rw (watched, obeyed) (ends happens is)
+
+    pub kept : isReset e ≡ false → _≡_ {A = Ticked} (record { board = c .board; outcome = c .outcome; event = e; replied = c .replied }) (tickOf rail named words sent s b)
+    kept q = keeps e c q ∙ reached
+
+    pub lost : isReset e ≡ true → _≡_ {A = Ticked} (record { board = watchdogResetOf (c .board); outcome = c .outcome; event = e; replied = false }) (tickOf rail named words sent s b)
+    lost q = loses e c q ∙ reached

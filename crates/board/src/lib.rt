@@ -1,9 +1,13 @@
 // One tick of a board: five steps, one after another.
+ghost use mathlib.Core.Bool.{cond, _&&_};
 ghost use mathlib.Core.List.{[]};
 ghost use mathlib.Core.Path.{_≡_};
 ghost use Prim.Native.Nat.{min};
 ghost use Rattle.kinds.specs.Kinds.{boardOf};
+ghost use Rattle.watchdog.specs.Watchdog.{watchedOf};
+ghost use Rattle.watchdog.specs.declared.Event.the-variants.{NoEvent};
 ghost use Rattle.answers.specs.Answers.{toldNumber};
+ghost use Rattle.answers.specs.declared.Outcome.the-variants.{NoTransfer, WrongWordCount};
 ghost use Rattle.channels.specs.Operations.{overcurrentAt};
 ghost use Rattle.change.specs.Change.{enteringOf};
 ghost use Rattle.board.specs.Parts.{settledIn, measuredAs, isReset};
@@ -67,6 +71,31 @@ fn settle(b: Board, rail: i16, named: u32, limits: Limits) -> Settled
     }
 }
 
+// The same parts as they are.
+fn unsettled(b: Board) -> Settled
+    ensures { λ r. ⌜ r ≡ settledIn b ⌝ }
+{
+    let phase = b.phase;
+    let channels = b.channels;
+    let resets = b.resets;
+    Settled {
+        phase,
+        timer: b.timer,
+        channels,
+        resets,
+    }
+}
+
+// What steps 1 to 3 make of these parts where the tick happens; where it does not, they stay as they are.
+fn settle_where(happens: bool, b: Board, rail: i16, named: u32, limits: Limits) -> Settled
+    ensures { λ r. ⌜ r ≡ settledIn (cond happens (trippedOf named (changedOf rail limits (risenOf [] b))) b) ⌝ }
+{
+    if happens {
+        return settle(b, rail, named, limits);
+    }
+    unsettled(b)
+}
+
 // The lesser of a number of words and the room for them.
 fn within_room(count: usize) -> usize
     ensures { λ r. ⌜ r ≡ min count 130 ⌝ }
@@ -96,6 +125,34 @@ fn bring(number: usize, fresh: Fresh, held: &mut [u16; 130], words: &[u16]) -> F
         raw: true,
         engineering: true,
     }
+}
+
+// What a tick tells that looks at no transfer: that there was none, or that its words are refused.
+fn untold(happens: bool) -> Outcome
+    ensures { λ r. ⌜ r ≡ cond happens NoTransfer WrongWordCount ⌝ }
+{
+    if happens {
+        Outcome::NoTransfer
+    } else {
+        Outcome::WrongWordCount
+    }
+}
+
+// Whether a transfer is looked at: one that is there, in a tick that happens.
+fn is_heard(happens: bool, sent: bool) -> bool
+    ensures { λ r. ⌜ r ≡ (happens && sent) ⌝ }
+{
+    if happens { sent } else { false }
+}
+
+// What the watchdog does at the end of a tick that happens; in one that does not, it does nothing.
+fn watch(happens: bool, timer: u64, timeout: u64) -> Event
+    ensures { λ r. ⌜ r ≡ cond happens (watchedOf timer timeout) NoEvent ⌝ }
+{
+    if happens {
+        return watchdog::watched(timer, timeout);
+    }
+    Event::NoEvent
 }
 
 // Whether the watchdog resets the board.
@@ -129,8 +186,8 @@ fn is_allowed(number: usize, count: usize) -> bool
 
 // One tick: the rail in millivolts, the channels that reported overcurrent, the words lent, and no transfer or one.
 // With no transfer its slice is not looked at. Any number of words but 0 and the board's own is refused, and the board
-// stays as it was. The board is changed in place and leaves at one place only, since it is large and copying it would
-// take longer than the tick itself.
+// stays as it was: part by part, since the board is large, and is copied wherever a way around all parts meets the
+// others. For the same reason it is changed in place and leaves at one place only.
 pub fn tick(
     mut b: Board,
     rail: i16,
@@ -142,37 +199,34 @@ pub fn tick(
     ensures { λ r. ⌜ r ≡ tickOf rail overcurrent (now (words .entry)) sent (now (transfer .entry)) b ⌝ }
     ensures number { λ r. ⌜ toldNumber (r .outcome) ≡ tickNumber rail overcurrent (now (words .entry)) sent (now (transfer .entry)) b ⌝ }
 {
-    let mut outcome = Outcome::WrongWordCount;
-    let mut event = Event::NoEvent;
-    let mut replied = false;
     let number = words_of(b.profile);
-    if is_allowed(number, words.len()) {
-        let limits = b.memory.limits();
-        let settled = settle(b, rail, overcurrent, limits);
-        let phase = settled.phase;
-        let channels = settled.channels;
-        let resets = settled.resets;
-        b.phase = phase;
-        b.timer = settled.timer;
-        b.channels = channels;
-        b.resets = resets;
-        let before = b.measured.fresh;
-        let fresh = bring(number, before, &mut b.measured.words, words);
-        b.measured.fresh.raw = fresh.raw;
-        b.measured.fresh.engineering = fresh.engineering;
-        outcome = Outcome::NoTransfer;
-        if sent {
-            let c = commands::commanded(b, rail, limits, sent, transfer);
-            b = c.board;
-            outcome = c.outcome;
-            replied = c.replied;
-        }
-        let timeout = watchdog::seconds_in_ticks(b.memory.timeout());
-        event = watchdog::watched(b.timer, timeout);
-        if is_reset(event) {
-            b = state::watchdog_reset(b);
-            replied = false;
-        }
+    let happens = is_allowed(number, words.len());
+    let limits = b.memory.limits();
+    let settled = settle_where(happens, b, rail, overcurrent, limits);
+    let phase = settled.phase;
+    let channels = settled.channels;
+    let resets = settled.resets;
+    b.phase = phase;
+    b.timer = settled.timer;
+    b.channels = channels;
+    b.resets = resets;
+    let before = b.measured.fresh;
+    let fresh = bring(number, before, &mut b.measured.words, words);
+    b.measured.fresh.raw = fresh.raw;
+    b.measured.fresh.engineering = fresh.engineering;
+    let mut outcome = untold(happens);
+    let mut replied = false;
+    if is_heard(happens, sent) {
+        let c = commands::commanded(b, rail, limits, sent, transfer);
+        b = c.board;
+        outcome = c.outcome;
+        replied = c.replied;
+    }
+    let timeout = watchdog::seconds_in_ticks(b.memory.timeout());
+    let event = watch(happens, b.timer, timeout);
+    if is_reset(event) {
+        b = state::watchdog_reset(b);
+        replied = false;
     }
     Ticked {
         board: b,
