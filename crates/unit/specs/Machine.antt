@@ -2,7 +2,7 @@
 -- `rail` is in millivolts with its sign, `named` the set of channels that reported overcurrent, `words` the words lent,
 -- `sent` whether there is a transfer and `s` its bytes. Assumes nothing: these are definitions.
 use Prim.Native.Nat.{ℕ}
-use mathlib.Core.{Bool.Bool, Bool.cond, List.List}
+use mathlib.Core.{Bool.Bool, Bool.true, Bool.false, Bool.cond, List.List}
 use lib.IntN.{ℤ}
 use Rattle.wire.specs.Replies.{shown}
 use Rattle.memory.specs.declared.Store.{Store}
@@ -38,7 +38,12 @@ begunOf there profile store = begunBy (startOf (there .board) profile store .ans
 abbrev pub dueBy : Bool → Due
 dueBy replied = cond replied Reply Nothing
 
--- a tick that did not happen leaves what was to be said
+-- a tick that did not happen tells so, and leaves what was to be said
+abbrev pub tellsItHappened : Outcome → Bool
+tellsItHappened WrongWordCount = false
+tellsItHappened NoTransfer = true
+tellsItHappened (Answered answer) = true
+
 abbrev pub dueAfter : Outcome → Bool → Due → Due
 dueAfter WrongWordCount replied due = due
 dueAfter NoTransfer replied due = dueBy replied

@@ -13,7 +13,7 @@ ghost use Rattle.framing.specs.Answers.{framedNumber};
 ghost use Rattle.state.specs.Start.{keepsTheRules, startNumber};
 ghost use Rattle.answers.specs.Answers.{toldNumber};
 ghost use Rattle.board.specs.Tick.{tickNumber};
-ghost use Rattle.unit.specs.Machine.{noMachine, begunOf, dueBy, dueAfter, toldOf, afterLine, heardOf, dueOf};
+ghost use Rattle.unit.specs.Machine.{noMachine, begunOf, dueBy, tellsItHappened, dueAfter, toldOf, afterLine, heardOf, dueOf};
 use answers::Outcome;
 use framing::Due;
 use framing::Framed;
@@ -94,15 +94,27 @@ fn due_by(replied: bool) -> Due
     if replied { Due::Reply } else { Due::Nothing }
 }
 
+// Whether a tick that tells this happened.
+fn happened(outcome: Outcome) -> bool
+    ensures { λ r. ⌜ r ≡ tellsItHappened outcome ⌝ }
+{
+    match outcome {
+        Outcome::WrongWordCount => false,
+        Outcome::NoTransfer => true,
+        Outcome::Answered(_) => true,
+    }
+}
+
 // What the text line has to say after a tick: the reply made in it that still waits, and else nothing. A tick that did
-// not happen leaves what was due.
+// not happen leaves what was due. A test, and not a case for each outcome, since with those the compiler copies the
+// board once more.
 fn due_after(outcome: Outcome, replied: bool, due: Due) -> Due
     ensures { λ r. ⌜ r ≡ dueAfter outcome replied due ⌝ }
 {
-    match outcome {
-        Outcome::WrongWordCount => due,
-        Outcome::NoTransfer => due_by(replied),
-        Outcome::Answered(_) => due_by(replied),
+    if happened(outcome) {
+        due_by(replied)
+    } else {
+        due
     }
 }
 
