@@ -1,5 +1,5 @@
--- No channel is on in startup or emergency, force-enabled or not: after any tick of any machine, and on every machine
--- that can be reached. Assumes nothing: this is the claim.
+-- No channel is on in startup or emergency, force-enabled or not: after any tick of any machine that happens, and on
+-- every machine that can be reached. Assumes nothing: this is the claim.
 use mathlib.Core.{Path._≡_, Bool.true, Bool.false}
 use Prim.Native.Nat.{ℕ, _<_}
 use Rattle.channels.specs.Sets.{has}

@@ -1,7 +1,7 @@
 -- What goes by the kind of board: all that differs between the boards, but for the layouts of their readings, is
--- defined on this page and on no other. IVID is 7 for all of them. A set of channels is a number whose bit c is channel
--- c; `a ∷ b ∷ []` is a list of two, and `cond b x y` is x where b holds, else y. Assumes nothing: these are
--- definitions.
+-- defined on this page and on no other. Of the defaults only the distribution board's are taken yet, since it alone can
+-- be started. IVID is 7 for all of them. A set of channels is a number whose bit c is channel c; `a ∷ b ∷ []` is a list
+-- of two, and `cond b x y` is x where b holds, else y. Assumes nothing: these are definitions.
 use Prim.Native.Nat.{ℕ, _-_, _^_}
 use mathlib.Core.{Bool.Bool, Bool.true, Bool.false, Bool.cond, Bool._||_, List.List, List.[], List._∷_}
 use lib.Dec.{eqb}

@@ -26,7 +26,6 @@ use Rattle.state.specs.declared.parts.Profile.{Profile}
 use Rattle.grammar.specs.Grammar.{Read, fails, reads, times, end}
 use Rattle.sheet.specs.Form.{head, tickLine, Sheet, sheet, sheetIn}
 use Rattle.sheet.proofs.Behind.{went}
-use Rattle.refusals.specs.Conditions.{codesIn}
 use Rattle.refusals.specs.Rules.{InRange, KeepsAllRules, OfTheForm, BaseBoard}
 
 -- ---- some channel is in a set that is not empty
@@ -180,5 +179,4 @@ read-form s w i e =
 
 -- ---- the distribution board is document 01's
 pub base-board : BaseBoard
-unfolding codesIn
-base-board = record { stid = refl; last-bid = refl; words = refl; places = refl; base-list = refl; started = refl }
+base-board = record { stid = refl; last-bid = refl; words = refl; places = refl; base-list = refl; enable-bits = refl; enable-key = refl; started = refl }

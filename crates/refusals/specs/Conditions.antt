@@ -83,10 +83,6 @@ lengths =
     ∷ (0x90 needs 5) ∷ (0x92 needs 5) ∷ (0x94 needs 7)
     ∷ []
 
-unfoldable pub codesIn : List Need → List ℕ
-codesIn [] = []
-codesIn ((k needs n) ∷ more) = k ∷ codesIn more
-
 unfoldable pub neededBy : List Need → ℕ → ℕ
 neededBy [] c = 0
 neededBy ((k needs n) ∷ more) c = cond (eqb c k) n (neededBy more c)

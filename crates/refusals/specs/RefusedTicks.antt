@@ -1,6 +1,6 @@
 -- Demand 1, what a tick leaves whose command is refused. 1 and 2: machine and event are what they would be had nothing
--- been sent. 3: so are they, apart from the reply that now waits; a reset by the watchdog takes even that away. 4 to 7:
--- the reply and a timer of 0 are put on what step 3 left, and the watchdog stays quiet; quiet it stays after an
+-- been sent. 3: so are they, apart from the reply, which now waits and is due; a reset by the watchdog takes it away. 4
+-- to 7: the reply and a timer of 0 are put on what step 3 left, and the watchdog stays quiet; quiet it stays after an
 -- accepted command too. This holds of all machines and all ticks. Assumes nothing: these are definitions and the
 -- statement of the claim.
 use Prim.Native.Nat.{ℕ, _≤_}

@@ -132,7 +132,7 @@ fn keeps_the_rules(profile: Profile, store: Store) -> bool
     stored_in_range(store)
 }
 
-// A board of no profile, to stand where none was started yet: it has no channel and the BID 0, which no profile has.
+// A board to stand where none was started yet: its profile has no channel and the BID 0, and would not be accepted.
 pub fn unstarted() -> Board
     ensures { λ r. ⌜ r ≡ unstartedBoard ⌝ }
 {

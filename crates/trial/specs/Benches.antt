@@ -67,7 +67,8 @@ unfoldable pub answerLine : Line → Form → List ℕ → List ℕ → List ℕ
 answerLine line form received scratch =
     heardLine line (payloadIn form received scratch (spanOf line .start) (spanOf line .end)) scratch
 
--- the machine after the read; what was read, by the form before it
+-- the machine after the read; the scratch buffer, written by the form before it; and the payload, by the form after it:
+-- the two differ only where the form was switched, and then there is no payload
 abbrev pub receivedBy : List ℕ → Bench → List ℕ → List ℕ → Heard → Shown
 receivedBy held bench received scratch heard =
     printed held

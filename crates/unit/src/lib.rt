@@ -53,7 +53,7 @@ pub struct Heard {
 }
 
 // What stands where no machine was started yet, and is there only to be started: as a machine it has no channel and the
-// BID 0, which no profile has.
+// BID 0, which no accepted profile has.
 pub fn unstarted() -> Machine
     ensures { λ r. ⌜ r ≡ noMachine ⌝ }
 {
