@@ -1,7 +1,7 @@
 // Runs a replay script from standard input over the proved board, and prints what it then holds. A test instrument.
+use handling::Bench;
 use libc::STDIN_FILENO;
 use libc::STDOUT_FILENO;
-use trial::Bench;
 
 // The bench, how much of a line was taken from the input, and whether the line is too long and more input is to come.
 struct Turn {
@@ -76,7 +76,7 @@ fn finish(filled: usize) {
 fn main() {
     let mut line = io::buffer();
     let mut turn = Turn {
-        bench: trial::none(),
+        bench: handling::none(),
         filled: 0,
         over: false,
         more: true,

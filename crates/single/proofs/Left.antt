@@ -6,8 +6,8 @@ use Rattle.script.specs.Printing.{page}
 use Rattle.session.specs.Sessions.{Open, opens, Step, steps, opened, stepped}
 use Rattle.session.specs.declared.Opened.{Opened}
 use Rattle.session.specs.declared.Stepped.{Stepped}
-use Rattle.trial.specs.Benches.{Shown, shown, left}
-use Rattle.trial.specs.declared.Ran.{Ran}
+use Rattle.handling.specs.Benches.{Shown, shown, left}
+use Rattle.handling.specs.declared.Ran.{Ran}
 
 abbrev openedIn : Open → Opened
 openedIn (opens session answer (page held at)) = record { session = session; answer = answer; printed = at }

@@ -34,6 +34,8 @@ pub mod Naming
 pub mod Speaking
 pub mod Showing
 pub mod Starting
+pub mod Looking
+pub mod Handling
 pub mod Trial
 pub mod Transcript
 pub mod Session

@@ -3,11 +3,7 @@ use mathlib.Core.Path.{sym, _∙_}
 use denote.Ref.{now}
 use Rattle.single.specs.Single.{Single}
 use Rattle.single.proofs.Left.{left-held, left-same}
-use Rattle.trial.proofs.none.Reads as none
 use Rattle.trial.proofs.run.Reads as run
-
-pub single-none : Single none.Post (λ κ r s. r)
-single-none κ a r r′ s s′ p q = p ∙ sym q
 
 pub single-run : Single run.Post (λ κ r s. r)
 single-run κ a r r′ s s′ p q = left-same r r′ (p ∙ sym q)

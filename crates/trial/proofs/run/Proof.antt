@@ -1,6 +1,6 @@
 -- By what is asked. Assumes nothing.
 use Rattle.script.specs.Printing.{typed}
-use Rattle.trial.specs.Benches.{ranOf}
+use Rattle.trial.specs.Lines.{ranOf}
 use borrow.Author.Needs.{needs}
 use Rattle.trial.proofs.run.Statement.{statement}
 use Rattle.trial.proofs.run.Tie as tie

@@ -1,8 +1,8 @@
 -- By what is looked at. Assumes nothing.
-use Rattle.trial.specs.Benches.{lookLine}
+use Rattle.looking.specs.Looking.{lookLine}
 use borrow.Author.Needs.{needs}
-use Rattle.trial.proofs.looked.Statement.{statement}
-use Rattle.trial.proofs.looked.Tie as tie
+use Rattle.looking.proofs.looked.Statement.{statement}
+use Rattle.looking.proofs.looked.Tie as tie
 
 enum-known-look : tie.Need-enum-known-look
 enum-known-look c = search needs

@@ -1,8 +1,8 @@
 -- Nothing was started. Assumes nothing.
-use Rattle.trial.specs.Benches.{emptyBench}
+use Rattle.handling.specs.Benches.{emptyBench}
 use borrow.Author.Needs.{needs}
-use Rattle.trial.proofs.none.Statement.{statement}
-use Rattle.trial.proofs.none.Tie as tie
+use Rattle.handling.proofs.none.Statement.{statement}
+use Rattle.handling.proofs.none.Tie as tie
 
 unstarted-requires : tie.Need-unstarted-requires
 unstarted-requires c κs = search needs

@@ -1,8 +1,8 @@
 -- The payload lies where the answer says. Assumes nothing.
-use Rattle.trial.specs.Benches.{answerLine}
+use Rattle.looking.specs.Looking.{answerLine}
 use borrow.Author.Needs.{needs}
-use Rattle.trial.proofs.answer.Statement.{statement}
-use Rattle.trial.proofs.answer.Tie as tie
+use Rattle.looking.proofs.answer.Statement.{statement}
+use Rattle.looking.proofs.answer.Tie as tie
 
 span-of-requires : tie.Need-span-of-requires
 span-of-requires c κs = search needs

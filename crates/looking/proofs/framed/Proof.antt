@@ -6,11 +6,11 @@ use lib.ListN.{length, take}
 use Rattle.hex.specs.Hex.{laid}
 use Rattle.framing.specs.Framing.{framedOf}
 use Rattle.unit.specs.Machine.{dueOf}
-use Rattle.trial.specs.Benches.{framingLine}
+use Rattle.looking.specs.Looking.{framingLine}
 use Rattle.speaking.proofs.Fronts.{lent, untouched, whole, front}
 use borrow.Author.Needs.{needs}
-use Rattle.trial.proofs.framed.Statement.{statement}
-use Rattle.trial.proofs.framed.Tie as tie
+use Rattle.looking.proofs.framed.Statement.{statement}
+use Rattle.looking.proofs.framed.Tie as tie
 
 untouched-requires : tie.Need-untouched-requires
 untouched-requires c κs = search needs

@@ -1,5 +1,5 @@
 -- The bytes that were lent, and the line's end behind them. Assumes nothing.
-use Rattle.trial.specs.Benches.{readLine}
+use Rattle.looking.specs.Looking.{readLine}
 use mathlib.Core.Path.{_≡_, sym, ap, _∙_}
 use Rattle.wire.specs.Replies.{found}
 use Rattle.script.specs.Printing.{typed}
@@ -7,8 +7,8 @@ use Rattle.script.proofs.Turns.{typed-append}
 use lib.ListN.{length, take}
 use Rattle.speaking.proofs.Fronts.{lent, whole, front}
 use borrow.Author.Needs.{needs}
-use Rattle.trial.proofs.read.Statement.{statement}
-use Rattle.trial.proofs.read.Tie as tie
+use Rattle.looking.proofs.read.Statement.{statement}
+use Rattle.looking.proofs.read.Tie as tie
 
 untouched-requires : tie.Need-untouched-requires
 untouched-requires c κs = search needs

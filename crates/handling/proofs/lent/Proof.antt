@@ -1,7 +1,7 @@
 -- The words are those of the bytes. Assumes nothing.
 use borrow.Author.Needs.{needs}
-use Rattle.trial.proofs.lent.Statement.{statement}
-use Rattle.trial.proofs.lent.Tie as tie
+use Rattle.handling.proofs.lent.Statement.{statement}
+use Rattle.handling.proofs.lent.Tie as tie
 
 lent-words-requires : tie.Need-lent-words-requires
 lent-words-requires c κs = search needs

@@ -5,11 +5,11 @@ use mathlib.Core.List.{List}
 use lib.ListN.{length, take}
 use Rattle.reading.specs.Lines.{lineHeld}
 use Rattle.unit.specs.Machine.{heardOf}
-use Rattle.trial.specs.Benches.{receivedOf}
+use Rattle.handling.specs.Benches.{receivedOf}
 use Rattle.speaking.proofs.Fronts.{lent, untouched, whole, front}
 use borrow.Author.Needs.{needs}
-use Rattle.trial.proofs.received.Statement.{statement}
-use Rattle.trial.proofs.received.Tie as tie
+use Rattle.handling.proofs.received.Statement.{statement}
+use Rattle.handling.proofs.received.Tie as tie
 
 untouched-requires : tie.Need-untouched-requires
 untouched-requires c κs = search needs

@@ -1,8 +1,8 @@
 -- The machine after the start, and what it answers. Assumes nothing.
-use Rattle.trial.specs.Benches.{startedOf}
+use Rattle.handling.specs.Benches.{startedOf}
 use borrow.Author.Needs.{needs}
-use Rattle.trial.proofs.started.Statement.{statement}
-use Rattle.trial.proofs.started.Tie as tie
+use Rattle.handling.proofs.started.Statement.{statement}
+use Rattle.handling.proofs.started.Tie as tie
 
 distribution-requires : tie.Need-distribution-requires
 distribution-requires c κs = search needs

@@ -2,10 +2,10 @@
 use mir.Val.{SFits}
 use mir.Syntax.{w16}
 use mir.ValLaws.{toZ-ofZ}
-use Rattle.trial.specs.Benches.{shown, tickedOf}
+use Rattle.handling.specs.Benches.{shown, tickedOf}
 use borrow.Author.Needs.{needs}
-use Rattle.trial.proofs.ticked.Statement.{statement}
-use Rattle.trial.proofs.ticked.Tie as tie
+use Rattle.handling.proofs.ticked.Statement.{statement}
+use Rattle.handling.proofs.ticked.Tie as tie
 
 twos16-requires : tie.Need-twos16-requires
 twos16-requires c κs = search needs
