@@ -71,10 +71,13 @@ fn settle(b: Board, rail: i16, named: u32, limits: Limits) -> Settled
     }
 }
 
-// The same parts as they are.
-fn unsettled(b: Board) -> Settled
-    ensures { λ r. ⌜ r ≡ settledIn b ⌝ }
+// What steps 1 to 3 make of these parts where the tick happens; where it does not, they stay as they are.
+fn settle_where(happens: bool, b: Board, rail: i16, named: u32, limits: Limits) -> Settled
+    ensures { λ r. ⌜ r ≡ settledIn (cond happens (trippedOf named (changedOf rail limits (risenOf [] b))) b) ⌝ }
 {
+    if happens {
+        return settle(b, rail, named, limits);
+    }
     let phase = b.phase;
     let channels = b.channels;
     let resets = b.resets;
@@ -84,16 +87,6 @@ fn unsettled(b: Board) -> Settled
         channels,
         resets,
     }
-}
-
-// What steps 1 to 3 make of these parts where the tick happens; where it does not, they stay as they are.
-fn settle_where(happens: bool, b: Board, rail: i16, named: u32, limits: Limits) -> Settled
-    ensures { λ r. ⌜ r ≡ settledIn (cond happens (trippedOf named (changedOf rail limits (risenOf [] b))) b) ⌝ }
-{
-    if happens {
-        return settle(b, rail, named, limits);
-    }
-    unsettled(b)
 }
 
 // The lesser of a number of words and the room for them.

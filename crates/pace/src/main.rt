@@ -1,6 +1,5 @@
 // Runs the pattern of the speed measurement over the proved board, and prints a digest of all that it made;
 // docs/SPEED.md describes both.
-mod digest;
 mod run;
 
 use libc::STDIN_FILENO;

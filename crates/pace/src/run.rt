@@ -22,9 +22,9 @@ fn seen(turn: u64, digest: u32, told: u64, m: Machine) -> u32 {
     }
     let i = pattern::place(turn);
     let b = m.board;
-    let switched = crate::digest::switched(b.channels, i);
-    let waiting = crate::digest::waiting(b.reply, i);
-    let timed = crate::digest::timed(b.phase, b.timer);
+    let switched = digest::switched(b.channels, i);
+    let waiting = digest::waiting(b.reply, i);
+    let timed = digest::timed(b.phase, b.timer);
     pattern::taken(digest, pattern::summed(told, switched, waiting, timed))
 }
 
@@ -111,7 +111,7 @@ pub fn digest_of(run: u8, count: u64) -> u32 {
             let outcome = t.outcome;
             let event = t.event;
             m = t.machine;
-            told = crate::digest::told(outcome, event, t.replied);
+            told = digest::told(outcome, event, t.replied);
         }
         d = seen(turn, d, told, m);
         turn += 1;

@@ -40,3 +40,4 @@ pub mod Trial
 pub mod Transcript
 pub mod Session
 pub mod Pattern
+pub mod Digest

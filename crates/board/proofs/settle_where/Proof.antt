@@ -7,10 +7,6 @@ use borrow.Author.Needs.{needs}
 use borrow.Author.Tests.{not-true}
 use Rattle.board.proofs.settle_where.Statement.{statement}
 use Rattle.board.proofs.settle_where.Tie as tie
-use Rattle.board.proofs.settle_where.Reads as reads
-use Rattle.board.proofs.settle_where.Lts as lts
-use Rattle.board.proofs.settle.Reads as settle-reads
-use Rattle.board.proofs.unsettled.Reads as unsettled-reads
 
 settle-requires : tie.Need-settle-requires
 settle-requires c κs = search needs
@@ -20,13 +16,10 @@ returns c =
     let h : c .before .before .args .happens ≡ true = search needs in
     rw (c .settle .ensures, h, toZ-ofZ w16 (c .before .before .args .rail) (c .before .before .fits .rail))
 
-unsettled-requires : tie.Need-unsettled-requires
-unsettled-requires c κs = search needs
-
 returns-2 : tie.Need-returns-2
 returns-2 c =
-    let h : c .before .before .args .happens ≡ false = search (not-true, needs) in
-    rw (c .unsettled .ensures, h)
+    let h : c .before .before .before .before .args .happens ≡ false = search (not-true, needs) in
+    rw h
 
 pub settle-where-spec : {M : Type 1} → statement M
-settle-where-spec = tie.close (tie.spec settle-requires returns unsettled-requires returns-2)
+settle-where-spec = tie.close (tie.spec settle-requires returns returns-2)

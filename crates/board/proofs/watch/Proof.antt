@@ -4,9 +4,6 @@ use mathlib.Core.Path.{_≡_}
 use borrow.Author.Needs.{needs}
 use Rattle.board.proofs.watch.Statement.{statement}
 use Rattle.board.proofs.watch.Tie as tie
-use Rattle.board.proofs.watch.Reads as reads
-use Rattle.board.proofs.watch.Lts as lts
-use Rattle.watchdog.proofs.watched.Reads as watched-reads
 
 watched-requires : tie.Need-watched-requires
 watched-requires c κs = search needs

@@ -1,7 +1,7 @@
 -- By cases of the outcome. Assumes nothing.
 use borrow.Author.Needs.{needs}
-use Rattle.pace.proofs.digest.outcome_number.Statement.{statement}
-use Rattle.pace.proofs.digest.outcome_number.Tie as tie
+use Rattle.digest.proofs.outcome_number.Statement.{statement}
+use Rattle.digest.proofs.outcome_number.Tie as tie
 
 enum-told : tie.Need-enum-told
 enum-told c = search needs

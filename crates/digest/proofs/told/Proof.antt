@@ -1,8 +1,8 @@
 -- With a reply or without. Assumes nothing.
 use borrow.Author.Needs.{needs}
 use native.Mathlib.Omega.{arith}
-use Rattle.pace.proofs.digest.told.Statement.{statement}
-use Rattle.pace.proofs.digest.told.Tie as tie
+use Rattle.digest.proofs.told.Statement.{statement}
+use Rattle.digest.proofs.told.Tie as tie
 
 event-number-requires : tie.Need-event-number-requires
 event-number-requires c κs = search needs

@@ -1,7 +1,7 @@
 // What the digest takes in of a board and of what a tick told.
 ghost use mathlib.Core.Path.{_≡_};
 ghost use Rattle.answers.specs.Answers.{answerNumber};
-ghost use Rattle.pace.specs.Seen.{modeNumber, eventNumber, outcomeNumber, toldBy, timesOf};
+ghost use Rattle.digest.specs.Seen.{modeNumber, eventNumber, outcomeNumber, toldBy, timesOf, switchedOf, waitingOf};
 use answers::Answer;
 use answers::Outcome;
 use channels::Channels;
@@ -82,16 +82,18 @@ pub fn timed(phase: ModeAge, timer: u64) -> u64
 
 // What the digest takes in of the channels at tick i. The remainder of a count is the count: it tells the prover its
 // bound, here and below.
-// argued: an instrument; its digest is compared with the second program's
-pub fn switched(channels: Channels, i: u64) -> u64 {
+pub fn switched(channels: Channels, i: u64) -> u64
+    ensures { λ r. ⌜ r ≡ switchedOf channels i ⌝ }
+{
     let counts = channels.counts();
     let count = counts[(i % 32) as usize];
     channels.on() as u64 + 3 * (channels.latched() as u64) + 31 * (count as u64 % 65536)
 }
 
 // What the digest takes in of the waiting reply at tick i: its length and one of its bytes, 0 past its end.
-// argued: an instrument; its digest is compared with the second program's
-pub fn waiting(reply: Reply, i: u64) -> u64 {
+pub fn waiting(reply: Reply, i: u64) -> u64
+    ensures { λ r. ⌜ r ≡ waitingOf reply i ⌝ }
+{
     let at = (i % 274) as usize;
     let length = 23 * (reply.len as u64 % 65536);
     if at < reply.len {

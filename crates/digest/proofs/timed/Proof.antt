@@ -1,7 +1,7 @@
 -- The sum of its parts. Assumes nothing.
 use borrow.Author.Needs.{needs}
-use Rattle.pace.proofs.digest.timed.Statement.{statement}
-use Rattle.pace.proofs.digest.timed.Tie as tie
+use Rattle.digest.proofs.timed.Statement.{statement}
+use Rattle.digest.proofs.timed.Tie as tie
 
 mode-requires : tie.Need-mode-requires
 mode-requires c κs = search needs
