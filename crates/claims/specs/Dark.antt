@@ -1,4 +1,4 @@
--- No channel is on in startup or emergency, force-enabled or not: after any tick of any machine that happens, and on
+-- No channel is on in startup or emergency, force-enabled or not: after any tick that happens, on any machine, and on
 -- every machine that can be reached. Assumes nothing: this is the claim.
 use mathlib.Core.{Path._≡_, Bool.true, Bool.false}
 use Prim.Native.Nat.{ℕ, _<_}

@@ -38,12 +38,13 @@ begunOf there profile store = begunBy (startOf (there .board) profile store .ans
 abbrev pub dueBy : Bool → Due
 dueBy replied = cond replied Reply Nothing
 
--- a tick that did not happen tells so, and leaves what was to be said
+-- refusal 9 tells that the tick did not happen
 abbrev pub tellsItHappened : Outcome → Bool
 tellsItHappened WrongWordCount = false
 tellsItHappened NoTransfer = true
 tellsItHappened (Answered answer) = true
 
+-- a tick that did not happen leaves what was to be said
 abbrev pub dueAfter : Outcome → Bool → Due → Due
 dueAfter WrongWordCount replied due = due
 dueAfter NoTransfer replied due = dueBy replied
