@@ -1,0 +1,4 @@
+pub mod Filling
+pub mod Places
+pub mod Rows
+pub mod Scaled
