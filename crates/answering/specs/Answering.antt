@@ -5,11 +5,11 @@ use mathlib.Core.Bool.{Bool, true, false}
 use Rattle.wire.specs.{Replies.replyOf, declared.reply.Reply.Reply}
 use Rattle.memory.specs.{Memory.loadOf, Memory.defaultedOf, Memory.setIn, Memory.resetIn, Memory.savedOf, declared.Memory.Memory}
 use Rattle.replies.specs.Layouts.{shortReply, faultsReply, housekeepingReply, parameterReply}
-use Rattle.state.specs.{Parts.wordsOf, declared.parts.Board.Board}
+use Rattle.state.specs.{Parts.wordsOf, Parts.inUnitsOf, declared.parts.Board.Board}
 use Rattle.answers.specs.{Answers.headerOf, Answers.new, Answers.statOf, Parameters.valueRead, declared.Outcome.Outcome}
 use Rattle.answers.specs.declared.Outcome.the-variants.{WrongWordCount, NoTransfer, Answered}
 use Rattle.command.specs.declared.Layout.{Layout}
-use Rattle.command.specs.declared.Layout.the-variants.{Short, Faults, Housekeeping, Parameter}
+use Rattle.command.specs.declared.Layout.the-variants.{Short, Faults, Housekeeping, Parameter, EngineeringHousekeeping}
 use Rattle.effects.specs.{Effects.newWhere, declared.parts.MemoryChange.MemoryChange}
 use Rattle.effects.specs.declared.parts.MemoryChange.the-variants.{AsBefore, Set, ResetOne, Defaults, Load, Save, Restart}
 
@@ -54,3 +54,6 @@ replyTo code outcome Faults b = replyOf (faultsReply (headerOf (b .profile)) cod
 replyTo code outcome Housekeeping b =
     replyOf (housekeepingReply (headerOf (b .profile)) code (newWhere (b .measured .fresh .raw)) (b .channels .on) (b .channels .latched) (wordsOf b))
 replyTo code outcome (Parameter id) b = replyOf (parameterReply (headerOf (b .profile)) code new id (valueRead (b .profile) (b .memory) (b .resets) id))
+replyTo code outcome EngineeringHousekeeping b =
+    replyOf
+    (housekeepingReply (headerOf (b .profile)) code (newWhere (b .measured .fresh .engineering)) (b .channels .on) (b .channels .latched) (inUnitsOf b))

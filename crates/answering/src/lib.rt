@@ -2,6 +2,9 @@
 ghost use mathlib.Core.Path.{_≡_};
 ghost use lib.ListN.{take};
 ghost use Rattle.wire.specs.Replies.{replyOf};
+ghost use Rattle.kinds.specs.Kinds.{boardOf};
+ghost use Rattle.readings.specs.Readings.{rawWords, engineeringWords};
+ghost use Rattle.readings.specs.Layout.{layout, convertedBy};
 ghost use Rattle.replies.specs.Layouts.{housekeepingReply};
 ghost use Rattle.effects.specs.Effects.{newWhere};
 ghost use Rattle.answering.specs.Answering.{statTold, replyTo, alters, isRestart, memoryAfter};
@@ -14,8 +17,10 @@ use channels::Channels;
 use command::Header;
 use command::Layout;
 use effects::MemoryChange;
+use kinds::Kind;
 use memory::Memory;
 use state::Board;
+use state::Measured;
 use wire::Reply;
 
 // The status code of what a tick tells of its transfer; 0 stands where there is no answer, and is never sent.
@@ -29,7 +34,7 @@ fn stat_told(outcome: Outcome) -> u8
     }
 }
 
-// The status of an accepted 0x50: NEW where the words are still new as raw readings.
+// The status of an accepted 0x50 or 0x52: NEW where the words are still new as readings of that kind.
 fn new_where(fresh: bool) -> u8
     ensures { λ r. ⌜ r ≡ newWhere fresh ⌝ }
 {
@@ -39,19 +44,24 @@ fn new_where(fresh: bool) -> u8
     0x00
 }
 
-// The reply of 0x50 of a board with these channels and the first of these words, as many as count.
-fn housekeeping(
-    own: Header,
-    code: u8,
-    stat: u8,
-    c: Channels,
-    words: [u16; 130],
-    count: usize,
-) -> Reply
-    ensures { λ r. ⌜ r ≡ replyOf (housekeepingReply own code stat (c .on) (c .latched) (take count words)) ⌝ }
+// The reply of 0x50 of a board with these channels and the first of these words, as many as its kind has.
+fn housekeeping(own: Header, code: u8, kind: Kind, c: Channels, m: Measured) -> Reply
+    ensures { λ r. ⌜ r ≡ replyOf (housekeepingReply own code (newWhere (m .fresh .raw)) (c .on) (c .latched) (take (boardOf kind .words) (rawWords (m .words)))) ⌝ }
 {
-    let counted = wire::first_words(&words, count);
-    replies::housekeeping(own, code, stat, c.on(), c.latched(), counted)
+    let words = m.words;
+    let count = kinds::word_count(kind);
+    let stat = new_where(m.fresh.raw);
+    replies::raw_housekeeping(own, code, stat, c.on(), c.latched(), words, count)
+}
+
+// The reply of 0x52 of a board with these channels and these words, in the units of their fields.
+fn engineering_housekeeping(own: Header, code: u8, c: Channels, m: Measured) -> Reply
+    ensures { λ r. ⌜ r ≡ replyOf (housekeepingReply own code (newWhere (m .fresh .engineering)) (c .on) (c .latched) (engineeringWords (convertedBy layout (m .words)))) ⌝ }
+{
+    let words = m.words;
+    let units = readings::convert_all(words);
+    let stat = new_where(m.fresh.engineering);
+    replies::engineering_housekeeping(own, code, stat, c.on(), c.latched(), units)
 }
 
 // The reply of a board whose memory is as after the command and whose words are as new as before it, with the board's
@@ -72,17 +82,16 @@ pub fn reply_to(b: Board, received: Received, outcome: Outcome, layout: Layout) 
             c.counts(),
         ),
         Layout::Housekeeping => {
-            let m = b.measured;
-            let words = m.words;
             let profile = b.profile;
             let kind = profile.kind;
-            let count = kinds::word_count(kind);
-            let stat = new_where(m.fresh.raw);
-            housekeeping(own, received.code, stat, c, words, count)
+            housekeeping(own, received.code, kind, c, b.measured)
         }
         Layout::Parameter(id) => {
             let value = value_read(b.profile, b.memory, b.resets, id);
             replies::parameter(own, received.code, 0x80, id, value)
+        }
+        Layout::EngineeringHousekeeping => {
+            engineering_housekeeping(own, received.code, c, b.measured)
         }
     }
 }

@@ -1,9 +1,9 @@
 -- One tick in five steps. `rail` is in millivolts with its sign, `named` the set of channels that reported overcurrent,
 -- `words` the words lent, `sent` whether there is a transfer and `s` its bytes. Assumes nothing: these are definitions.
 use Prim.Native.Nat.{ℕ}
-use mathlib.Core.{Bool.Bool, Bool.true, Bool.false, Bool.cond, Bool.not, Bool._||_, List.List, List._++_, Option.Option, Option.some}
-use lib.{Dec.eqb, IntN.ℤ, ListN.length, ListN.take, ListN.drop, ListN.replicate}
-use Rattle.kinds.specs.Kinds.{wordRoom}
+use mathlib.Core.{Bool.Bool, Bool.true, Bool.false, Bool.cond, Bool.not, Bool._||_, List.List, Option.Option, Option.some}
+use lib.{Dec.eqb, IntN.ℤ, ListN.length}
+use Rattle.readings.specs.Readings.{measuredAs}
 use Rattle.modes.specs.{Table.olderOf, Table.stepOf, declared.Limits.Limits}
 use Rattle.channels.specs.Operations.{overcurrentAt}
 use Rattle.watchdog.specs.Watchdog as dog
@@ -20,16 +20,13 @@ use Rattle.answers.specs.declared.Outcome.the-variants.{WrongWordCount}
 use Rattle.board.specs.declared.Ticked.{Ticked}
 
 -- ---- step 1: age and timer go up by one, and words that came take the place of the old
--- as many as the board has are words brought, and are new both as raw and as engineering readings; behind them the
--- room, which is that of the board with the most words, is 0
-abbrev pub held : List ℕ → List ℕ
-held words = take wordRoom words ++ drop (length words) (replicate wordRoom 0)
-
+-- as many as the board has are words brought: raw readings from then on, and new both as raw and as engineering
+-- readings
 abbrev pub bothNew : Fresh
 bothNew = record { raw = true; engineering = true }
 
 unfoldable pub broughtBy : ℕ → List ℕ → Measured → Measured
-broughtBy number words m = cond (eqb (length words) number) (record { words = held words; fresh = bothNew }) m
+broughtBy number words m = cond (eqb (length words) number) (record { words = measuredAs words; fresh = bothNew }) m
 
 unfoldable pub risenOf : List ℕ → Board → Board
 risenOf words b = withPhase (olderOf (b .phase)) (withTimer (dog.risenOf (b .timer)) (withMeasured (broughtBy (wordCount b) words (b .measured)) b))

@@ -2,7 +2,6 @@
 ghost use mathlib.Core.Bool.{cond, _&&_};
 ghost use mathlib.Core.List.{[]};
 ghost use mathlib.Core.Path.{_≡_};
-ghost use Prim.Native.Nat.{min};
 ghost use Rattle.kinds.specs.Kinds.{boardOf};
 ghost use Rattle.watchdog.specs.Watchdog.{watchedOf};
 ghost use Rattle.watchdog.specs.declared.Event.the-variants.{NoEvent};
@@ -10,7 +9,7 @@ ghost use Rattle.answers.specs.Answers.{toldNumber};
 ghost use Rattle.answers.specs.declared.Outcome.the-variants.{NoTransfer, WrongWordCount};
 ghost use Rattle.channels.specs.Operations.{overcurrentAt};
 ghost use Rattle.change.specs.Change.{enteringOf};
-ghost use Rattle.board.specs.Parts.{settledIn, measuredAs, isReset};
+ghost use Rattle.board.specs.Parts.{settledIn, isReset};
 ghost use Rattle.board.specs.Tick.{broughtBy, risenOf, changedOf, trippedOf, allowedCount, tickOf, tickNumber};
 use answers::Outcome;
 use channels::Channels;
@@ -19,6 +18,7 @@ use modes::Mode;
 use modes::ModeAge;
 use state::Board;
 use state::Fresh;
+use state::Measured;
 use state::Profile;
 use state::Resets;
 use watchdog::Event;
@@ -89,34 +89,20 @@ fn settle_where(happens: bool, b: Board, rail: i16, named: u32, limits: Limits) 
     }
 }
 
-// The lesser of a number of words and the room for them.
-fn within_room(count: usize) -> usize
-    ensures { λ r. ⌜ r ≡ min count 130 ⌝ }
-{
-    if count < 130 { count } else { 130 }
-}
-
-// All the words of a board take the place of those held, and are new; with any other number those held stay, as new as
-// they were. Answers whether the words then held are new.
-fn bring(number: usize, fresh: Fresh, held: &mut [u16; 130], words: &[u16]) -> Fresh
-    ensures { λ r. ⌜ measuredAs (now (held .exit)) r ≡ broughtBy number (now (words .entry)) (measuredAs (now (held .entry)) fresh) ⌝ }
+// All the words of a board take the place of those held, raw from then on, and are new; with any other number those
+// held stay, as new as they were.
+fn brought(number: usize, held: Measured, words: &[u16]) -> Measured
+    ensures { λ r. ⌜ r ≡ broughtBy number (now (words .entry)) held ⌝ }
 {
     if words.len() != number {
-        return fresh;
+        return held;
     }
-    // stored whole at the end, and not one by one: a proof knows how long a local array is, and not how long one behind
-    // a reference is
-    let count = within_room(words.len());
-    let mut brought = [0u16; 130];
-    let mut i = 0;
-    while i < count {
-        brought[i] = words[i];
-        i += 1;
-    }
-    *held = brought;
-    Fresh {
-        raw: true,
-        engineering: true,
+    Measured {
+        words: readings::measured(words),
+        fresh: Fresh {
+            raw: true,
+            engineering: true,
+        },
     }
 }
 
@@ -203,10 +189,8 @@ pub fn tick(
     b.timer = settled.timer;
     b.channels = channels;
     b.resets = resets;
-    let before = b.measured.fresh;
-    let fresh = bring(number, before, &mut b.measured.words, words);
-    b.measured.fresh.raw = fresh.raw;
-    b.measured.fresh.engineering = fresh.engineering;
+    let measured = brought(number, b.measured, words);
+    b.measured = measured;
     let mut outcome = untold(happens);
     let mut replied = false;
     if is_heard(happens, sent) {

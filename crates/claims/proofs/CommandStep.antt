@@ -34,7 +34,7 @@ use Rattle.answers.specs.declared.Answer.{Answer}
 use Rattle.answers.specs.declared.Answer.the-variants.{Accepted}
 use Rattle.answers.specs.declared.Outcome.the-variants.{Answered}
 use Rattle.answers.specs.declared.Commanded.{Commanded}
-use Rattle.effects.specs.Effects.{isNominal, switchedOf, groupOnOf, groupOffOf, groupStateOf, channelOnOf, channelOffOf, cancelledOf, switchedModeOf, faultsOf, housekeepingOf, parameterAnswered, rememberedOf, savedIn, seen, restartedOf, reportedOf, runOf}
+use Rattle.effects.specs.Effects.{isNominal, switchedOf, groupOnOf, groupOffOf, groupStateOf, channelOnOf, channelOffOf, cancelledOf, switchedModeOf, faultsOf, housekeepingOf, engineeringHousekeepingOf, parameterAnswered, rememberedOf, savedIn, seen, restartedOf, reportedOf, runOf}
 use Rattle.asking.specs.Checks.{isStartup}
 use Rattle.commands.specs.Step.{transferredOf, commandedOf}
 use Rattle.commands.proofs.Stepwise.{turnedDown, decodedOf, steppedOf}
@@ -148,22 +148,23 @@ module _ (rail : ℤ) (limits : Limits) (b : Board) where
   switched-mode code (change.ModeAnswer.Accepted next) = record { profile = refl; phase = refl; channels = refl }
   switched-mode code change.ModeAnswer.Unavailable = refused Answer.NotAvailable code
 
-  -- 0x50 forgets that the words are new
-  measured : (reply : Reply) → Stays b (acceptedWith reply (withMeasured (seen (b .measured)) b) .board)
+  -- 0x50 and 0x52 forget that the words are new
+  measured : (reply : Reply) (m : Measured) → Stays b (acceptedWith reply (withMeasured m b) .board)
   unfolding acceptedWith
-  measured reply = record { profile = refl; phase = refl; channels = refl }
+  measured reply m = record { profile = refl; phase = refl; channels = refl }
 
   -- a command that only has something told
   reported : (code : ℕ) (layout : Layout) → Stays b (reportedOf code layout b .board)
-  unfolding reportedOf faultsOf housekeepingOf parameterAnswered acceptedOf
+  unfolding reportedOf faultsOf housekeepingOf engineeringHousekeepingOf parameterAnswered acceptedOf
   reported code Layout.Short = accepted _
   reported code Layout.Faults = accepted _
-  reported code Layout.Housekeeping = measured _
+  reported code Layout.Housekeeping = measured _ _
   reported code (Layout.Parameter id) = remembers _ _
+  reported code Layout.EngineeringHousekeeping = measured _ _
 
   -- every command of the list
   run : (code : ℕ) (c : Command) → DoesIt (Run c) (runOf rail limits code c b)
-  unfolding runOf groupOnOf groupOffOf groupStateOf channelOnOf channelOffOf cancelledOf faultsOf housekeepingOf parameterAnswered rememberedOf restartedOf acceptedOf
+  unfolding runOf groupOnOf groupOffOf groupStateOf channelOnOf channelOffOf cancelledOf faultsOf housekeepingOf engineeringHousekeepingOf parameterAnswered rememberedOf restartedOf acceptedOf
   run code (Command.GroupOn g) = switched _ refl code _ (of-channels.group-on (g .spoken) (g .mask))
   run code (Command.GroupOff g) = switched _ refl code _ (of-channels.group-off (g .spoken) (g .mask))
   run code (Command.GroupState g) = switched _ refl code _ (of-channels.group-state (g .spoken) (g .mask))

@@ -118,6 +118,7 @@ carried Name.ResetParameter s = resetting (idOf s)
 carried Name.ResetConfiguration s = Run Command.ResetConfiguration
 carried Name.LoadConfiguration s = Run Command.LoadConfiguration
 carried Name.SaveConfiguration s = Run (Command.SaveConfiguration (checksumIn s))
+carried Name.GetEngineeringHousekeeping s = Run (Command.Report Layout.EngineeringHousekeeping)
 
 -- ---- a code of the table: long enough, with its key, and then what it carries
 unfoldable pub listed : Listed → List ℕ → Decoded

@@ -36,6 +36,7 @@ commandTable =
     ∷ 0x90 is Name.ResetConfiguration of 5 bytes-with-key 0xA7  -- page 69
     ∷ 0x92 is Name.LoadConfiguration of 5 bytes-with-key 0xA7  -- page 70
     ∷ 0x94 is Name.SaveConfiguration of 7 bytes-with-key 0xA7  -- page 71
+    ∷ 0x52 is Name.GetEngineeringHousekeeping of 4 bytes  -- page 51
     ∷ []
 
 -- what such rows say of a code: its row, or that it has none

@@ -44,6 +44,7 @@ enum Name {
     ResetConfiguration,
     LoadConfiguration,
     SaveConfiguration,
+    GetEngineeringHousekeeping,
 }
 
 // What the table of commands says of a code: the command and the bytes it needs, with its key where it has one.
@@ -53,18 +54,19 @@ enum Listed {
     Missing,
 }
 
-// How a reply is laid out, by what it tells: nothing more than its 5 bytes, the overcurrent faults, the measured words,
-// or a parameter.
+// How a reply is laid out, by what it tells: nothing more than its 5 bytes, the overcurrent faults, the measured words
+// as raw readings, a parameter, or the measured words as engineering readings.
 pub enum Layout {
     Short,
     Faults,
     Housekeeping,
     Parameter(u16),
+    EngineeringHousekeeping,
 }
 
 // A command with what it carries: a group, a channel, a parameter's id, an id and a value, or a checksum. The commands
 // that change neither mode, channels nor memory are one case with the layout of their reply: 0x02, 0x06, 0x42, 0x82,
-// and 0x50, which ends NEW besides.
+// and 0x50 and 0x52, each of which ends its own NEW besides.
 pub enum Command {
     SystemReset,
     CancelOperation,
@@ -156,6 +158,7 @@ fn listed_as(code: u8) -> Listed
         0x90 => Listed::Keyed(Name::ResetConfiguration, 5, 0xA7),
         0x92 => Listed::Keyed(Name::LoadConfiguration, 5, 0xA7),
         0x94 => Listed::Keyed(Name::SaveConfiguration, 7, 0xA7),
+        0x52 => Listed::Plain(Name::GetEngineeringHousekeeping, 4),
         _ => Listed::Missing,
     }
 }
@@ -247,6 +250,9 @@ fn carried(name: Name, transfer: &[u8]) -> Decoded
             transfer,
             5,
         ))),
+        Name::GetEngineeringHousekeeping => Decoded::Run(Command::Report(
+            Layout::EngineeringHousekeeping,
+        )),
     }
 }
 

@@ -14,7 +14,7 @@ use Rattle.channels.specs.declared.Channels.{Channels}
 use Rattle.command.specs.{declared.Group.Group, declared.Command.Command, declared.Layout.Layout}
 use Rattle.memory.specs.{Memory.loadOf, Memory.defaultedOf, Memory.setIn, Memory.resetIn, Memory.savedOf, declared.Memory.Memory}
 use Rattle.replies.specs.Layouts.{faultsReply, housekeepingReply, parameterReply}
-use Rattle.state.specs.{Parts.modeOf, Parts.wordsOf, Parts.withPhase, Parts.withMemory, Parts.withChannels, Parts.withMeasured, Start.commandResetOf}
+use Rattle.state.specs.{Parts.modeOf, Parts.wordsOf, Parts.inUnitsOf, Parts.withPhase, Parts.withMemory, Parts.withChannels, Parts.withMeasured, Start.commandResetOf}
 use Rattle.state.specs.{declared.parts.Board.Board, declared.parts.Measured.Measured}
 use Rattle.change.specs.Change.{enteringOf}
 use Rattle.answers.specs.Answers.{headerOf, new, silentOf, acceptedWith, acceptedOf, refusedOf}
@@ -89,6 +89,18 @@ housekeepingOf code b =
     (housekeepingReply (headerOf (b .profile)) code (newWhere (b .measured .fresh .raw)) (b .channels .on) (b .channels .latched) (wordsOf b)))
     (withMeasured (seen (b .measured)) b)
 
+-- ---- 0x52: the same layout, each measured word converted by the row of its place, as NEW only where the board
+-- remembers that they are new as engineering readings; from now on they are not
+abbrev pub seenInUnits : Measured → Measured
+seenInUnits m = record { words = m .words; fresh = record { raw = m .fresh .raw; engineering = false } }
+
+unfoldable pub engineeringHousekeepingOf : ℕ → Board → Commanded
+engineeringHousekeepingOf code b =
+    acceptedWith
+    (replyOf
+    (housekeepingReply (headerOf (b .profile)) code (newWhere (b .measured .fresh .engineering)) (b .channels .on) (b .channels .latched) (inUnitsOf b)))
+    (withMeasured (seenInUnits (b .measured)) b)
+
 -- ---- 0x82, 0x84 and 0x86: a parameter is read, set, or reset; the reply has the value that the id then reads
 unfoldable pub parameterAnswered : ℕ → ℕ → Memory → Board → Commanded
 parameterAnswered code id memory b =
@@ -117,6 +129,7 @@ reportedOf code Layout.Short b = acceptedOf code b
 reportedOf code Layout.Faults b = faultsOf code b
 reportedOf code Layout.Housekeeping b = housekeepingOf code b
 reportedOf code (Layout.Parameter id) b = parameterAnswered code id (b .memory) b
+reportedOf code Layout.EngineeringHousekeeping b = engineeringHousekeepingOf code b
 
 -- ---- each command
 unfoldable pub runOf : ℤ → Limits → ℕ → Command → Board → Commanded

@@ -3,7 +3,7 @@
 ghost use mathlib.Core.Path.{_≡_};
 ghost use Rattle.answers.specs.Answers.{acceptedOf, refusedOf};
 ghost use Rattle.state.specs.Parts.{withPhase, withChannels};
-ghost use Rattle.effects.specs.Effects.{switchedModeOf, housekeepingOf, savedIn, restartedOf, reportedOf, runOf};
+ghost use Rattle.effects.specs.Effects.{switchedModeOf, housekeepingOf, engineeringHousekeepingOf, savedIn, restartedOf, reportedOf, runOf};
 ghost use Rattle.effects.specs.Parts.{anyCode, obeyedIn, layoutOf, memoryChangeOf};
 
 mod parts;
@@ -81,6 +81,15 @@ fn housekeeping(b: Board) -> Obeyed
     told
 }
 
+// 0x52: the measured words are no longer new as engineering readings.
+fn engineering_housekeeping(b: Board) -> Obeyed
+    ensures { λ r. ⌜ r ≡ obeyedIn (engineeringHousekeepingOf anyCode b) ⌝ }
+{
+    let mut told = only_fed(b, Answer::Accepted);
+    told.fresh.engineering = false;
+    told
+}
+
 // 0x94: refused where the checksum is neither 0 nor right.
 fn saved(b: Board, checksum: u16) -> Obeyed
     ensures { λ r. ⌜ r ≡ obeyedIn (savedIn anyCode checksum b) ⌝ }
@@ -112,7 +121,7 @@ fn restarted(b: Board) -> Obeyed
 }
 
 // A command that changes neither mode, channels nor memory: of those parts the timer alone is another, and after 0x50
-// what is new.
+// and 0x52 what is new.
 fn reported(b: Board, layout: Layout) -> Obeyed
     ensures { λ r. ⌜ r ≡ obeyedIn (reportedOf anyCode layout b) ⌝ }
 {
@@ -121,6 +130,7 @@ fn reported(b: Board, layout: Layout) -> Obeyed
         Layout::Faults => only_fed(b, Answer::Accepted),
         Layout::Housekeeping => housekeeping(b),
         Layout::Parameter(_) => only_fed(b, Answer::Accepted),
+        Layout::EngineeringHousekeeping => engineering_housekeeping(b),
     }
 }
 

@@ -96,6 +96,7 @@ fn distribution_lists(code: u8) -> bool
             0x90,
             0x92,
             0x94,
+            0x52,
         ],
         code,
     )

@@ -98,15 +98,16 @@ fn patterns(readings: [Engineering; 122]) -> [u16; 122]
     words
 }
 
-// A reply with some raw readings behind what it shows, from one place to before another.
-pub fn append_raw(reply: Reply, raws: [Raw; 130], from: usize, to: usize) -> Reply
-    ensures { λ r. ⌜ r ≡ wire-replies.after reply (wire-replies.words (drop from (take to (rawWords raws)))) ⌝ }
+// A reply with raw readings behind what it shows: of those that count, the ones from one place to before another.
+pub fn append_raw(reply: Reply, raws: [Raw; 130], count: usize, from: usize, to: usize) -> Reply
+    ensures { λ r. ⌜ r ≡ wire-replies.after reply (wire-replies.words (drop from (take to (take count (rawWords raws))))) ⌝ }
 {
     let words = words(raws);
-    reply.append_words(wire::rest_words(wire::first_words(&words, to), from))
+    let counted = wire::first_words(&words, count);
+    reply.append_words(wire::rest_words(wire::first_words(counted, to), from))
 }
 
-// A reply with some engineering readings behind what it shows, from one place to before another.
+// A reply with engineering readings behind what it shows: the ones from one place to before another.
 pub fn append_engineering(
     reply: Reply,
     readings: [Engineering; 122],

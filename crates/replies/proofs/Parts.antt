@@ -1,10 +1,11 @@
 -- A long reply is the six bytes that each of them starts with, and then one row of words, or the id and a value.
 -- Assumes nothing.
-use Prim.Native.Nat.{ℕ, _≤_}
+use Prim.Native.Nat.{ℕ, _≤_, min}
 use mathlib.Core.List.{List, _∷_, _++_, append-assoc}
 use mathlib.Core.Path.{_≡_, refl, sym, ap, _∙_}
 use native.Mathlib.Omega.{arith}
-use lib.ListN.{length, getD, take, drop}
+use lib.ListN.{length, getD, take, drop, length-take}
+use lib.Seq.{take-all}
 use Rattle.laws.proofs.Lists.{drop-two, drop-three}
 use Rattle.wire.specs.Numbers.{bytesOf}
 use Rattle.wire.specs.Replies.{Field, _bytes_, laidOut, words, replyOf, after}
@@ -40,6 +41,10 @@ three-rows fs us vs ws =
     words-behind (fs ++ wordFields us ++ wordFields vs) ws
     ∙ ap (λ (l : List ℕ). l ++ words ws) (two-rows fs us vs)
     ∙ one-row (laidOut fs) (us ++ vs) ws
+
+-- those that count, cut once more where they end
+pub take-again : (n : ℕ) (ws : List ℕ) → take n (take n ws) ≡ take n ws
+take-again n ws = take-all n (take n ws) (omega (arith, length-take n ws))
 
 -- a row whose first five are told one by one
 pub first-five : (ws : List ℕ) → 5 ≤ length ws → ws ≡ getD ws 0 0 ∷ getD ws 1 0 ∷ getD ws 2 0 ∷ getD ws 3 0 ∷ getD ws 4 0 ∷ drop 5 ws

@@ -3,8 +3,11 @@ ghost use mathlib.Core.Path.{_≡_};
 ghost use mathlib.Core.List.{_++_};
 ghost use lib.ListN.{take};
 ghost use Rattle.wire.specs.Replies.{replyOf, laidOut};
+ghost use Rattle.readings.specs.Readings.{rawWords, engineeringWords};
 ghost use Rattle.replies.specs.Layouts.{head, reserved, shortReply, faultsReply, housekeepingReply, parameterReply, channelWords};
 use command::Header;
+use readings::Engineering;
+use readings::Raw;
 use value::ValueBytes;
 use wire::Reply;
 
@@ -44,22 +47,38 @@ pub fn faults(board: Header, code: u8, stat: u8, on: u32, latched: u32, counts: 
         .append_words(&counts)
 }
 
-// The reply of 0x50: the first five measured words, the channel words, then the other measured words.
-pub fn housekeeping(
+// The reply of 0x50, of raw readings and of nothing else: the first five of those that count, the channel words, then
+// the others.
+pub fn raw_housekeeping(
     board: Header,
     code: u8,
     stat: u8,
     on: u32,
     latched: u32,
-    words: &[u16],
+    raws: [Raw; 130],
+    count: usize,
 ) -> Reply
-    ensures { λ r. ⌜ r ≡ replyOf (housekeepingReply board code stat on latched (now (words .entry))) ⌝ }
+    ensures { λ r. ⌜ r ≡ replyOf (housekeepingReply board code stat on latched (take count (rawWords raws))) ⌝ }
 {
     let four = channel_words(on, latched);
-    longer(board, code, stat)
-        .append_words(wire::first_words(words, 5))
-        .append_words(&four)
-        .append_words(wire::rest_words(words, 5))
+    let front = readings::append_raw(longer(board, code, stat), raws, count, 0, 5);
+    readings::append_raw(front.append_words(&four), raws, count, 5, count)
+}
+
+// The reply of 0x52, of engineering readings and of nothing else, in the same layout.
+pub fn engineering_housekeeping(
+    board: Header,
+    code: u8,
+    stat: u8,
+    on: u32,
+    latched: u32,
+    units: [Engineering; 122],
+) -> Reply
+    ensures { λ r. ⌜ r ≡ replyOf (housekeepingReply board code stat on latched (engineeringWords units)) ⌝ }
+{
+    let four = channel_words(on, latched);
+    let front = readings::append_engineering(longer(board, code, stat), units, 0, 5);
+    readings::append_engineering(front.append_words(&four), units, 5, 122)
 }
 
 // The reply of 0x82, 0x84 and 0x86: the id, then as many bytes as the value has.

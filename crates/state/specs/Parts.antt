@@ -8,6 +8,7 @@ use Rattle.channels.specs.declared.Channels.{Channels}
 use Rattle.kinds.specs.{Kinds.boardOf, declared.Kind.Kind}
 use Rattle.kinds.specs.declared.Kind.the-variants.{Distribution}
 use Rattle.modes.specs.{declared.ModeAge.ModeAge, declared.Mode.Mode}
+use Rattle.readings.specs.{Readings.rawWords, Readings.engineeringWords, Layout.layout, Layout.convertedBy}
 use Rattle.memory.specs.declared.Memory.{Memory}
 use Rattle.state.specs.{declared.parts.Board.Board, declared.parts.Cause.Cause, declared.parts.Measured.Measured}
 use Rattle.state.specs.declared.parts.Profile.{Profile}
@@ -17,12 +18,16 @@ use Rattle.state.specs.declared.parts.Cause.the-variants.{PowerOn, Watch
 abbrev pub distributionBoard : ℕ → ℕ → ℕ → Profile
 distributionBoard bid fitted forced = record { fitted = fitted; forced = forced; bid = bid; kind = Distribution }
 
--- how many measured words a board has, and those of the room that count
+-- how many measured words a board has, and those of the room that count, as they were measured
 abbrev pub wordCount : Board → ℕ
 wordCount b = boardOf (b .profile .kind) .words
 
 abbrev pub wordsOf : Board → List ℕ
-wordsOf b = take (wordCount b) (b .measured .words)
+wordsOf b = take (wordCount b) (rawWords (b .measured .words))
+
+-- and as engineering readings, each by the row of its place, as they stand on the wire
+abbrev pub inUnitsOf : Board → List ℕ
+inUnitsOf b = engineeringWords (convertedBy layout (b .measured .words))
 
 -- the mode that a board is in
 abbrev pub modeOf : Board → Mode

@@ -1,8 +1,9 @@
 -- A profile's start, and a reset: what each part of the board then is. Assumes nothing: these are definitions.
 use Prim.Native.Nat.{ℕ}
 use mathlib.Core.{Bool.Bool, Bool.true, Bool.false, Bool.cond, Bool.not, Bool._&&_, Bool._||_, List.[]}
-use lib.{Dec.eqb, Dec.leb, ListN.replicate}
-use Rattle.kinds.specs.Kinds.{boardOf, wordRoom, isServed}
+use lib.{Dec.eqb, Dec.leb}
+use Rattle.kinds.specs.Kinds.{boardOf, isServed}
+use Rattle.readings.specs.Readings.{noneMeasured}
 use Rattle.wire.specs.Replies.{replyOf}
 use Rattle.modes.specs.Table.{entered}
 use Rattle.modes.specs.declared.Mode.the-variants.{Startup}
@@ -21,7 +22,7 @@ abbrev pub noneNew : Fresh
 noneNew = record { raw = false; engineering = false }
 
 abbrev pub unmeasured : Measured
-unmeasured = record { words = replicate wordRoom 0; fresh = noneNew }
+unmeasured = record { words = noneMeasured; fresh = noneNew }
 
 -- a board with nothing behind it: startup just entered, the timer at 0, no reply, what the store holds in force or else
 -- the defaults, channels that are off, unlatched and uncounted, no words, the raw form

@@ -7,6 +7,7 @@ use channels::Channels;
 use kinds::Kind;
 use memory::Memory;
 use modes::ModeAge;
+use readings::Raw;
 use wire::Form;
 use wire::Reply;
 
@@ -40,9 +41,9 @@ pub struct Fresh {
     pub engineering: bool,
 }
 
-// The measured words, of which as many count as the kind of board has, and whether they are still new.
+// The measured words, raw, of which as many count as the kind of board has, and whether they are still new.
 pub struct Measured {
-    pub words: [u16; 130],
+    pub words: [Raw; 130],
     pub fresh: Fresh,
 }
 

@@ -49,7 +49,7 @@ fn fresh(profile: Profile, store: Store, resets: Resets) -> Board
     let memory = Memory::loaded(store);
     let channels = Channels::clear();
     let measured = Measured {
-        words: [0u16; 130],
+        words: readings::none_measured(),
         fresh: Fresh {
             raw: false,
             engineering: false,

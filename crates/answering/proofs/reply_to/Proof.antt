@@ -34,12 +34,6 @@ faults-requires c κs = search needs
 enum-told-3 : tie.Need-enum-told-3
 enum-told-3 c = search needs
 
-word-count-requires : tie.Need-word-count-requires
-word-count-requires c κs = search needs
-
-new-where-requires : tie.Need-new-where-requires
-new-where-requires c κs = search needs
-
 housekeeping-requires : tie.Need-housekeeping-requires
 housekeeping-requires c κs = search needs
 
@@ -52,6 +46,12 @@ value-read-requires c κs = search needs
 parameter-requires : tie.Need-parameter-requires
 parameter-requires c κs = search needs
 
+enum-told-4 : tie.Need-enum-told-4
+enum-told-4 c = search needs
+
+engineering-housekeeping-requires : tie.Need-engineering-housekeeping-requires
+engineering-housekeeping-requires c κs = search needs
+
 returns : tie.Need-returns
 unfolding replyTo
 returns c = rw (c .before .before .enum-told .given .1, c .short .ensures, c .before .stat-told .ensures, c .before .before .before .before .before .header .ensures)
@@ -62,11 +62,15 @@ returns-2 c = rw (c .before .before .before .before .enum-told2 .given .1, c .fa
 
 returns-3 : tie.Need-returns-3
 unfolding replyTo
-returns-3 c = rw (c .before .before .before .before .before .before .enum-told3 .given .1, c .housekeeping .ensures, c .before .before .word-count .ensures, c .before .new-where .ensures, c .before .before .before .before .before .before .before .before .before .header .ensures)
+returns-3 c = rw (c .before .before .enum-told3 .given .1, c .housekeeping .ensures, c .before .before .before .before .before .header .ensures)
 
 returns-4 : tie.Need-returns-4
 unfolding replyTo
 returns-4 c = rw (c .before .before .before .layout .given .1, c .parameter .ensures, c .before .value-read .ensures .0, c .before .before .before .before .before .before .header .ensures)
+
+returns-5 : tie.Need-returns-5
+unfolding replyTo
+returns-5 c = rw (c .before .enum-told4 .given .1, c .engineering-housekeeping .ensures, c .before .before .before .before .header .ensures)
 
 pub reply-to-spec : {M : Type 1} → statement M
 reply-to-spec =
@@ -82,13 +86,14 @@ reply-to-spec =
     counts-requires
     faults-requires
     enum-told-3
-    word-count-requires
-    new-where-requires
     housekeeping-requires
     enum-known-layout
     value-read-requires
     parameter-requires
+    enum-told-4
+    engineering-housekeeping-requires
     returns
     returns-2
     returns-3
-    returns-4)
+    returns-4
+    returns-5)

@@ -12,7 +12,6 @@ use Rattle.memory.specs.Limits.{limitsOf}
 use Rattle.state.specs.Parts.{wordCount}
 use Rattle.state.specs.declared.parts.Board.{Board}
 use Rattle.answers.specs.declared.Commanded.{Commanded}
-use Rattle.board.specs.Parts.{measuredAs}
 use Rattle.board.specs.Tick.{allowedCount}
 use Rattle.board.proofs.InPlace.{found, found-apart, one-sent, obeyedWhere, heard, unheard, kept, lost}
 use Rattle.board.proofs.Happened.{with-number}
@@ -20,7 +19,7 @@ use Rattle.board.proofs.tick.Statement.{statement}
 use Rattle.board.proofs.tick.Tie as tie
 use Rattle.board.proofs.tick.Reads as reads
 use Rattle.board.proofs.tick.Lts as lts
-use Rattle.board.proofs.bring.Reads as bring-reads
+use Rattle.board.proofs.brought.Reads as brought-reads
 use Rattle.board.proofs.is_allowed.Reads as is-allowed-reads
 use Rattle.board.proofs.is_heard.Reads as is-heard-reads
 use Rattle.board.proofs.is_reset.Reads as is-reset-reads
@@ -46,8 +45,8 @@ limits-requires c κs = search needs
 settle-where-requires : tie.Need-settle-where-requires
 settle-where-requires c κs = search needs
 
-bring-requires : tie.Need-bring-requires
-bring-requires c κs = search needs
+brought-requires : tie.Need-brought-requires
+brought-requires c κs = search needs
 
 untold-requires : tie.Need-untold-requires
 untold-requires c κs = search needs
@@ -76,59 +75,59 @@ watchdog-reset-requires c κs = search needs
 -- ---- where the way with a transfer and the way without meet
 -- what each call asks and ensures, in the order of the calls
 abbrev claims : lts.Claims
-claims = (words-of-reads.Asked, words-of-reads.Learnt, is-allowed-reads.Asked, is-allowed-reads.Learnt, limits-reads.Asked, limits-reads.Learnt, settle-where-reads.Asked, settle-where-reads.Learnt, bring-reads.Asked, bring-reads.Learnt, untold-reads.Asked, untold-reads.Learnt, is-heard-reads.Asked, is-heard-reads.Learnt, commanded-reads.Asked, commanded-reads.Learnt, timeout-reads.Asked, timeout-reads.Learnt, seconds-in-ticks-reads.Asked, seconds-in-ticks-reads.Learnt, watch-reads.Asked, watch-reads.Learnt, is-reset-reads.Asked, is-reset-reads.Learnt, watchdog-reset-reads.Asked, watchdog-reset-reads.Learnt)
+claims = (words-of-reads.Asked, words-of-reads.Learnt, is-allowed-reads.Asked, is-allowed-reads.Learnt, limits-reads.Asked, limits-reads.Learnt, settle-where-reads.Asked, settle-where-reads.Learnt, brought-reads.Asked, brought-reads.Learnt, untold-reads.Asked, untold-reads.Learnt, is-heard-reads.Asked, is-heard-reads.Learnt, commanded-reads.Asked, commanded-reads.Learnt, timeout-reads.Asked, timeout-reads.Learnt, seconds-in-ticks-reads.Asked, seconds-in-ticks-reads.Learnt, watch-reads.Asked, watch-reads.Learnt, is-reset-reads.Asked, is-reset-reads.Learnt, watchdog-reset-reads.Asked, watchdog-reset-reads.Learnt)
 
 abbrev Joined : Type 0
 Joined = lts.Joined1 claims reads.Pre reads.Post
 
 -- whether the tick happens, the board as the command found it, and what came of the command
 abbrev happensAt : Joined → Bool
-happensAt c = c .before .before .before .before .before .before .before .before .before .before .before .before .before .before .is-allowed .result
+happensAt c = c .before .before .before .before .before .before .before .before .before .is-allowed .result
 
 abbrev foundAt : Joined → Board
-foundAt c = let a = c .before .before .before .before .before .before .before .before .before .before .before .before .before .before .before .before .before .before .before .args in found (a .rail) (limitsOf (a .t1 .memory)) (a .overcurrent) (now (a .words)) (a .t1)
+foundAt c = let a = c .before .before .before .before .before .before .before .before .before .before .before .before .before .args in found (a .rail) (limitsOf (a .b .memory)) (a .overcurrent) (now (a .words)) (a .b)
 
 abbrev madeAt : Joined → Commanded
 madeAt c = record { board = c .if1 .b; outcome = c .if1 .outcome; replied = c .if1 .replied }
 
 -- it happens where this board allows the number of words
-allowed : (c : Joined) → let a = c .before .before .before .before .before .before .before .before .before .before .before .before .before .before .before .before .before .before .before .args in allowedCount (wordCount (a .t1)) (length (now (a .words))) ≡ happensAt c
-allowed c = rw (sym (c .before .before .before .before .before .before .before .before .before .before .before .before .before .before .before .words-of .ensures)) (sym (c .before .before .before .before .before .before .before .before .before .before .before .before .before .before .is-allowed .ensures))
+allowed : (c : Joined) → let a = c .before .before .before .before .before .before .before .before .before .before .before .before .before .args in allowedCount (wordCount (a .b)) (length (now (a .words))) ≡ happensAt c
+allowed c = rw (sym (c .before .before .before .before .before .before .before .before .before .before .words-of .ensures)) (sym (c .before .before .before .before .before .before .before .before .before .is-allowed .ensures))
 
-obeyed : (c : Joined) → let a = c .before .before .before .before .before .before .before .before .before .before .before .before .before .before .before .before .before .before .before .args in madeAt c ≡ obeyedWhere (a .rail) (limitsOf (a .t1 .memory)) (a .sent) (now (a .transfer)) (a .t1) (foundAt c) (happensAt c)
+obeyed : (c : Joined) → let a = c .before .before .before .before .before .before .before .before .before .before .before .before .before .args in madeAt c ≡ obeyedWhere (a .rail) (limitsOf (a .b .memory)) (a .sent) (now (a .transfer)) (a .b) (foundAt c) (happensAt c)
 obeyed c =
-    let a = c .before .before .before .before .before .before .before .before .before .before .before .before .before .before .before .before .before .before .before .args in
+    let a = c .before .before .before .before .before .before .before .before .before .before .before .before .before .args in
     let k = c .if1 in
-    let limits = limitsOf (a .t1 .memory) in
+    let limits = limitsOf (a .b .memory) in
     let happens = happensAt c in
-    let r = toZ-ofZ w16 (a .rail) (c .before .before .before .before .before .before .before .before .before .before .before .before .before .before .before .before .before .before .before .fits .rail) in
-    let l : c .before .before .before .before .before .before .before .before .before .before .before .before .limits .result ≡ limits = c .before .before .before .before .before .before .before .before .before .before .before .before .limits .ensures in
-    let n = c .before .before .before .before .before .before .before .before .before .before .before .before .before .before .before .words-of .ensures in
-    let f = found-apart (a .rail) limits (a .overcurrent) (now (a .words)) (a .t1) happens (allowed c) (c .before .before .before .before .before .before .before .before .before .before .before .settle-where .result) (measuredAs (c .before .before .before .before .before .bring .last .1 .1 .0) (c .before .before .before .before .before .bring .result)) r l (c .before .before .before .before .before .before .before .before .before .before .before .settle-where .ensures) (c .before .before .before .before .before .bring .ensures ∙ rw n) in
+    let r = toZ-ofZ w16 (a .rail) (c .before .before .before .before .before .before .before .before .before .before .before .before .before .fits .rail) in
+    let l : c .before .before .before .before .before .before .before .before .limits .result ≡ limits = c .before .before .before .before .before .before .before .before .limits .ensures in
+    let n = c .before .before .before .before .before .before .before .before .before .before .words-of .ensures in
+    let f = found-apart (a .rail) limits (a .overcurrent) (now (a .words)) (a .b) happens (allowed c) (c .before .before .before .before .before .before .before .settle-where .result) (c .before .before .before .brought .result) r l (c .before .before .before .before .before .before .before .settle-where .ensures) (c .before .before .before .brought .ensures ∙ rw n) in
     let h = c .before .is-heard .ensures in
     ⊎-elim
-    (λ w. heard (a .rail) limits (a .sent) (now (a .transfer)) (a .t1) (foundAt c) happens (sym h ∙ w .0 .taken) (madeAt c) (one-sent (a .sent) (now (a .transfer)) (w .1 .result) (k .b) (k .outcome) (k .replied) r l f (w .1 .ensures .0) (w .3) (w .4) (w .5)))
-    (λ w. unheard (a .rail) limits (a .sent) (now (a .transfer)) (a .t1) (foundAt c) happens (sym h ∙ w .0 .left) (w .1 ∙ f) (w .2 ∙ c .before .before .untold .ensures) (w .3))
+    (λ w. heard (a .rail) limits (a .sent) (now (a .transfer)) (a .b) (foundAt c) happens (sym h ∙ w .0 .taken) (madeAt c) (one-sent (a .sent) (now (a .transfer)) (w .1 .result) (k .b) (k .outcome) (k .replied) r l f (w .1 .ensures .0) (w .3) (w .4) (w .5)))
+    (λ w. unheard (a .rail) limits (a .sent) (now (a .transfer)) (a .b) (foundAt c) happens (sym h ∙ w .0 .left) (w .1 ∙ f) (w .2 ∙ c .before .before .untold .ensures) (w .3))
     (k .came)
 
 -- ---- the two ways to the end
 returns : tie.Need-returns
 returns c =
-    let a = c .before .before .before .before .before .before .before .before .before .before .before .before .before .before .before .before .before .before .before .before .before .before .before .before .before .before .args in
-    let j = c .before .before .before .before .before .before .before in
-    with-number (a .rail) (a .overcurrent) (now (a .words)) (a .sent) (now (a .transfer)) (a .t1)
+    let a = c .before .before .before .before .before .before .before .before .before .before .before .before .before .before .before .before .before .before .before .args in
+    let j = c .before .before .before .before .before .before in
+    with-number (a .rail) (a .overcurrent) (now (a .words)) (a .sent) (now (a .transfer)) (a .b)
     (rw (c .watchdog-reset .ensures)
-    (lost (a .rail) (a .overcurrent) (now (a .words)) (a .sent) (now (a .transfer)) (a .t1) (happensAt j) (allowed j) (madeAt j) (obeyed j)
+    (lost (a .rail) (a .overcurrent) (now (a .words)) (a .sent) (now (a .transfer)) (a .b) (happensAt j) (allowed j) (madeAt j) (obeyed j)
     (c .before .before .before .watch .result)
     (c .before .before .before .watch .ensures ∙ rw (c .before .before .before .before .seconds-in-ticks .ensures, c .before .before .before .before .before .timeout .ensures))
     (sym (c .before .before .is-reset .ensures) ∙ c .before .if2 .taken)))
 
 returns-2 : tie.Need-returns-2
 returns-2 c =
-    let a = c .before .before .before .before .before .before .before .before .before .before .before .before .before .before .before .before .before .before .before .before .before .before .before .before .before .args in
-    let j = c .before .before .before .before .before .before in
-    with-number (a .rail) (a .overcurrent) (now (a .words)) (a .sent) (now (a .transfer)) (a .t1)
-    (kept (a .rail) (a .overcurrent) (now (a .words)) (a .sent) (now (a .transfer)) (a .t1) (happensAt j) (allowed j) (madeAt j) (obeyed j)
+    let a = c .before .before .before .before .before .before .before .before .before .before .before .before .before .before .before .before .before .before .args in
+    let j = c .before .before .before .before .before in
+    with-number (a .rail) (a .overcurrent) (now (a .words)) (a .sent) (now (a .transfer)) (a .b)
+    (kept (a .rail) (a .overcurrent) (now (a .words)) (a .sent) (now (a .transfer)) (a .b) (happensAt j) (allowed j) (madeAt j) (obeyed j)
     (c .before .before .watch .result)
     (c .before .before .watch .ensures ∙ rw (c .before .before .before .seconds-in-ticks .ensures, c .before .before .before .before .timeout .ensures))
     (sym (c .before .is-reset .ensures) ∙ c .if2 .left))
@@ -141,7 +140,7 @@ tick-spec =
     is-allowed-requires
     limits-requires
     settle-where-requires
-    bring-requires
+    brought-requires
     untold-requires
     is-heard-requires
     commanded-requires

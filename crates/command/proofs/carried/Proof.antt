@@ -97,6 +97,9 @@ enum-told-19 c = search needs
 le16-requires-4 : tie.Need-le16-requires-4
 le16-requires-4 c κs = search needs
 
+enum-told-20 : tie.Need-enum-told-20
+enum-told-20 c = search needs
+
 returns : tie.Need-returns
 unfolding carried
 returns c = rw (c .enum-told .given .1)
@@ -173,6 +176,10 @@ returns-19 : tie.Need-returns-19
 unfolding carried
 returns-19 c = rw (c .before .enum-told19 .given .1, c .le164 .ensures)
 
+returns-20 : tie.Need-returns-20
+unfolding carried
+returns-20 c = rw (c .enum-told20 .given .1)
+
 pub carried-spec : {M : Type 1} → statement M
 carried-spec =
     tie.close
@@ -208,6 +215,7 @@ carried-spec =
     enum-told-18
     enum-told-19
     le16-requires-4
+    enum-told-20
     returns
     returns-2
     returns-3
@@ -226,4 +234,5 @@ carried-spec =
     returns-16
     returns-17
     returns-18
-    returns-19)
+    returns-19
+    returns-20)

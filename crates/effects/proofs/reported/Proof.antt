@@ -29,6 +29,12 @@ enum-told-4 c = search needs
 only-fed-requires-3 : tie.Need-only-fed-requires-3
 only-fed-requires-3 c κs = search needs
 
+enum-told-5 : tie.Need-enum-told-5
+enum-told-5 c = search needs
+
+engineering-housekeeping-requires : tie.Need-engineering-housekeeping-requires
+engineering-housekeeping-requires c κs = search needs
+
 returns : tie.Need-returns
 unfolding reportedOf acceptedOf acceptedWith refusedOf
 returns c = rw (c .before .enum-told .given .1, c .only-fed .ensures)
@@ -45,6 +51,10 @@ returns-4 : tie.Need-returns-4
 unfolding reportedOf acceptedOf acceptedWith refusedOf parameterAnswered
 returns-4 c = rw (c .before .enum-told4 .given .1, c .only-fed3 .ensures)
 
+returns-5 : tie.Need-returns-5
+unfolding reportedOf
+returns-5 c = rw (c .before .enum-told5 .given .1, c .engineering-housekeeping .ensures)
+
 pub reported-spec : {M : Type 1} → statement M
 reported-spec =
     tie.close
@@ -57,7 +67,10 @@ reported-spec =
     housekeeping-requires
     enum-told-4
     only-fed-requires-3
+    enum-told-5
+    engineering-housekeeping-requires
     returns
     returns-2
     returns-3
-    returns-4)
+    returns-4
+    returns-5)

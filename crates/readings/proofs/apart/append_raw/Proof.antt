@@ -12,6 +12,9 @@ slice-aggregate-first-words c = search needs
 first-words-requires : tie.Need-first-words-requires
 first-words-requires c κs = search needs
 
+first-words-requires-2 : tie.Need-first-words-requires-2
+first-words-requires-2 c κs = search needs
+
 rest-words-requires : tie.Need-rest-words-requires
 rest-words-requires c κs = search needs
 
@@ -19,7 +22,7 @@ append-words-requires : tie.Need-append-words-requires
 append-words-requires c κs = search needs
 
 returns : tie.Need-returns
-returns c = rw (c .append-words .ensures, c .before .rest-words .ensures, c .before .before .first-words .ensures, c .before .before .before .before .words .ensures)
+returns c = rw (c .append-words .ensures, c .before .rest-words .ensures, c .before .before .first-words2 .ensures, c .before .before .before .first-words .ensures, c .before .before .before .before .before .words .ensures)
 
 pub append-raw-spec : {M : Type 1} → statement M
 append-raw-spec =
@@ -28,6 +31,7 @@ append-raw-spec =
     words-requires
     slice-aggregate-first-words
     first-words-requires
+    first-words-requires-2
     rest-words-requires
     append-words-requires
     returns)
