@@ -60,7 +60,7 @@ pub record ExactReading (row : Row) (raw : Raw) : Type 0 where
   pub within-half : passesTheTop row raw ≡ false → passesTheBottom row raw ≡ false
       → 2 * distance (resultOf row raw) (aboveTheLine row raw) (belowTheLine row) ≤ belowTheLine row
   -- and just half a unit for these words alone
-  pub at-half : raw .0 < 65536 → passesTheTop row raw ≡ false → passesTheBottom row raw ≡ false
+  pub at-half : passesTheTop row raw ≡ false → passesTheBottom row raw ≡ false
       → (2 * distance (resultOf row raw) (aboveTheLine row raw) (belowTheLine row) ≡ belowTheLine row) ⇔ IsHalf (halvesOf row) raw
   -- it is held where the exact value passes an end, and then it is that end, which the nearest unit is not; and nowhere
   -- else
