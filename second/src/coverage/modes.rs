@@ -161,7 +161,7 @@ impl Coverage {
             board.form() == Form::Ascii,
             !board.waiting_reply().is_empty(),
             board.words().iter().any(|word| *word != 0),
-            board.words_are_new,
+            board.raw_is_new,
             stored.is_some_and(|stored| stored != *board.settings()),
             board.shown().save_count != 0,
             board.channels().counts().iter().any(|count| *count != 0),
