@@ -6,6 +6,7 @@
 mod channels;
 mod modes;
 mod parameters;
+mod readings;
 mod script;
 mod sheets;
 mod text;
