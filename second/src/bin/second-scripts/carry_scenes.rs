@@ -134,9 +134,7 @@ fn new_words(author: &mut Author) {
     author.reach(Mode::Nominal);
     tell_both(author);
     author.reach(Mode::Safety);
-    if !author.is_brief() {
-        told_apart(author);
-    }
+    told_apart(author);
 }
 
 /// Both codes that tell the words.

@@ -62,12 +62,13 @@ pub fn all_words(author: &mut Author) {
     told_apart(author);
 }
 
-/// New words, refused, told and told again by one of the two codes, and only
-/// then by the other; in either order.
+/// New words, refused in two ways, told and told again by one of the two codes,
+/// and only then by the other; in either order.
 pub fn told_apart(author: &mut Author) {
     for (first, then) in [(0x50, 0x52), (0x52, 0x50)] {
         lend(author, WORDS);
         author.idle();
+        author.send(&[0x11, 7, first]);
         author.send(&[0x11, 7, first, 0]);
         for code in [first, first, then, then] {
             author.give(code, &[]);
@@ -89,6 +90,30 @@ pub fn all_readings(author: &mut Author) {
         author.give(0x52, &[]);
     }
     author.give(0x50, &[]);
+    if !author.is_brief() {
+        spread_readings(author);
+    }
+}
+
+/// Words spread over the whole of each row, no two of them alike at a place.
+fn spread_readings(author: &mut Author) {
+    let start = author.rng.below(0x1_0000);
+    for line in start..start + 512 {
+        let words: Vec<u16> = (0..WORDS).map(|place| spread_word(place, line)).collect();
+        lend_words(author, &words);
+        author.give(0x52, &[]);
+    }
+}
+
+/// One of the spread words of a place. Those that are held from some word on
+/// have only the ones up to it; for all others each step is a far one.
+fn spread_word(place: usize, line: usize) -> u16 {
+    let spread = match place {
+        0 => 53 * line % 26_840,
+        1 => 5 * line % 2_512,
+        _ => 40_503 * (WORDS * line + place) % 0x1_0000,
+    };
+    spread as u16
 }
 
 /// One of the telling words of a place; the blocks take turns, so that a line
