@@ -57,8 +57,8 @@ pub fn engineering(place: usize, raw: u16) -> i16 {
 }
 
 impl Conversion {
-    /// The row's exact fraction to the nearest unit, held to the ends of int16
-    /// only once it is whole.
+    /// The row's exact fraction to the nearest unit, held to the ends of int16 only
+    /// once it is whole. Where it is not held it lies at most half a unit off.
     pub fn engineering(&self, raw: u16) -> i16 {
         let raw = self.raw.decode(&raw.to_le_bytes());
         let nearest = nearest(self.pre_mul * (raw + self.bias), self.pos_div);
