@@ -122,7 +122,10 @@ pub struct Board {
     pub(crate) cause: Cause,
     pub(crate) resets: ResetCounts,
     pub(crate) words: [u16; WORDS],
-    pub(crate) words_are_new: bool,
+    /// Whether words came that no accepted 0x50 has told since.
+    pub(crate) raw_is_new: bool,
+    /// The same of 0x52.
+    pub(crate) engineering_is_new: bool,
     pub(crate) reply: Reply,
     /// Whether the reply that waits was made in the latest tick.
     pub(crate) replied: bool,
@@ -144,7 +147,8 @@ impl Board {
             cause: Cause::PowerOn,
             resets: ResetCounts::default(),
             words: [0; WORDS],
-            words_are_new: false,
+            raw_is_new: false,
+            engineering_is_new: false,
             reply: Reply::none(),
             replied: false,
             form: Form::Raw,
@@ -173,7 +177,8 @@ impl Board {
         self.timer = self.timer.saturating_add(1);
         if !words.is_empty() {
             self.words.copy_from_slice(words);
-            self.words_are_new = true;
+            self.raw_is_new = true;
+            self.engineering_is_new = true;
         }
     }
 
@@ -233,7 +238,8 @@ impl Board {
         self.timer = 0;
         self.channels.reset();
         self.words = [0; WORDS];
-        self.words_are_new = false;
+        self.raw_is_new = false;
+        self.engineering_is_new = false;
         self.load();
         self.reply.discard();
         self.replied = false;

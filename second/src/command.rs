@@ -1,12 +1,12 @@
 //! Command transfers: the checks in their order, the effects, the replies.
 
-use crate::board::{Answer, Board, Cause, Store, IVID, STID, WORDS};
+use crate::board::{Answer, Board, Cause, Store, IVID, STID};
 use crate::board::{EMERGENCY_HIGH, EMERGENCY_LOW, EMERGENCY_PERIOD_SECONDS, LINGER_SECONDS};
 use crate::channels::CHANNELS;
 use crate::mode::Mode;
+use crate::readings;
 use crate::reply::{HEAD, LONGEST};
 use crate::settings::{self, Kind};
-use std::ops::Range;
 
 const HEADER: usize = 4;
 const RESET_KEY: u8 = 0xA6;
@@ -21,7 +21,7 @@ const COUNTS_AT: usize = 14;
 const WORDS_AT: usize = 6;
 const HOUSEKEEPING_CHANNELS_AT: usize = 16;
 const LATER_WORDS_AT: usize = 24;
-/// The words that stand before the channel sets in the housekeeping reply.
+/// The words that stand before the channel sets in the housekeeping replies.
 const EARLY_WORDS: usize = 5;
 
 /// How an accepted command ends.
@@ -82,7 +82,8 @@ impl Board {
             0x30 => self.switch_to_nominal(rail),
             0x32 => self.switch_to_safety(),
             0x42 => self.overcurrent_state(),
-            0x50 => self.housekeeping(),
+            0x50 => self.raw_readings(),
+            0x52 => self.engineering_readings(),
             0x82 => self.get_parameter(id_of(command)),
             0x84 => self.set_parameter(id_of(command), command),
             0x86 => self.reset_parameter(id_of(command)),
@@ -187,20 +188,31 @@ impl Board {
     }
 
     /// 0x50
-    fn housekeeping(&mut self) -> Result<Done, Answer> {
-        self.put_words(WORDS_AT, 0..EARLY_WORDS);
-        self.put_channel_sets(HOUSEKEEPING_CHANNELS_AT);
-        self.put_words(LATER_WORDS_AT, EARLY_WORDS..WORDS);
-        let new = self.words_are_new;
-        self.words_are_new = false;
-        Ok(if new { Done::Reply(LONGEST) } else { Done::Stale(LONGEST) })
+    fn raw_readings(&mut self) -> Result<Done, Answer> {
+        let new = self.raw_is_new;
+        self.raw_is_new = false;
+        self.housekeeping(new, |_, raw| raw.to_le_bytes())
     }
 
-    /// Puts some of the measured words into the reply.
-    fn put_words(&mut self, at: usize, which: Range<usize>) {
-        for (i, word) in self.words[which].iter().enumerate() {
-            self.reply.put_word(at + 2 * i, *word);
+    /// 0x52
+    fn engineering_readings(&mut self) -> Result<Done, Answer> {
+        let new = self.engineering_is_new;
+        self.engineering_is_new = false;
+        self.housekeeping(new, |place, raw| readings::engineering(place, raw).to_le_bytes())
+    }
+
+    /// The layout that both share. Raw and engineering readings meet only here,
+    /// where they are bytes already.
+    fn housekeeping(
+        &mut self,
+        new: bool,
+        bytes_of: impl Fn(usize, u16) -> [u8; 2],
+    ) -> Result<Done, Answer> {
+        for (place, raw) in self.words.iter().enumerate() {
+            self.reply.put(word_at(place), &bytes_of(place, *raw));
         }
+        self.put_channel_sets(HOUSEKEEPING_CHANNELS_AT);
+        Ok(if new { Done::Reply(LONGEST) } else { Done::Stale(LONGEST) })
     }
 
     /// 0x82
@@ -300,15 +312,24 @@ impl Board {
 /// Where the id ends and the value of 0x84 begins.
 const ID_END: usize = 6;
 
-/// The bytes a command needs, none for a code that is not in the base. For
+/// The bytes a command needs, none for a code that the board does not know. For
 /// 0x84 it is the id alone: how long the value is hangs on the id.
 fn needed(code: u8) -> Option<usize> {
     match code {
-        0x02 | 0x04 | 0x06 | 0x30 | 0x32 | 0x42 | 0x50 => Some(4),
+        0x02 | 0x04 | 0x06 | 0x30 | 0x32 | 0x42 | 0x50 | 0x52 => Some(4),
         0xAA | 0x16 | 0x18 | 0x90 | 0x92 => Some(5),
         0x10 | 0x12 | 0x14 | 0x82 | 0x84 | 0x86 => Some(6),
         0x94 => Some(7),
         _ => None,
+    }
+}
+
+/// Where a measured word stands in the housekeeping replies.
+fn word_at(place: usize) -> usize {
+    if place < EARLY_WORDS {
+        WORDS_AT + 2 * place
+    } else {
+        LATER_WORDS_AT + 2 * (place - EARLY_WORDS)
     }
 }
 

@@ -3,7 +3,7 @@
 //! replay script, text line).
 //!
 //! `board` and `command` are the machine; `settings`, `mode`, `channels`,
-//! `reply` and `crc` are its parts; `text`, `sheet` and `replay` lead to it;
+//! `readings`, `reply` and `crc` are its parts; `text`, `sheet` and `replay` lead to it;
 //! `coverage` only watches, and `pace` runs it for its speed.
 
 pub mod board;
@@ -15,6 +15,7 @@ pub mod hex;
 pub mod input;
 pub mod mode;
 pub mod pace;
+pub mod readings;
 pub mod replay;
 pub mod reply;
 pub mod settings;

@@ -211,7 +211,7 @@ impl Course {
         digest.take_all(&buffer);
         digest.take_all(self.board.channels().counts());
         digest.take_all(self.board.words());
-        digest.take(u64::from(self.board.words_are_new));
+        digest.take(u64::from(self.board.raw_is_new));
         digest.take_all(self.board.settings().bytes());
         digest.take_all(&[resets.power, resets.watchdog, resets.command]);
         digest.take(self.board.cause() as u64);
@@ -441,7 +441,7 @@ mod tests {
         let mut expected: [u16; WORDS] = std::array::from_fn(|place| place as u16);
         expected[16_838 % 122] = 16_838;
         expected[5_758 % 122] = 5_758;
-        assert_eq!((course.board.words(), course.board.words_are_new), (&expected, true));
+        assert_eq!((course.board.words(), course.board.raw_is_new), (&expected, true));
         assert_eq!(after(b'p', 2).board.words(), &[0; WORDS]);
     }
 

@@ -1,6 +1,6 @@
 //! The reply that waits to be read.
 
-/// The longest reply, that of the housekeeping command.
+/// The longest replies, those of the housekeeping commands.
 pub const LONGEST: usize = 258;
 
 /// The fields every reply starts with.

@@ -5,7 +5,7 @@
 
 use crate::crc;
 
-/// The wire types that some parameter has.
+/// The wire types that some parameter or measured word has.
 #[derive(Clone, Copy, Debug, PartialEq, Eq)]
 pub enum Kind {
     Int8,
@@ -46,7 +46,7 @@ impl Kind {
     }
 
     /// The value in the first bytes, which must be there.
-    fn decode(self, bytes: &[u8]) -> i64 {
+    pub fn decode(self, bytes: &[u8]) -> i64 {
         match self {
             Kind::Int8 => i64::from(bytes[0] as i8),
             Kind::Uint8 => i64::from(bytes[0]),

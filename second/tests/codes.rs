@@ -116,7 +116,7 @@ fn reply_lengths() {
         let expected = match code {
             0xAA => 0,
             0x42 => 78,
-            0x50 => 258,
+            0x50 | 0x52 => 258,
             0x82 | 0x84 | 0x86 => 9,
             _ => 5,
         };

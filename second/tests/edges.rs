@@ -558,7 +558,7 @@ fn the_channel_commands_check_5_then_6_then_7() {
 fn other_commands_run_in_nominal_safety_and_emergency_alike() {
     for mode in [Mode::Nominal, Mode::Safety, Mode::Emergency] {
         let board = in_mode(mode, FITTED, FORCED);
-        for code in [0x02, 0x04, 0x06, 0x42, 0x50] {
+        for code in [0x02, 0x04, 0x06, 0x42, 0x50, 0x52] {
             assert_eq!(give(&mut board.clone(), code, &[]), Answer::Accepted);
         }
     }

@@ -164,6 +164,28 @@ fn the_tick_line() {
     );
 }
 
+/// Raw -20 everywhere: held where it is read as unsigned, -19.5 mV, and for the
+/// input and the domains -6.1 mA and -0.195 W, for a channel -3.05 mA and -0.098 W.
+#[test]
+fn engineering_readings_of_a_script() {
+    let mut script = Script::nominal();
+    assert_eq!(script.say(&format!("W 007A {}", "FFEC".repeat(122))), "ok");
+    let words = ["FF7FFF7FECFFFAFFECFF", "0100000000000000"].concat()
+        + &"ECFFFAFFECFF".repeat(7)
+        + &"ECFFFDFFF6FF".repeat(32);
+    assert_eq!(
+        script.say("T 3A98 00000000 11075201"),
+        format!("N 0000000000000001 0000000000000000 00000001 00000000 - 0 110753018000{words}")
+    );
+    assert_eq!(
+        script.say("T 3A98 00000000 11075201"),
+        format!("N 0000000000000002 0000000000000000 00000001 00000000 - 0 110753010000{words}")
+    );
+    assert_eq!(script.field(10), "FFEC".repeat(122));
+    assert_eq!(script.field(11), format!("110753010000{words}"));
+    assert_eq!(script.say("R 000C"), "110753010000FF7FFF7FECFF");
+}
+
 #[test]
 fn bus_reads() {
     let mut script = Script::nominal();

@@ -26,6 +26,17 @@ fn the_sheet_of_the_document_byte_for_byte() {
     assert_eq!(bench(SHEET.as_bytes()), expected.as_bytes());
 }
 
+/// A sheet brings no words: 0x52 tells the readings of zeros, and nothing new.
+#[test]
+fn engineering_readings_of_a_sheet() {
+    let ticks = "12400 00000000 -\n".repeat(49) + "12400 00000000 11 07 52 01\n";
+    let sheet = format!("board 1\nfitted 2\n0 1\nforced 1\n0\nticks 50\n{ticks}");
+    let printed = String::from_utf8(bench(sheet.as_bytes())).unwrap();
+    let words = "00 00 79 90 00 00 00 00 00 00 01".to_string() + &" 00".repeat(241);
+    let expected = format!("50 N 00000001 00000000 11 07 53 01 00 00 {words}");
+    assert_eq!(printed.lines().last(), Some(&expected[..]));
+}
+
 /// Each sheet is refused for this part of the form and this cause.
 fn check(cases: &[(Vec<u8>, Part, Cause)]) {
     for (sheet, part, cause) in cases {

@@ -1,5 +1,6 @@
 //! The mode table, row by row, at and beside its edges.
 
+use super::readings::untold;
 use super::script::Ticked;
 use super::{letter, Coverage, MODES};
 use crate::board::Board;
@@ -40,11 +41,12 @@ const CELLS: [&str; 30] = [
 ];
 
 /// What entering and leaving emergency leave alone.
-const KEPT: [&str; 7] = [
+const KEPT: [&str; 8] = [
     "ascii form",
     "waiting reply",
     "words",
-    "new words unread",
+    "words new to 50",
+    "words new to 52",
     "settings off the store",
     "shown save",
     "overcurrent counts",
@@ -157,11 +159,13 @@ impl Coverage {
     fn see_emergency_edge(&mut self, way: &str, tick: &Ticked) {
         let board = tick.before;
         let stored = board.store().map(|store| store.settings);
+        let [raw, engineering] = untold(board);
         let here = [
             board.form() == Form::Ascii,
             !board.waiting_reply().is_empty(),
             board.words().iter().any(|word| *word != 0),
-            board.words_are_new,
+            raw,
+            engineering,
             stored.is_some_and(|stored| stored != *board.settings()),
             board.shown().save_count != 0,
             board.channels().counts().iter().any(|count| *count != 0),

@@ -1,9 +1,10 @@
 //! What a replay script reaches: lines, starts, commands, events.
 
-use super::{channels, letter, modes, parameters, text, Coverage, CODES, MODES};
+use super::{channels, letter, modes, parameters, readings, text, Coverage, CODES, MODES};
 use crate::board::Board;
 use crate::mode::Mode;
 use crate::replay::{bad, parse, Bytes, Line, Replay};
+use crate::text::Form;
 
 const ANSWERS: [char; 7] = ['0', '2', '3', '4', '5', '6', '7'];
 
@@ -18,6 +19,10 @@ const LINES: [(char, &[&str]); 8] = [
     ('F', &["ok", "refused", "bad", "before a board"]),
     ('S', &["ok", "bad", "before a board"]),
 ];
+
+/// What a reset may wipe.
+const LOST: [&str; 6] =
+    ["waiting", "words", "words new to 50", "words new to 52", "latches", "ascii form"];
 
 /// Watchdogs by size: a short one, and those whose ticks are more than 8, 15
 /// and 16 bits hold.
@@ -77,11 +82,6 @@ pub fn universe(coverage: &mut Coverage) {
     command_universe(coverage);
     event_universe(coverage);
     save_universe(coverage);
-    for mode in ['N', 'F', 'E'] {
-        for new in ["new", "stale", "new in the same tick"] {
-            coverage.add(format!("housekeeping {mode} {new}"));
-        }
-    }
     for count in ["0", "1", "121", "122", "123", "256", "other"] {
         coverage.add(format!("words {count}"));
     }
@@ -89,6 +89,7 @@ pub fn universe(coverage: &mut Coverage) {
         coverage.add(format!("read {read}"));
     }
     parameters::universe(coverage);
+    readings::universe(coverage);
     modes::universe(coverage);
     channels::universe(coverage);
     text::universe(coverage);
@@ -132,7 +133,7 @@ fn event_universe(coverage: &mut Coverage) {
         coverage.add(format!("lost made W {answer}"));
     }
     for by in ["AA", "W"] {
-        for what in ["waiting", "words", "latches", "ascii form"] {
+        for what in LOST {
             coverage.add(format!("lost {what} {by}"));
         }
     }
@@ -326,10 +327,11 @@ impl Coverage {
         };
         self.hit(format_args!("command {name} {mode} {}", tick.answer));
         match tick.answer {
-            '2' => {}
+            '2' => return,
             '3' => self.see_header(tick, command),
             _ => self.see_good_header(tick, command),
         }
+        self.see_readings(tick);
     }
 
     /// Counts which byte of a header was wrong.
@@ -348,17 +350,6 @@ impl Coverage {
     fn see_good_header(&mut self, tick: &Ticked, command: &[u8]) {
         let code = command[2];
         self.hit_if_any(format_args!("length {code:02X} {}", command.len()));
-        let letter = tick.letter();
-        if tick.accepted(0x50) {
-            let stat = tick.after.waiting_reply()[4];
-            self.hit(format_args!(
-                "housekeeping {letter} {}",
-                if stat == 0 { "stale" } else { "new" }
-            ));
-            if tick.brought_words {
-                self.hit(format_args!("housekeeping {letter} new in the same tick"));
-            }
-        }
         if code == 0x94 && command.len() >= 7 {
             self.see_save(tick, command);
         }
@@ -449,13 +440,16 @@ impl Coverage {
 
     /// Counts what a reset wiped.
     fn see_lost(&mut self, by: &str, tick: &Ticked) {
+        let [raw, engineering] = readings::untold(tick.before);
         let lost = [
-            ("waiting", !tick.before.waiting_reply().is_empty()),
-            ("words", tick.brought_words),
-            ("latches", tick.before.channels().latched() != 0),
-            ("ascii form", tick.before.form() == crate::text::Form::Ascii),
+            !tick.before.waiting_reply().is_empty(),
+            tick.brought_words,
+            raw,
+            engineering,
+            tick.before.channels().latched() != 0,
+            tick.before.form() == Form::Ascii,
         ];
-        for (what, _) in lost.iter().filter(|(_, was)| *was) {
+        for (what, _) in LOST.iter().zip(lost).filter(|(_, was)| *was) {
             self.hit(format_args!("lost {what} {by}"));
         }
     }

@@ -1,7 +1,7 @@
 //! What is carried over from line to line, and digits of either case.
 
 use crate::author::{hex, Author};
-use crate::data_scenes::lend;
+use crate::data_scenes::{lend, told_apart, TELLING};
 use crate::starts::{stored_start, with};
 use crate::text_scenes;
 use second::mode::Mode;
@@ -102,11 +102,13 @@ fn same_words(author: &mut Author) {
     author.reach(Mode::Nominal);
     let words = ["0000", "A5C3", "A5C3", "0000"];
     for word in words.into_iter().take(if author.is_brief() { 2 } else { 4 }) {
-        for _ in 0..2 {
+        for code in TELLING {
             author.say(&format!("W 007A {}", word.repeat(122)));
-            author.give(0x50, &[]);
+            author.give(code, &[]);
         }
-        author.give(0x50, &[]);
+        for code in TELLING {
+            author.give(code, &[]);
+        }
     }
 }
 
@@ -115,9 +117,9 @@ fn same_words(author: &mut Author) {
 fn new_words(author: &mut Author) {
     author.reach(Mode::Startup);
     lend(author, 122);
-    author.idle();
+    author.send(&[0x11, 7, 0x52, 0]);
     author.reach(Mode::Nominal);
-    author.give(0x50, &[]);
+    tell_both(author);
     lend(author, 122);
     author.idle();
     for (code, key) in [(0x42, 0), (0x92, 0xA7), (0x90, 0xA7), (0x94, 0xA7), (0x04, 0)] {
@@ -125,12 +127,21 @@ fn new_words(author: &mut Author) {
     }
     author.reach(Mode::Safety);
     author.reach(Mode::Nominal);
-    author.give(0x50, &[]);
+    tell_both(author);
     lend(author, 122);
     author.idle();
     author.give(0xAA, &[0xA6]);
     author.reach(Mode::Nominal);
-    author.give(0x50, &[]);
+    tell_both(author);
+    author.reach(Mode::Safety);
+    told_apart(author);
+}
+
+/// Both codes that tell the words.
+fn tell_both(author: &mut Author) {
+    for code in TELLING {
+        author.give(code, &[]);
+    }
 }
 
 /// A reply waits through ticks without one and transfers that make none.

@@ -172,7 +172,7 @@ pub fn random_harmless(author: &mut Author) {
 }
 
 /// Every code in one mode: each length, each wrong header byte, wrong keys and
-/// the like, and codes that are not in the base.
+/// the like, and codes that the board does not know.
 pub fn all_in(author: &mut Author, mode: Mode, with_reset: bool) {
     for code in CODES {
         if code == 0xAA && !with_reset {
@@ -196,7 +196,7 @@ pub fn all_in(author: &mut Author, mode: Mode, with_reset: bool) {
             author.send(&bytes);
         }
     }
-    for code in [0x03, 0xAB, 0x95, 0xFF, 0x00, 0x40, 0xA0, 0xC4, 0xFE] {
+    for code in [0x03, 0x53, 0xAB, 0x95, 0xFF, 0x00, 0x40, 0x54, 0xA0, 0xC4, 0xFE] {
         author.reach(mode);
         author.give(code, &[0xA6, 0, 0]);
         if author.skips() {
@@ -229,7 +229,7 @@ fn every_length(author: &mut Author, mode: Mode, code: u8) {
 
 /// Good commands with many bytes behind them, up to all that a transfer may have.
 pub fn long(author: &mut Author) {
-    for code in [0x02, 0x10, 0x84, 0x42] {
+    for code in [0x02, 0x10, 0x84, 0x42, 0x52] {
         for length in [15, 64, 255, 256, 257, 300] {
             if author.is_brief() && (code != 0x10 || length < 256) {
                 continue;

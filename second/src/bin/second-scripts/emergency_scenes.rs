@@ -2,7 +2,7 @@
 
 use crate::author::Author;
 use crate::commands;
-use crate::data_scenes::lend;
+use crate::data_scenes::{lend, told_apart};
 use crate::text_scenes;
 use second::mode::Mode;
 use second::text::Form;
@@ -16,7 +16,8 @@ pub fn all(author: &mut Author) {
     author.say("B 03 FF00FF0F 11001103");
     never_spoken_to(author);
     nothing_but_the_table(author);
-    read_at_the_edges(author);
+    read_at_the_edges(author, 0x50, 0x52);
+    read_at_the_edges(author, 0x52, 0x50);
     counts_at_the_edges(author);
     refused_at_the_edges(author);
     reset_at_the_edge(author);
@@ -33,6 +34,8 @@ fn never_spoken_to(author: &mut Author) {
     enter(author, None);
     look(author);
     author.give(0x50, &[]);
+    look(author);
+    author.give(0x52, &[]);
     look(author);
     author.tick(UP, 0, None);
     author.give(0xAA, &[0xA6]);
@@ -82,10 +85,12 @@ fn load_up(author: &mut Author) {
     author.give(0x82, &[0x42, 0x40]);
 }
 
-/// What is new is told once.
+/// What is new is told once by each of the two codes.
 fn read_words(author: &mut Author) {
-    author.give(0x50, &[]);
-    author.give(0x50, &[]);
+    let codes = author.rng.pick(&[[0x50, 0x52], [0x52, 0x50]]);
+    for code in [codes[0], codes[0], codes[1], codes[1]] {
+        author.give(code, &[]);
+    }
 }
 
 /// Entered and left with no command in either tick; a watchdog reset later.
@@ -97,6 +102,7 @@ fn nothing_but_the_table(author: &mut Author) {
     author.idle();
     author.say("F 0030");
     read_words(author);
+    told_apart(author);
     text_scenes::some(author);
     load_up(author);
     look(author);
@@ -118,22 +124,26 @@ fn nothing_but_the_table(author: &mut Author) {
     commands::all_read_only(author);
 }
 
-/// Words and 0x50 in the very ticks that enter and leave.
-fn read_at_the_edges(author: &mut Author) {
+/// Words and the code that tells them in the very ticks that enter and leave;
+/// the other code tells them behind it.
+fn read_at_the_edges(author: &mut Author, code: u8, other: u8) {
     prepare(author);
     load_up(author);
     lend(author, 122);
-    let housekeeping = author.command(0x50, &[]);
+    let housekeeping = author.command(code, &[]);
     enter(author, Some(&housekeeping));
     look(author);
-    author.give(0x50, &[]);
+    author.give(code, &[]);
+    author.give(other, &[]);
     lend(author, 122);
     author.tick(UP, u32::MAX, Some(&housekeeping));
     look(author);
-    author.give(0x50, &[]);
+    author.give(code, &[]);
+    author.give(other, &[]);
     author.give(0xAA, &[0xA6]);
     look(author);
     author.reach(Mode::Nominal);
+    author.give(other, &[]);
     commands::all_read_only(author);
 }
 

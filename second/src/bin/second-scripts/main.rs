@@ -192,6 +192,7 @@ fn board(author: &mut Author) {
     commands::all_saves(author);
     commands::zero_checksum(author);
     data_scenes::all_words(author);
+    data_scenes::all_readings(author);
     data_scenes::all_reads(author);
     for mode in [Mode::Startup, Mode::Nominal, Mode::Safety] {
         author.reach(mode);

@@ -2,7 +2,7 @@
 
 use crate::author::Author;
 use crate::commands;
-use crate::data_scenes::lend;
+use crate::data_scenes::{lend, TELLING};
 use crate::text_scenes;
 use second::mode::Mode;
 use second::text::Form;
@@ -31,25 +31,9 @@ pub fn watchdog(author: &mut Author) {
 /// without a store, and with each kind of last transfer.
 pub fn all_bites(author: &mut Author) {
     for last in 0..5 {
-        if last == 1 && author.is_brief() {
-            continue;
+        if last != 1 || !author.is_brief() {
+            one_bite(author, last);
         }
-        author.reach(Mode::Nominal);
-        author.set(0x4000, 1);
-        if last == 3 {
-            author.give(0x94, &[0xA7, 0, 0]);
-        }
-        author.give(if last % 2 == 0 { 0x32 } else { 0x06 }, &[]);
-        run_timer(author, 64);
-        if last == 2 {
-            author.send(&[0x11, 7, 6, 0]);
-        }
-        run_timer(author, 98);
-        author.send(&[0x11, 7]);
-        before_the_bite(author, last);
-        author.say("F 0020");
-        author.say("R 0006");
-        author.show();
     }
     // From the store the watchdog is short again at once.
     author.reach(Mode::Nominal);
@@ -62,6 +46,37 @@ pub fn all_bites(author: &mut Author) {
     author.reach(Mode::Nominal);
     author.give(0x90, &[0xA7]);
     commands::status(author);
+}
+
+/// The shortest watchdog left to bite with one kind of last transfer; words that
+/// nothing has read are lost to some of the bites.
+fn one_bite(author: &mut Author, last: usize) {
+    author.reach(Mode::Nominal);
+    author.set(0x4000, 1);
+    if last == 3 {
+        author.give(0x94, &[0xA7, 0, 0]);
+    }
+    author.give(if last % 2 == 0 { 0x32 } else { 0x06 }, &[]);
+    run_timer(author, 64);
+    if last < 2 {
+        lend(author, 122);
+        author.idle();
+    }
+    if last == 2 {
+        author.send(&[0x11, 7, 6, 0]);
+    }
+    run_timer(author, 98);
+    author.send(&[0x11, 7]);
+    before_the_bite(author, last);
+    author.say("F 0020");
+    author.say("R 0006");
+    author.show();
+    if last < 2 {
+        author.reach(Mode::Nominal);
+        for code in TELLING {
+            author.give(code, &[]);
+        }
+    }
 }
 
 /// The tick in which the watchdog bites, with one kind of last transfer.

@@ -2,7 +2,7 @@
 
 use crate::author::Author;
 use crate::commands;
-use crate::data_scenes::lend;
+use crate::data_scenes::{lend, told_apart, TELLING};
 use crate::starts::{stored_start, with};
 use second::board::EMERGENCY_HIGH;
 use second::coverage::rails;
@@ -19,7 +19,8 @@ fn linger_until(author: &mut Author, age: u64) {
             3 if author.rng.once_in(20) => author.show(),
             4 if author.rng.once_in(10) => {
                 lend(author, 122);
-                author.give(0x50, &[]);
+                let code = author.rng.pick(&TELLING);
+                author.give(code, &[]);
             }
             _ => author.idle(),
         }
@@ -68,6 +69,7 @@ pub fn lingers(author: &mut Author) {
     feed_at(author, -32_768);
     feed_at(author, -32_768);
     author.give(0x50, &[]);
+    author.give(0x52, &[]);
     author.tick(32_767, u32::MAX, None);
     author.show();
     commands::status(author);
@@ -115,10 +117,14 @@ pub fn period(author: &mut Author) {
     author.give(0x16, &[0]);
     overcurrent_only(author);
     author.reach(Mode::Emergency);
-    author.give(0x50, &[]);
-    author.give(0x50, &[]);
-    lend(author, 122);
-    author.give(0x50, &[]);
+    for code in [0x50, 0x50, 0x52, 0x52] {
+        author.give(code, &[]);
+    }
+    for code in TELLING {
+        lend(author, 122);
+        author.give(code, &[]);
+    }
+    told_apart(author);
     commands::all_in(author, Mode::Emergency, false);
     let wrong_key = author.command(0xAA, &[0xA5]);
     author.send(&wrong_key);

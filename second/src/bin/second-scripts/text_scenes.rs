@@ -221,7 +221,10 @@ fn frames_of_each(author: &mut Author) {
     for room in [0, 1, 18] {
         author.say(&format!("F {room:04X}"));
     }
-    for code in [0x02, 0x42, 0x50, 0x03] {
+    for code in [0x02, 0x42, 0x50, 0x52, 0x03] {
+        if code == 0x52 && author.is_brief() {
+            continue;
+        }
         author.give(code, &[]);
         let reply = author.board().waiting_reply().len();
         for room in [0, reply + 12, reply + 13, reply + 14, 3 * reply + 11, 3 * reply + 12] {
