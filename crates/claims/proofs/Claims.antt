@@ -15,6 +15,7 @@ use Rattle.changes.proofs.SettingsChange.{settings-change}
 use Rattle.changes.proofs.ModeChange.{mode-change}
 use Rattle.changes.proofs.CountsShown.{counts-shown}
 use Rattle.changes.proofs.SoundMachine.{sound-machine}
+use Rattle.exact.proofs.Exact.{exact-reading, never-smaller}
 use Rattle.power.proofs.Theorem.{powered}
 use Rattle.power.proofs.Tight.{tight}
 use Rattle.claims.specs.Claims.{Claims}
@@ -47,6 +48,8 @@ claims =
       counts-shown = counts-shown;
       sound-machine = sound-machine;
       dark = dark;
+      exact-reading = exact-reading;
+      never-smaller = never-smaller;
       power = power;
       power-of-one = power-of-one;
       power-needed = power-needed;

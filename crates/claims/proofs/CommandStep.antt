@@ -29,12 +29,13 @@ use Rattle.state.specs.Parts.{modeOf, withMemory, withMeasured, withChannels}
 use Rattle.state.specs.Start.{commandResetOf}
 use Rattle.change.specs.Change.{enteringOf}
 use Rattle.state.specs.declared.parts.Board.{Board}
+use Rattle.state.specs.declared.parts.Measured.{Measured}
 use Rattle.answers.specs.Answers.{acceptedWith, acceptedOf, refusedOf, notThisBoardOf}
 use Rattle.answers.specs.declared.Answer.{Answer}
 use Rattle.answers.specs.declared.Answer.the-variants.{Accepted}
 use Rattle.answers.specs.declared.Outcome.the-variants.{Answered}
 use Rattle.answers.specs.declared.Commanded.{Commanded}
-use Rattle.effects.specs.Effects.{isNominal, switchedOf, groupOnOf, groupOffOf, groupStateOf, channelOnOf, channelOffOf, cancelledOf, switchedModeOf, faultsOf, housekeepingOf, engineeringHousekeepingOf, parameterAnswered, rememberedOf, savedIn, seen, restartedOf, reportedOf, runOf}
+use Rattle.effects.specs.Effects.{isNominal, switchedOf, groupOnOf, groupOffOf, groupStateOf, channelOnOf, channelOffOf, cancelledOf, switchedModeOf, faultsOf, housekeepingOf, engineeringHousekeepingOf, parameterAnswered, rememberedOf, savedIn, restartedOf, reportedOf, runOf}
 use Rattle.asking.specs.Checks.{isStartup}
 use Rattle.commands.specs.Step.{transferredOf, commandedOf}
 use Rattle.commands.proofs.Stepwise.{turnedDown, decodedOf, steppedOf}

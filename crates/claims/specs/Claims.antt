@@ -12,6 +12,8 @@ use Rattle.refusals.specs.{Conditions.ExactlyWhen, Refused.RefusedCommand, Refu
 use Rattle.groups.specs.{Groups.Groups, Altered.Altered, Resets.ResetIsTold, Unfitted.Unfitted, Counts.Counts}
 use Rattle.changes.specs.{StepsOfChannels.StepsOfChannels, ChannelsAfter.ChannelsAfter, SettingsChange.SettingsChange}
 use Rattle.changes.specs.{ModeChange.ModeChange, CountsShown.CountsShown, SoundMachine.SoundMachine}
+use Rattle.readings.specs.{declared.apart.Raw.Raw, declared.table.Row.Row}
+use Rattle.exact.specs.Exact.{ExactReading, NeverSmaller}
 use Rattle.power.specs.{Claim.Claim, Tight.Tight}
 use Rattle.claims.specs.{Boundary.BoundaryTable, Dark.Dark, Power.Power, PowerOfOne.PowerOfOne, PowerNeeded.PowerNeeded}
 use Rattle.claims.specs.{PowerReal.PowerReal, Standing.Standing, Wrong.AllCaught, Wrong.AllBreak}
@@ -38,6 +40,9 @@ pub record Claims : Type 0 where
   pub counts-shown : (there : Machine) (profile : Profile) (store : Store) → CountsShown there profile store
   pub sound-machine : (m : Machine) (r : Reached m) → SoundMachine m r
   pub dark : Dark
+  -- engineering readings and the exact values of Table 3-12
+  pub exact-reading : (row : Row) (raw : Raw) → ExactReading row raw
+  pub never-smaller : (row : Row) (a b : Raw) → NeverSmaller row a b
   -- demand 3: how long a force-enabled channel is off, and on
   pub power : Power
   pub power-of-one : PowerOfOne

@@ -2,10 +2,10 @@
 -- and PosDiv below it. A comparison of a fraction with a number is told times PosDiv, and one with a half times twice
 -- that, so that all numbers are whole. `a ⇔ b` says that a and b follow from each other. Assumes nothing: this is what
 -- is claimed, and proofs/Exact shows it.
-use Prim.Native.Nat.{ℕ, _+_, _*_, _%_, _≤_, _<_}
+use Prim.Native.Nat.{ℕ, _*_, _%_, _≤_, _<_}
 use mathlib.Core.Path.{_≡_}
 use mathlib.Core.Bool.{Bool, true, false}
-use lib.IntN.{ℤ, pos, negsuc, natAbs, _*ℤ_}
+use lib.IntN.{ℤ, pos, natAbs, _*ℤ_}
 use lib.Signed.{leZ, ltZ}
 use Rattle.rounding.specs.Rounding.{Nearest, distance, held}
 use Rattle.readings.specs.declared.apart.Raw.{Raw}

@@ -7,6 +7,7 @@ use mathlib.Core.{Path._≡_, Bool.Bool, Bool.true, Bool.false, Bool._&&_, Bool.
 use mathlib.Core.Option.{Option, none, some}
 use lib.{Dec.eqb, ListN.replicate}
 use Rattle.kinds.specs.Kinds.{wordRoom}
+use Rattle.readings.specs.Readings.{rawOf}
 use Rattle.wire.specs.Replies.{shown}
 use Rattle.wire.specs.declared.forms.Form.the-variants.{Raw}
 use Rattle.modes.specs.Table.{same, entered}
@@ -55,7 +56,7 @@ pub record StartedOver (before after : Board) : Type 0 where
   pub settings : after .memory ≡ loadedFrom (before .memory .store)
   pub channels : (c : ℕ) → c < 32 → chan (after .channels) c ≡ record { on = false; latched = false; count = 0 }
   pub profile : after .profile ≡ before .profile
-  pub words : after .measured ≡ record { words = replicate wordRoom 0; fresh = record { raw = false; engineering = false } }
+  pub words : after .measured ≡ record { words = replicate wordRoom (rawOf 0); fresh = record { raw = false; engineering = false } }
   pub form : after .form ≡ Raw
 
 pub record ResetIsTold (m : Machine) (i : Sample) : Type 0 where

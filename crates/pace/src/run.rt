@@ -39,7 +39,8 @@ fn resets_taken(digest: u32, r: Resets) -> u32 {
 // A digest that took in the measured words of a board, and whether they are new as raw readings.
 // argued: an instrument; its digest is compared with the second program's
 fn measured_taken(digest: u32, m: Measured) -> u32 {
-    let words = m.words;
+    let raws = m.words;
+    let words = readings::words(raws);
     let d = pattern::words_taken(digest, pattern::counted(&words));
     if m.fresh.raw {
         return pattern::taken(d, 1);

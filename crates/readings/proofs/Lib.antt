@@ -1,3 +1,4 @@
+pub mod Examples
 pub mod Filling
 pub mod Places
 pub mod Rows

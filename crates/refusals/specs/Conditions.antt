@@ -81,6 +81,7 @@ lengths =
     ∷ (0x30 needs 4) ∷ (0x32 needs 4) ∷ (0x42 needs 4) ∷ (0x50 needs 4)
     ∷ (0x82 needs 6) ∷ (0x84 needs 6) ∷ (0x86 needs 6)
     ∷ (0x90 needs 5) ∷ (0x92 needs 5) ∷ (0x94 needs 7)
+    ∷ (0x52 needs 4)
     ∷ []
 
 unfoldable pub neededBy : List Need → ℕ → ℕ

@@ -3,7 +3,7 @@
 -- these; and that the distribution board is document 01's board. `(c : ℕ) × B` is some number c of which B holds.
 -- Assumes nothing: these are definitions and the statement of a claim.
 use Prim.Native.Nat.{ℕ, _+_, _-_, _^_, _≤_, _<_}
-use mathlib.Core.{Path._≡_, Bool.true, List.List, List.[], List._∷_}
+use mathlib.Core.{Path._≡_, Bool.true, List.List, List.[], List._∷_, List._++_}
 use lib.{ListN.length, Signed._≤ℤ_}
 use Rattle.kinds.specs.Kinds.{boardOf, isServed}
 use Rattle.kinds.specs.declared.Kind.the-variants.{Distribution}
@@ -49,15 +49,18 @@ pub record OfTheForm (s : List ℕ) : Type 0 where
   pub nothing-behind : behind-ticks ≡ length s
 
 -- ---- the board of document 01: STID 0x11, BID 1 to 8, 122 words, a place for each of 32 channels, the base list of
--- codes, and one that can be started; and of Table 3-25 the defaults that it gives for this board by name: those of
--- CH_STARTUP_ENA_BF and CH_LATCHOFF_ENA_BF, and of their keys, which are 0x11111111 more
+-- codes and behind it the one of engineering readings, and one that can be started; and of Table 3-25 the defaults that
+-- it gives for this board by name: those of CH_STARTUP_ENA_BF and CH_LATCHOFF_ENA_BF, and of their keys, which are
+-- 0x11111111 more
+abbrev pub baseList : List ℕ
+baseList = 0xAA ∷ 0x02 ∷ 0x04 ∷ 0x06 ∷ 0x10 ∷ 0x12 ∷ 0x14 ∷ 0x16 ∷ 0x18 ∷ 0x30 ∷ 0x32 ∷ 0x42 ∷ 0x50 ∷ 0x82 ∷ 0x84 ∷ 0x86 ∷ 0x90 ∷ 0x92 ∷ 0x94 ∷ []
+
 pub record BaseBoard : Type 0 where
   pub stid : boardOf Distribution .stid ≡ 0x11
   pub last-bid : boardOf Distribution .lastBid ≡ 8
   pub words : boardOf Distribution .words ≡ 122
   pub places : boardOf Distribution .places ≡ 2 ^ 32 - 1
-  pub base-list : boardOf Distribution .codes
-      ≡ 0xAA ∷ 0x02 ∷ 0x04 ∷ 0x06 ∷ 0x10 ∷ 0x12 ∷ 0x14 ∷ 0x16 ∷ 0x18 ∷ 0x30 ∷ 0x32 ∷ 0x42 ∷ 0x50 ∷ 0x82 ∷ 0x84 ∷ 0x86 ∷ 0x90 ∷ 0x92 ∷ 0x94 ∷ []
+  pub base-list : boardOf Distribution .codes ≡ baseList ++ 0x52 ∷ []
   pub enable-bits : boardOf Distribution .enableBits ≡ 0x111
   pub enable-key : boardOf Distribution .enableKey ≡ 0x111 + 0x11111111
   pub started : isServed Distribution ≡ true

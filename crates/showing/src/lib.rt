@@ -17,6 +17,7 @@ use wire::Reply;
 ghost use mathlib.Core.Path.{_≡_};
 ghost use mathlib.Core.List.{_∷_};
 ghost use lib.ListN.{take};
+ghost use Rattle.readings.specs.Readings.{rawWords};
 ghost use Rattle.script.specs.Printing.{page, typed, row};
 ghost use Rattle.showing.specs.Showing.{letterOf, replyText, madeText, frontText, tickLine, tickedLine, resetsText, storedText, memoryText, stateLine};
 
@@ -124,9 +125,10 @@ fn counts(out: &mut [u8], at: usize, c: Channels) -> usize
 
 // The words, as many as count.
 fn measured(out: &mut [u8], at: usize, m: Measured, count: usize) -> usize
-    ensures { λ r. ⌜ page (now (out .exit)) r ≡ typed (page (now (out .entry)) at) (32 ∷ row 4 (take count (m .words))) ⌝ }
+    ensures { λ r. ⌜ page (now (out .exit)) r ≡ typed (page (now (out .entry)) at) (32 ∷ row 4 (take count (rawWords (m .words)))) ⌝ }
 {
-    let all = m.words;
+    let raws = m.words;
+    let all = readings::words(raws);
     words(out, at, wire::first_words(&all, count))
 }
 

@@ -21,6 +21,8 @@ pub mod Memory
 pub mod Replies
 pub mod State
 pub mod Change
+pub mod Rounding
+pub mod Readings
 pub mod Answers
 pub mod Effects
 pub mod Asking

@@ -3,7 +3,8 @@ use mathlib.Core.Path.{sym, _∙_}
 use Rattle.single.specs.Single.{Single}
 use Rattle.replies.proofs.short.Reads as short
 use Rattle.replies.proofs.faults.Reads as faults
-use Rattle.replies.proofs.housekeeping.Reads as housekeeping
+use Rattle.replies.proofs.raw_housekeeping.Reads as raw-housekeeping
+use Rattle.replies.proofs.engineering_housekeeping.Reads as engineering-housekeeping
 use Rattle.replies.proofs.parameter.Reads as parameter
 
 pub single-short : Single short.Post (λ κ r s. r)
@@ -12,8 +13,11 @@ single-short κ a r r′ s s′ p q = p ∙ sym q
 pub single-faults : Single faults.Post (λ κ r s. r)
 single-faults κ a r r′ s s′ p q = p ∙ sym q
 
-pub single-housekeeping : Single housekeeping.Post (λ κ r s. r)
-single-housekeeping κ a r r′ s s′ p q = p ∙ sym q
+pub single-raw-housekeeping : Single raw-housekeeping.Post (λ κ r s. r)
+single-raw-housekeeping κ a r r′ s s′ p q = p ∙ sym q
+
+pub single-engineering-housekeeping : Single engineering-housekeeping.Post (λ κ r s. r)
+single-engineering-housekeeping κ a r r′ s s′ p q = p ∙ sym q
 
 pub single-parameter : Single parameter.Post (λ κ r s. r)
 single-parameter κ a r r′ s s′ p q = p ∙ sym q
