@@ -25,8 +25,11 @@ use Rattle.board.specs.declared.Ticked.{Ticked}
 abbrev pub bothNew : Fresh
 bothNew = record { raw = true; engineering = true }
 
+abbrev pub newlyMeasured : List ℕ → Measured
+newlyMeasured words = record { words = measuredAs words; fresh = bothNew }
+
 unfoldable pub broughtBy : ℕ → List ℕ → Measured → Measured
-broughtBy number words m = cond (eqb (length words) number) (record { words = measuredAs words; fresh = bothNew }) m
+broughtBy number words m = cond (eqb (length words) number) (newlyMeasured words) m
 
 unfoldable pub risenOf : List ℕ → Board → Board
 risenOf words b = withPhase (olderOf (b .phase)) (withTimer (dog.risenOf (b .timer)) (withMeasured (broughtBy (wordCount b) words (b .measured)) b))

@@ -10,7 +10,7 @@ ghost use Rattle.answers.specs.declared.Outcome.the-variants.{NoTransfer, Wrong
 ghost use Rattle.channels.specs.Operations.{overcurrentAt};
 ghost use Rattle.change.specs.Change.{enteringOf};
 ghost use Rattle.board.specs.Parts.{settledIn, isReset};
-ghost use Rattle.board.specs.Tick.{broughtBy, risenOf, changedOf, trippedOf, allowedCount, tickOf, tickNumber};
+ghost use Rattle.board.specs.Tick.{newlyMeasured, risenOf, changedOf, trippedOf, allowedCount, tickOf, tickNumber};
 use answers::Outcome;
 use channels::Channels;
 use modes::Limits;
@@ -89,14 +89,10 @@ fn settle_where(happens: bool, b: Board, rail: i16, named: u32, limits: Limits) 
     }
 }
 
-// All the words of a board take the place of those held, raw from then on, and are new; with any other number those
-// held stay, as new as they were.
-fn brought(number: usize, held: Measured, words: &[u16]) -> Measured
-    ensures { λ r. ⌜ r ≡ broughtBy number (now (words .entry)) held ⌝ }
+// Words that came are raw from then on, and new.
+fn brought(words: &[u16]) -> Measured
+    ensures { λ r. ⌜ r ≡ newlyMeasured (now (words .entry)) ⌝ }
 {
-    if words.len() != number {
-        return held;
-    }
     Measured {
         words: readings::measured(words),
         fresh: Fresh {
@@ -189,8 +185,10 @@ pub fn tick(
     b.timer = settled.timer;
     b.channels = channels;
     b.resets = resets;
-    let measured = brought(number, b.measured, words);
-    b.measured = measured;
+    if words.len() == number {
+        let measured = brought(words);
+        b.measured = measured;
+    }
     let mut outcome = untold(happens);
     let mut replied = false;
     if is_heard(happens, sent) {

@@ -2,18 +2,20 @@
 -- board or does not. A tick that does not happen goes the same way, with every part as it was.
 use mathlib.Core.Bool.{Bool}
 use mathlib.Core.Logic.{⊎-elim}
-use mathlib.Core.Path.{_≡_, sym, _∙_}
+use mathlib.Core.Path.{_≡_, refl, sym, _∙_}
+use native.Mathlib.Omega.{arith}
 use mir.Syntax.{w16}
 use mir.ValLaws.{toZ-ofZ}
 use denote.Ref.{now}
 use lib.ListN.{length}
 use borrow.Author.Needs.{needs}
+use borrow.Author.Tests.{eq-eqb, ne-eqb}
 use Rattle.memory.specs.Limits.{limitsOf}
 use Rattle.state.specs.Parts.{wordCount}
 use Rattle.state.specs.declared.parts.Board.{Board}
 use Rattle.answers.specs.declared.Commanded.{Commanded}
-use Rattle.board.specs.Tick.{allowedCount}
-use Rattle.board.proofs.InPlace.{found, found-apart, one-sent, obeyedWhere, heard, unheard, kept, lost}
+use Rattle.board.specs.Tick.{broughtBy, allowedCount}
+use Rattle.board.proofs.InPlace.{placed, found, found-apart, one-sent, obeyedWhere, heard, unheard, kept, lost}
 use Rattle.board.proofs.Happened.{with-number}
 use Rattle.board.proofs.tick.Statement.{statement}
 use Rattle.board.proofs.tick.Tie as tie
@@ -78,7 +80,23 @@ abbrev claims : lts.Claims
 claims = (words-of-reads.Asked, words-of-reads.Learnt, is-allowed-reads.Asked, is-allowed-reads.Learnt, limits-reads.Asked, limits-reads.Learnt, settle-where-reads.Asked, settle-where-reads.Learnt, brought-reads.Asked, brought-reads.Learnt, untold-reads.Asked, untold-reads.Learnt, is-heard-reads.Asked, is-heard-reads.Learnt, commanded-reads.Asked, commanded-reads.Learnt, timeout-reads.Asked, timeout-reads.Learnt, seconds-in-ticks-reads.Asked, seconds-in-ticks-reads.Learnt, watch-reads.Asked, watch-reads.Learnt, is-reset-reads.Asked, is-reset-reads.Learnt, watchdog-reset-reads.Asked, watchdog-reset-reads.Learnt)
 
 abbrev Joined : Type 0
-Joined = lts.Joined1 claims reads.Pre reads.Post
+Joined = lts.Joined2 claims reads.Pre reads.Post
+
+abbrev Brought : Type 0
+Brought = lts.Joined1 claims reads.Pre reads.Post
+
+-- the board after steps 1 to 3, put together part by part, with the words that came or those that were there
+placed-at : (c : Brought) → let a = c .before .before .before .before .before .before .before .before .before .before .args in
+    c .if1 .b ≡ placed (c .before .before .before .before .settle-where .result) (broughtBy (wordCount (a .b)) (now (a .words)) (a .b .measured)) (a .b)
+unfolding broughtBy
+placed-at c =
+    let a = c .before .before .before .before .before .before .before .before .before .before .args in
+    let n : c .before .before .before .before .before .before .before .words-of .result ≡ wordCount (a .b) = c .before .before .before .before .before .before .before .words-of .ensures in
+    let count = length (now (a .words)) in
+    ⊎-elim
+    (λ w. let t = w .0 .taken in w .2 ∙ rw (w .1 .ensures, eq-eqb count (wordCount (a .b)) (omega arith)))
+    (λ w. let t = w .0 .left in w .1 ∙ rw (ne-eqb count (wordCount (a .b)) (λ e. omega arith)))
+    (c .if1 .came)
 
 -- whether the tick happens, the board as the command found it, and what came of the command
 abbrev happensAt : Joined → Bool
@@ -88,7 +106,7 @@ abbrev foundAt : Joined → Board
 foundAt c = let a = c .before .before .before .before .before .before .before .before .before .before .before .before .before .args in found (a .rail) (limitsOf (a .b .memory)) (a .overcurrent) (now (a .words)) (a .b)
 
 abbrev madeAt : Joined → Commanded
-madeAt c = record { board = c .if1 .b; outcome = c .if1 .outcome; replied = c .if1 .replied }
+madeAt c = record { board = c .if2 .b; outcome = c .if2 .outcome; replied = c .if2 .replied }
 
 -- it happens where this board allows the number of words
 allowed : (c : Joined) → let a = c .before .before .before .before .before .before .before .before .before .before .before .before .before .args in allowedCount (wordCount (a .b)) (length (now (a .words))) ≡ happensAt c
@@ -97,13 +115,12 @@ allowed c = rw (sym (c .before .before .before .before .before .before .before .
 obeyed : (c : Joined) → let a = c .before .before .before .before .before .before .before .before .before .before .before .before .before .args in madeAt c ≡ obeyedWhere (a .rail) (limitsOf (a .b .memory)) (a .sent) (now (a .transfer)) (a .b) (foundAt c) (happensAt c)
 obeyed c =
     let a = c .before .before .before .before .before .before .before .before .before .before .before .before .before .args in
-    let k = c .if1 in
+    let k = c .if2 in
     let limits = limitsOf (a .b .memory) in
     let happens = happensAt c in
     let r = toZ-ofZ w16 (a .rail) (c .before .before .before .before .before .before .before .before .before .before .before .before .before .fits .rail) in
     let l : c .before .before .before .before .before .before .before .before .limits .result ≡ limits = c .before .before .before .before .before .before .before .before .limits .ensures in
-    let n = c .before .before .before .before .before .before .before .before .before .before .words-of .ensures in
-    let f = found-apart (a .rail) limits (a .overcurrent) (now (a .words)) (a .b) happens (allowed c) (c .before .before .before .before .before .before .before .settle-where .result) (c .before .before .before .brought .result) r l (c .before .before .before .before .before .before .before .settle-where .ensures) (c .before .before .before .brought .ensures ∙ rw n) in
+    let f = placed-at (c .before .before .before) ∙ found-apart (a .rail) limits (a .overcurrent) (now (a .words)) (a .b) happens (allowed c) (c .before .before .before .before .before .before .before .settle-where .result) (broughtBy (wordCount (a .b)) (now (a .words)) (a .b .measured)) r l (c .before .before .before .before .before .before .before .settle-where .ensures) refl in
     let h = c .before .is-heard .ensures in
     ⊎-elim
     (λ w. heard (a .rail) limits (a .sent) (now (a .transfer)) (a .b) (foundAt c) happens (sym h ∙ w .0 .taken) (madeAt c) (one-sent (a .sent) (now (a .transfer)) (w .1 .result) (k .b) (k .outcome) (k .replied) r l f (w .1 .ensures .0) (w .3) (w .4) (w .5)))
@@ -120,7 +137,7 @@ returns c =
     (lost (a .rail) (a .overcurrent) (now (a .words)) (a .sent) (now (a .transfer)) (a .b) (happensAt j) (allowed j) (madeAt j) (obeyed j)
     (c .before .before .before .watch .result)
     (c .before .before .before .watch .ensures ∙ rw (c .before .before .before .before .seconds-in-ticks .ensures, c .before .before .before .before .before .timeout .ensures))
-    (sym (c .before .before .is-reset .ensures) ∙ c .before .if2 .taken)))
+    (sym (c .before .before .is-reset .ensures) ∙ c .before .if3 .taken)))
 
 returns-2 : tie.Need-returns-2
 returns-2 c =
@@ -130,7 +147,7 @@ returns-2 c =
     (kept (a .rail) (a .overcurrent) (now (a .words)) (a .sent) (now (a .transfer)) (a .b) (happensAt j) (allowed j) (madeAt j) (obeyed j)
     (c .before .before .watch .result)
     (c .before .before .watch .ensures ∙ rw (c .before .before .before .seconds-in-ticks .ensures, c .before .before .before .before .timeout .ensures))
-    (sym (c .before .is-reset .ensures) ∙ c .if2 .left))
+    (sym (c .before .is-reset .ensures) ∙ c .if3 .left))
 
 pub tick-spec : {M : Type 1} → statement M
 tick-spec =
