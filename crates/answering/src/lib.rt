@@ -4,7 +4,7 @@ ghost use lib.ListN.{take};
 ghost use Rattle.wire.specs.Replies.{replyOf};
 ghost use Rattle.kinds.specs.Kinds.{boardOf};
 ghost use Rattle.readings.specs.Readings.{rawWords, engineeringWords};
-ghost use Rattle.readings.specs.Layout.{layout, convertedBy};
+ghost use Rattle.readings.specs.Layout as places;
 ghost use Rattle.replies.specs.Layouts.{housekeepingReply};
 ghost use Rattle.effects.specs.Effects.{newWhere};
 ghost use Rattle.answering.specs.Answering.{statTold, replyTo, alters, isRestart, memoryAfter};
@@ -56,7 +56,7 @@ fn housekeeping(own: Header, code: u8, kind: Kind, c: Channels, m: Measured) -> 
 
 // The reply of 0x52 of a board with these channels and these words, in the units of their fields.
 fn engineering_housekeeping(own: Header, code: u8, c: Channels, m: Measured) -> Reply
-    ensures { λ r. ⌜ r ≡ replyOf (housekeepingReply own code (newWhere (m .fresh .engineering)) (c .on) (c .latched) (engineeringWords (convertedBy layout (m .words)))) ⌝ }
+    ensures { λ r. ⌜ r ≡ replyOf (housekeepingReply own code (newWhere (m .fresh .engineering)) (c .on) (c .latched) (engineeringWords (places.convertedBy places.layout (m .words)))) ⌝ }
 {
     let words = m.words;
     let units = readings::convert_all(words);

@@ -1,7 +1,7 @@
--- Document 01's effects, command by command, in its order. Where a command knows a 6 or a 7 of its own, its function
--- answers that too; the step takes an effect only where no check applies, so there those rows are not reached. `code`
--- is the command's code, from which the reply's is made; the last argument is the board as the command finds it.
--- Assumes nothing: these are definitions.
+-- Document 01's effects, command by command, in its order, and behind 0x50 that of document 02's 0x52. Where a command
+-- knows a 6 or a 7 of its own, its function answers that too; the step takes an effect only where no check applies, so
+-- there those rows are not reached. `code` is the command's code, from which the reply's is made; the last argument is
+-- the board as the command finds it. Assumes nothing: these are definitions.
 use Prim.Native.Nat.{ℕ}
 use mathlib.Core.Bool.{Bool, true, false, cond, not}
 use lib.IntN.{ℤ}

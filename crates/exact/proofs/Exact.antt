@@ -7,13 +7,13 @@ use Rattle.rounding.proofs.Rounding.{nearest-is, only, half-a-unit}
 use Rattle.rounding.proofs.Exactly as exactly
 use Rattle.readings.specs.declared.apart.Raw.{Raw}
 use Rattle.readings.specs.declared.table.Row.{Row}
-use Rattle.readings.specs.Table.{factorsOf, isVipd, numberOf, aboveTheLine, belowTheLine, unitsOf, engineeringOf}
+use Rattle.readings.specs.Table.{factorsOf, isVipd, numberOf, aboveTheLine, belowTheLine, nearestUnits, engineeringOf}
 use Rattle.readings.proofs.Rows.{small}
 use Rattle.exact.specs.Exact.{ExactReading, NeverSmaller}
 use Rattle.exact.proofs.Words.{at-half-word}
 
 pub exact-reading : (row : Row) (raw : Raw) → ExactReading row raw
-unfolding unitsOf engineeringOf
+unfolding nearestUnits engineeringOf
 exact-reading row raw =
     let n = aboveTheLine row raw in
     let d = belowTheLine row in
@@ -31,14 +31,14 @@ exact-reading row raw =
     }
 
 pub never-smaller : (row : Row) (a b : Raw) → NeverSmaller row a b
-unfolding unitsOf engineeringOf aboveTheLine
+unfolding nearestUnits engineeringOf aboveTheLine
 never-smaller row a b =
     let f = factorsOf row in
     let x = numberOf (isVipd row) a in
     let y = numberOf (isVipd row) b in
     record {
-      rises = λ t.
+      not-smaller = λ t.
           let s = exactly.times-rises (f .premul) (x +ℤ f .bias) (y +ℤ f .bias) (exactly.sum-rises (f .bias) x y t) in
-          exactly.held-rises (unitsOf row a) (unitsOf row b)
+          exactly.held-rises (nearestUnits row a) (nearestUnits row b)
           (exactly.nearest-rises (belowTheLine row) (small row .posdiv-above) (aboveTheLine row a) (aboveTheLine row b) s);
     }

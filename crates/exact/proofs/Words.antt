@@ -15,7 +15,7 @@ use Rattle.rounding.proofs.Halves.{half-shared}
 use Rattle.readings.specs.declared.apart.Raw.{Raw}
 use Rattle.readings.specs.declared.table.Row.{Row}
 use Rattle.readings.specs.declared.table.Row.the-variants.{VoltBrdsup, PduTemp, PiuTemp, VipVolt, VipCurr, ChannelCurr, VipPowe, ChannelPowe, VoltCell, BatTemp1, VoltMppt, CurrMppt}
-use Rattle.readings.specs.Table.{factorsOf, isVipd, numberOf, aboveTheLine, belowTheLine, unitsOf}
+use Rattle.readings.specs.Table.{factorsOf, isVipd, numberOf, aboveTheLine, belowTheLine, nearestUnits}
 use Rattle.readings.proofs.Rows.{small}
 use Rattle.exact.specs.Exact.{halvesOf, IsHalf}
 
@@ -41,12 +41,12 @@ vipd-size raw =
 
 -- ---- the rows
 abbrev pub AtHalf : Row → Raw → Type 0
-AtHalf row raw = 2 * distance (unitsOf row raw) (aboveTheLine row raw) (belowTheLine row) ≡ belowTheLine row
+AtHalf row raw = 2 * distance (nearestUnits row raw) (aboveTheLine row raw) (belowTheLine row) ≡ belowTheLine row
 
 shared : (row : Row) (raw : Raw) (g m l j k : ℕ) → 0 < g → (2 * l + 1) * (2 * j + 1) ≡ 1 + 2 * m * k
     → factorsOf row .premul ≡ g * (2 * l + 1) → belowTheLine row ≡ g * (2 * m)
     → AtHalf row raw ↔ ((size row raw + m) % (2 * m) ≡ 0)
-unfolding unitsOf
+unfolding nearestUnits
 shared row raw g m l j k h inverse p d =
     let e : natAbs (aboveTheLine row raw) ≡ g * (2 * l + 1) * size row raw = above-size row raw ∙ ap (λ (t : ℕ). t * size row raw) p in
     rw d (half-shared g m l j k (size row raw) h inverse (aboveTheLine row raw) e (rw d at (small row .posdiv-above)))

@@ -11,7 +11,7 @@ use Rattle.rounding.specs.Rounding.{Nearest, distance, held}
 use Rattle.readings.specs.declared.apart.Raw.{Raw}
 use Rattle.readings.specs.declared.table.Row.{Row}
 use Rattle.readings.specs.declared.table.Row.the-variants.{VoltBrdsup, PduTemp, PiuTemp, VipVolt, VipCurr, ChannelCurr, VipPowe, ChannelPowe, VoltCell, BatTemp1, VoltMppt, CurrMppt}
-use Rattle.readings.specs.Table.{isVipd, numberOf, aboveTheLine, belowTheLine, unitsOf, engineeringOf, minus}
+use Rattle.readings.specs.Table.{isVipd, numberOf, aboveTheLine, belowTheLine, nearestUnits, engineeringOf, minus}
 
 infix 20 _⇔_
 abbrev pub _⇔_ : Type 0 → Type 0 → Type 0
@@ -64,9 +64,9 @@ pub record ExactReading (row : Row) (raw : Raw) : Type 0 where
       → (2 * distance (resultOf row raw) (aboveTheLine row raw) (belowTheLine row) ≡ belowTheLine row) ⇔ IsHalf (halvesOf row) raw
   -- it is held where the exact value passes an end, and then it is that end, which the nearest unit is not; and nowhere
   -- else
-  pub top : passesTheTop row raw ≡ true → (resultOf row raw ≡ pos 32767) × (unitsOf row raw ≡ resultOf row raw → ⊥)
-  pub bottom : passesTheBottom row raw ≡ true → (resultOf row raw ≡ minus 32768) × (unitsOf row raw ≡ resultOf row raw → ⊥)
-  pub not-held : passesTheTop row raw ≡ false → passesTheBottom row raw ≡ false → resultOf row raw ≡ unitsOf row raw
+  pub top : passesTheTop row raw ≡ true → (resultOf row raw ≡ pos 32767) × (nearestUnits row raw ≡ resultOf row raw → ⊥)
+  pub bottom : passesTheBottom row raw ≡ true → (resultOf row raw ≡ minus 32768) × (nearestUnits row raw ≡ resultOf row raw → ⊥)
+  pub not-held : passesTheTop row raw ≡ false → passesTheBottom row raw ≡ false → resultOf row raw ≡ nearestUnits row raw
   -- it is 0 where the exact value lies less than half a unit from 0, and else it has the exact value's sign
   pub zero : (resultOf row raw ≡ pos 0) ⇔ (2 * natAbs (aboveTheLine row raw) < belowTheLine row)
   pub above-zero : (ltZ (pos 0) (resultOf row raw) ≡ true)
@@ -76,4 +76,4 @@ pub record ExactReading (row : Row) (raw : Raw) : Type 0 where
 
 -- ---- a larger raw value never gives a smaller result
 pub record NeverSmaller (row : Row) (a b : Raw) : Type 0 where
-  pub rises : leZ (numberOf (isVipd row) a) (numberOf (isVipd row) b) ≡ true → leZ (resultOf row a) (resultOf row b) ≡ true
+  pub not-smaller : leZ (numberOf (isVipd row) a) (numberOf (isVipd row) b) ≡ true → leZ (resultOf row a) (resultOf row b) ≡ true

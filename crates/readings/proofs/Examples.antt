@@ -7,7 +7,7 @@ use lib.IntN.{ℤ, pos}
 use Rattle.wire.specs.Numbers.{signed}
 use Rattle.rounding.specs.Rounding.{nearest, held}
 use Rattle.readings.specs.Readings.{rawOf}
-use Rattle.readings.specs.Table.{minus, numberOf, aboveTheLine, unitsOf, engineeringOf}
+use Rattle.readings.specs.Table.{minus, numberOf, aboveTheLine, nearestUnits, engineeringOf}
 use Rattle.readings.specs.declared.table.Row.{Row}
 use Rattle.readings.specs.declared.table.Row.the-variants.{VoltBrdsup, PduTemp, PiuTemp, VipVolt, VipCurr, ChannelCurr, VipPowe, ChannelPowe, VoltCell, BatTemp1, VoltMppt, CurrMppt}
 
@@ -55,5 +55,5 @@ examples =
     ∷ []
 
 pub as-worked-out : map found examples ≡ map stated examples
-unfolding engineeringOf unitsOf aboveTheLine numberOf nearest held signed
+unfolding engineeringOf nearestUnits aboveTheLine numberOf nearest held signed
 as-worked-out = refl

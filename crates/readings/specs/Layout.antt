@@ -1,6 +1,7 @@
 -- The measured fields of 0x50 and of 0x52 (ICD pages 47 to 53), raw on the one and engineering on the other: the same
--- names in the same order, each of its words with the row of Table 3-12 by which it is converted. The channel words,
--- which stand behind VIP_INPUT, are not measured. `xs ++ ys` is xs and then ys. Assumes nothing: these are definitions.
+-- names in the same order, each word with the row of Table 3-12 by which it is converted. The channel words, which
+-- stand behind VIP_INPUT, are not measured. `VIP-VD d` is VIP_VDd and `VIP-CH c` VIP_CHc; `xs ++ ys` is xs and then ys.
+-- Assumes nothing: these are definitions.
 use Prim.Native.Nat.{ℕ, zero, suc}
 use mathlib.Core.List.{List, [], _∷_, _++_}
 use lib.ListN.{getD}

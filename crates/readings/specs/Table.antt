@@ -1,7 +1,7 @@
 -- Table 3-12 (ICD pages 22 and 23): how a raw reading becomes an engineering one, Eng = PreMul (Raw + Bias) / PosDiv,
--- here to the nearest unit, halves away from zero, and held to the ends of int16. `pos n` is the integer n. The table's
--- last field pair, BAT_TEMP2 and BAT_TEMP3, has no such line: its relation is not linear. Assumes nothing: these are
--- definitions.
+-- here to the nearest unit, halves away from zero, and held to the ends of int16. `pos n` is the integer n. Of the
+-- table's fields BAT_TEMP2 and BAT_TEMP3 alone have no numbers in it, since their relation is not linear. Assumes
+-- nothing: these are definitions.
 use Prim.Native.Nat.{ℕ}
 use mathlib.Core.Bool.{Bool, true, false, cond}
 use lib.IntN.{ℤ, pos, negℤ, _+ℤ_, _*ℤ_}
@@ -72,9 +72,9 @@ abbrev pub belowTheLine : Row → ℕ
 belowTheLine row = factorsOf row .posdiv
 
 -- to the nearest unit, halves away from zero
-unfoldable pub unitsOf : Row → Raw → ℤ
-unitsOf row raw = nearest (aboveTheLine row raw) (belowTheLine row)
+unfoldable pub nearestUnits : Row → Raw → ℤ
+nearestUnits row raw = nearest (aboveTheLine row raw) (belowTheLine row)
 
 -- held to the ends of int16
 unfoldable pub engineeringOf : Row → Raw → Engineering
-engineeringOf row raw = record { 0 = held (unitsOf row raw) }
+engineeringOf row raw = record { 0 = held (nearestUnits row raw) }

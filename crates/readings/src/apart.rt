@@ -1,6 +1,6 @@
-// The two kinds of reading. What is inside them can be named in this file alone: a raw reading comes of a word that was
-// measured and of nothing else, an engineering one of a raw one and of nothing else, and an engineering one goes into
-// the bytes of a reply and nowhere else.
+// The two kinds of reading. What is inside them can be named in this file alone. A raw reading comes of a word that was
+// measured, or is the 0 before any; an engineering one comes of a raw one by Table 3-12, and of nothing else that leaves
+// this file; and an engineering one goes into the bytes of a reply and nowhere else.
 ghost use mathlib.Core.Path.{_≡_};
 ghost use Prim.Native.Nat.{min};
 ghost use lib.ListN.{take, drop};

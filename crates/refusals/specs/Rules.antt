@@ -49,7 +49,7 @@ pub record OfTheForm (s : List ℕ) : Type 0 where
   pub nothing-behind : behind-ticks ≡ length s
 
 -- ---- the board of document 01: STID 0x11, BID 1 to 8, 122 words, a place for each of 32 channels, the base list of
--- codes and behind it the one of engineering readings, and one that can be started; and of Table 3-25 the defaults that
+-- codes and behind it document 02's 0x52, and one that can be started; and of Table 3-25 the defaults that
 -- it gives for this board by name: those of CH_STARTUP_ENA_BF and CH_LATCHOFF_ENA_BF, and of their keys, which are
 -- 0x11111111 more
 abbrev pub baseList : List ℕ

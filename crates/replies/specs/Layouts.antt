@@ -37,7 +37,8 @@ unfoldable pub faultsReply : Header → ℕ → ℕ → ℕ → ℕ → List ℕ
 faultsReply board code stat on latched counts =
     laidOut (head board code stat ++ reserved ++ channelFields on latched ++ wordFields counts)
 
--- 0x50 (pages 47 to 50): the first five of the measured words, the channel words, then the other measured words
+-- 0x50 and 0x52 (pages 47 to 53; page 51 has 12 and 16 for the 8 and 10 of TEMP_MCU and VIP_INPUT): the first five of
+-- the measured words, the channel words, then the other measured words
 unfoldable pub housekeepingReply : Header → ℕ → ℕ → ℕ → ℕ → List ℕ → List ℕ
 housekeepingReply board code stat on latched words =
     laidOut (head board code stat ++ reserved ++ wordFields (take 5 words) ++ channelFields on latched ++ wordFields (drop 5 words))

@@ -30,7 +30,7 @@ fn rounded(n: u64, d: u64) -> u64
 }
 
 // The whole number nearest to n / d, halves away from zero.
-// argued: a conversion divides by a divisor of its table, none of which is 0, what 35 bits hold
+// argued: a conversion calls it with a divisor of its table, none of which is 0, and with numbers far below 63 bits
 pub fn nearest(n: i64, d: u32) -> i64
     requires { ⌜ (0 < d) × (natAbs n < 9223372036854775808) ⌝ }
     ensures { λ r. ⌜ r ≡ nearest n d ⌝ }

@@ -25,7 +25,8 @@ wordCount b = boardOf (b .profile .kind) .words
 abbrev pub wordsOf : Board → List ℕ
 wordsOf b = take (wordCount b) (rawWords (b .measured .words))
 
--- and as engineering readings, each by the row of its place, as they stand on the wire
+-- and those of a distribution board as engineering readings, each by the row of its place, as they stand on the wire;
+-- 0x52 is no other board's
 abbrev pub inUnitsOf : Board → List ℕ
 inUnitsOf b = engineeringWords (convertedBy layout (b .measured .words))
 

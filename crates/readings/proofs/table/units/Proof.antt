@@ -8,7 +8,7 @@ use mir.ValLaws.{toZ-ofZ}
 use Rattle.laws.proofs.Signed.{read}
 use Rattle.rounding.specs.Rounding.{nearest, held}
 use Rattle.readings.specs.Readings.{rawOf}
-use Rattle.readings.specs.Table.{isVipd, numberOf, aboveTheLine, unitsOf, engineeringOf}
+use Rattle.readings.specs.Table.{isVipd, numberOf, aboveTheLine, nearestUnits, engineeringOf}
 use Rattle.readings.specs.declared.table.Factors.{Factors}
 use Rattle.readings.proofs.Rows.{small, number-small, above-small}
 use borrow.Author.Needs.{needs}
@@ -64,7 +64,7 @@ held-requires : tie.Need-held-requires
 held-requires c κs = search needs
 
 returns : tie.Need-returns
-unfolding engineeringOf unitsOf
+unfolding engineeringOf nearestUnits
 returns c =
     let s = c .before .before .before .before .before .before .before in
     let row = s .args .row in
