@@ -1,9 +1,12 @@
 pub mod Ranges
 pub mod Step
 pub mod Ticks
+pub mod Readings
 pub mod StepsOfChannels
 pub mod ChannelsAfter
 pub mod SettingsChange
 pub mod ModeChange
 pub mod CountsShown
 pub mod SoundMachine
+pub mod NewReadings
+pub mod ReadingsShown

@@ -34,7 +34,7 @@ use Rattle.changes.proofs.Ranges as ranges
 use Rattle.changes.proofs.Ranges.{InRange, loaded, set-one, defaulted, saved}
 
 -- a test that came to both
-both : {A : Type 0} {t : Bool} → t ≡ false → t ≡ true → A
+pub both : {A : Type 0} {t : Bool} → t ≡ false → t ≡ true → A
 both f e = absurd (false≢true (sym f ∙ e))
 
 -- the commands that may move the mode, or show the counts

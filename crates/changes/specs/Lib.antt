@@ -5,3 +5,5 @@ pub mod SettingsChange
 pub mod ModeChange
 pub mod CountsShown
 pub mod SoundMachine
+pub mod NewReadings
+pub mod ReadingsShown

@@ -15,6 +15,8 @@ use Rattle.changes.proofs.SettingsChange.{settings-change}
 use Rattle.changes.proofs.ModeChange.{mode-change}
 use Rattle.changes.proofs.CountsShown.{counts-shown}
 use Rattle.changes.proofs.SoundMachine.{sound-machine}
+use Rattle.changes.proofs.NewReadings.{new-readings}
+use Rattle.changes.proofs.ReadingsShown.{readings-shown}
 use Rattle.exact.proofs.Exact.{exact-reading, never-smaller}
 use Rattle.power.proofs.Theorem.{powered}
 use Rattle.power.proofs.Tight.{tight}
@@ -47,6 +49,8 @@ claims =
       mode-change = mode-change;
       counts-shown = counts-shown;
       sound-machine = sound-machine;
+      new-readings = new-readings;
+      readings-shown = readings-shown;
       dark = dark;
       exact-reading = exact-reading;
       never-smaller = never-smaller;
