@@ -1,9 +1,9 @@
 -- Demand 2, what the replies to 0x50 and to 0x52 show: each is 258 bytes, in which every measured word stands at its
 -- place on the ICD's pages 47 to 53, as it was measured on the one and converted by its row of Table 3-12 on the other,
 -- and the channel words at 16 to 23, as they are. The raw readings are those that the command finds, so words of the
--- same tick are shown. Of every machine and every tick. The one premise is what the type has: room for 130 readings. For
--- the channel words it is that a set of channels has 32 bits. `m` is the machine before the tick. Assumes nothing: these
--- are definitions.
+-- same tick are shown. Of every machine and every tick. The one premise is what the type has: room for 130 readings.
+-- For the channel words it is that a set of channels has 32 bits. `m` is the machine before the tick. Assumes nothing:
+-- these are definitions.
 use Prim.Native.Nat.{ℕ, _+_, _*_, _/_, _%_, _^_, _<_}
 use mathlib.Core.{Path._≡_, Bool.true, Bool.cond, List.List, List.[], List._∷_}
 use lib.{Dec.ltb, ListN.length, ListN.getD, ListN.drop}

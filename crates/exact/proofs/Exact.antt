@@ -1,5 +1,5 @@
--- How an engineering reading lies to the exact value of Table 3-12, and that a larger raw value never gives a smaller one: the
--- laws of the nearest whole number, at the numbers of each row. Assumes nothing.
+-- How an engineering reading lies to the exact value of Table 3-12, and that a larger raw value never gives a smaller
+-- one: the laws of the nearest whole number, at the numbers of each row. Assumes nothing.
 use mathlib.Core.Path.{ap}
 use lib.IntN.{_+ℤ_}
 use Rattle.rounding.specs.Rounding.{nearest, held}

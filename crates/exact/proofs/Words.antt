@@ -1,5 +1,6 @@
--- The raw words whose exact value lies a whole half from the next unit, row by row. Where PosDiv is odd there are none. Of
--- each other row PreMul is g (2 l + 1) and PosDiv is g 2 m, and 2 j + 1 is an inverse of 2 l + 1 at 2 m. Assumes nothing.
+-- The raw words whose exact value lies a whole half from the next unit, row by row. Where PosDiv is odd there are none.
+-- Of each other row PreMul is g (2 l + 1) and PosDiv is g 2 m, and 2 j + 1 is an inverse of 2 l + 1 at 2 m. Assumes
+-- nothing.
 use Prim.Native.Nat.{ℕ, _+_, _-_, _*_, _%_, _<_}
 use mathlib.Core.Path.{_≡_, refl, ap, _∙_}
 use mathlib.Core.Logic.{_↔_, Iff·trans}

@@ -1,7 +1,7 @@
--- How an engineering reading lies to the exact value of Table 3-12, the fraction with PreMul (Raw + Bias) above the line
--- and PosDiv below it. A comparison of a fraction with a number is told times PosDiv, and one with a half times twice
--- that, so that all numbers are whole. `a ⇔ b` says that a and b follow from each other. Assumes nothing: this is what
--- is claimed, and proofs/Exact shows it.
+-- How an engineering reading lies to the exact value of Table 3-12, the fraction with PreMul (Raw + Bias) above the
+-- line and PosDiv below it. A comparison of a fraction with a number is told times PosDiv, and one with a half times
+-- twice that, so that all numbers are whole. `a ⇔ b` says that a and b follow from each other. Assumes nothing: this is
+-- what is claimed, and proofs/Exact shows it.
 use Prim.Native.Nat.{ℕ, _*_, _%_, _≤_, _<_}
 use mathlib.Core.Path.{_≡_}
 use mathlib.Core.Bool.{Bool, true, false}
@@ -28,7 +28,8 @@ passesTheTop row raw = leZ (pos (65535 * belowTheLine row)) (pos 2 *ℤ aboveThe
 abbrev pub passesTheBottom : Row → Raw → Bool
 passesTheBottom row raw = leZ (pos 2 *ℤ aboveTheLine row raw) (minus (65537 * belowTheLine row))
 
--- ---- the raw words whose exact value lies a whole half from the next unit: none, or one in each so many, counted from 0
+-- ---- the raw words whose exact value lies a whole half from the next unit: none, or one in each so many, counted
+-- from 0
 infix 40 each_at_
 pub data Halves : Type 0 where
   never : Halves

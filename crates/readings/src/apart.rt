@@ -1,6 +1,6 @@
 // The two kinds of reading. What is inside them can be named in this file alone. A raw reading comes of a word that was
-// measured, or is the 0 before any; an engineering one comes of a raw one by Table 3-12, and of nothing else that leaves
-// this file; and an engineering one goes into the bytes of a reply and nowhere else.
+// measured, or is the 0 before any. An engineering one comes of a raw one by Table 3-12 and of nothing else that leaves
+// this file, and it goes into the bytes of a reply and nowhere else.
 ghost use mathlib.Core.Path.{_≡_};
 ghost use Prim.Native.Nat.{min};
 ghost use lib.ListN.{take, drop};

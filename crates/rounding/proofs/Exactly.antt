@@ -1,7 +1,7 @@
--- Where the nearest whole number lies, exactly: from which fraction on it passes a number, where it lies a whole half away, where
--- it is held, where it is 0 and on which side of 0 it lies else, and that neither it nor what is held of it falls where the
--- fraction rises. An integer z is `plus z` less `minus z`, of which one is 0; each of the two is rounded and held by itself, so
--- that one law on natural numbers, `passes`, serves both signs. Assumes nothing.
+-- Where the nearest whole number lies, exactly: from which fraction on it passes a number, where it lies a whole half
+-- away, where it is held, where it is 0 and on which side of 0 it lies else, and that neither it nor what is held of it
+-- falls where the fraction rises. An integer z is `plus z` less `minus z`, of which one is 0; each of the two is
+-- rounded and held by itself, so that one law on natural numbers, `passes`, serves both signs. Assumes nothing.
 use Prim.Native.Nat.{ℕ, zero, suc, _+_, _-_, _*_, _%_, _≤_, _<_, min}
 use mathlib.Core.Path.{_≡_, refl, sym, ap, _∙_}
 use mathlib.Core.Logic.{_⊎_, inl, inr, _↔_}

@@ -1,6 +1,6 @@
--- Which fractions lie a whole half from the nearest whole number, where the two numbers of the fraction share a factor g:
--- above the line stands g (2 l + 1) a, below it g 2 m, and 2 j + 1 is an inverse of 2 l + 1 at 2 m. They are those where a is
--- m, or m and a multiple of 2 m. Assumes nothing.
+-- Which fractions lie a whole half from the nearest whole number, where the two numbers of the fraction share a factor
+-- g: above the line stands g (2 l + 1) a, below it g 2 m, and 2 j + 1 is an inverse of 2 l + 1 at 2 m. They are those
+-- where a is m, or m and a multiple of 2 m. Assumes nothing.
 use Prim.Native.Nat.{ℕ, _+_, _*_, _%_, _<_, _∣_}
 use mathlib.Core.Path.{_≡_, sym, ap, _∙_}
 use mathlib.Core.Logic.{_↔_, Iff·trans}

@@ -1,5 +1,5 @@
--- The board that the command finds is put together part by part; a transfer is heard or none is; the watchdog resets the
--- board or does not. A tick that does not happen goes the same way, with every part as it was.
+-- The board that the command finds is put together part by part; a transfer is heard or none is; the watchdog resets
+-- the board or does not. A tick that does not happen goes the same way, with every part as it was.
 use mathlib.Core.Bool.{Bool}
 use mathlib.Core.Logic.{⊎-elim}
 use mathlib.Core.Path.{_≡_, refl, sym, _∙_}
