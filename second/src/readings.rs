@@ -1,5 +1,6 @@
 //! Engineering readings: Table 3-12, row by row, and the row that each measured
-//! word goes by.
+//! word goes by. Rows that no reply has yet are there too, so that the table is
+//! whole; BAT_TEMP2 and BAT_TEMP3 are not, since the table has no numbers for them.
 //!
 //! A raw word is a `u16` as it came, an engineering reading an `i16` in the unit
 //! of its field; `engineering` is the only way from one to the other.
@@ -29,6 +30,10 @@ pub const VOLT_BRDSUP: Conversion =
 pub const PDU_TEMP: Conversion =
     Conversion { raw: Kind::Uint16, bias: -1_168, pre_mul: 220, pos_div: 9 };
 
+/// In hundredths of a degree. No reply has it yet.
+pub const PIU_TEMP: Conversion =
+    Conversion { raw: Kind::Uint16, bias: -868, pre_mul: 26_400, pos_div: 819 };
+
 /// In millivolts, whatever it is the voltage of.
 pub const VIP_VOLT: Conversion = vip(125, 128);
 
@@ -37,6 +42,22 @@ pub const VIP_INPUT_AND_VD: [Conversion; 3] = [VIP_VOLT, vip(3_125, 10_240), vip
 
 /// VIP_CH: the same units.
 pub const VIP_CH: [Conversion; 3] = [VIP_VOLT, vip(3_125, 20_480), vip(3_125, 6_400)];
+
+/// VOLT_CELLx, in millivolts. No reply has it yet.
+pub const VOLT_CELL: Conversion =
+    Conversion { raw: Kind::Uint16, bias: -512, pre_mul: 3, pos_div: 2 };
+
+/// In hundredths of a degree. No reply has it yet.
+pub const BAT_TEMP1: Conversion =
+    Conversion { raw: Kind::Uint16, bias: -1_969, pre_mul: 75, pos_div: 4 };
+
+/// VOLT_IN_MPPT and VOLT_OUT_MPPT, in millivolts. No reply has them yet.
+pub const VOLT_MPPT: Conversion =
+    Conversion { raw: Kind::Uint16, bias: 0, pre_mul: 2_625, pos_div: 128 };
+
+/// CURR_IN_MPPT and CURR_OUT_MPPT, in milliamperes. No reply has them yet.
+pub const CURR_MPPT: Conversion =
+    Conversion { raw: Kind::Uint16, bias: -41, pre_mul: 625, pos_div: 192 };
 
 const FIRST_OF_INPUT: usize = 2;
 const FIRST_OF_CHANNELS: usize = 26;

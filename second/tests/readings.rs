@@ -1,14 +1,18 @@
-//! 0x52: every raw word through every row of Table 3-12, and NEW counted by itself.
+//! 0x52: every raw word through every row of Table 3-12, those that no reply has
+//! among them, and NEW counted by itself.
 
 mod common;
 
 use common::*;
 use second::board::{Answer, Board, Event, WORDS};
 use second::mode::Mode;
-use second::readings;
+use second::readings::{self, Conversion};
 
 const RAW: u8 = 0x50;
 const ENGINEERING: u8 = 0x52;
+
+/// Where a field lies that no reply has.
+const NOWHERE: usize = usize::MAX;
 
 /// A field of the reply as the page has it: its row's figures, written out once more.
 #[derive(Clone, Copy, Debug)]
@@ -65,6 +69,19 @@ fn fields() -> Vec<Field> {
     fields
 }
 
+/// The rows that no reply has: the program's, and the page's written out once more.
+fn rows_apart() -> [(Conversion, Field); 5] {
+    let field =
+        |bias, pre_mul, pos_div| Field { at: NOWHERE, signed: false, bias, pre_mul, pos_div };
+    [
+        (readings::PIU_TEMP, field(-868, 26_400, 819)),
+        (readings::VOLT_CELL, field(-512, 3, 2)),
+        (readings::BAT_TEMP1, field(-1969, 75, 4)),
+        (readings::VOLT_MPPT, field(0, 2625, 128)),
+        (readings::CURR_MPPT, field(-41, 625, 192)),
+    ]
+}
+
 /// STAT of the reply that waits.
 fn stat(board: &Board) -> u8 {
     board.waiting_reply()[4]
@@ -106,25 +123,46 @@ fn every_raw_word_at_every_place_of_the_reply() {
 }
 
 #[test]
+fn every_raw_word_through_every_row_that_no_reply_has() {
+    for (row, field) in rows_apart() {
+        for raw in 0..=u16::MAX {
+            let reading = row.engineering(raw);
+            assert!(field.is_right(raw, reading), "{raw:04X} told as {reading} by {field:?}");
+        }
+    }
+}
+
+#[test]
 fn the_check_of_a_reading_takes_one_value_alone() {
-    let fields = [fields()[0], fields()[1], fields()[2], fields()[3], fields()[27], fields()[28]];
-    for field in fields {
+    let told = [0, 1, 2, 3, 27, 28].map(|place| fields()[place]);
+    for field in told.into_iter().chain(rows_apart().map(|(_, field)| field)) {
         for raw in (0..=u16::MAX).step_by(257).chain([63, 64, 65, 128, 1024, 2048, 0xFFC0]) {
-            let nearest = (field.exact(raw) / field.pos_div).clamp(-32_760, 32_760) as i16;
+            let nearest = (field.exact(raw) / field.pos_div).clamp(-32_761, 32_760) as i16;
             let right = (nearest - 7..=nearest + 7).filter(|near| field.is_right(raw, *near));
             assert_eq!(right.count(), 1, "{raw:04X} by {field:?}");
         }
     }
 }
 
+/// Compares a row of the program with the page's figures.
+fn same_figures(row: Conversion, field: &Field) {
+    assert_eq!(i128::from(row.bias), field.bias);
+    assert_eq!(i128::from(row.pre_mul), field.pre_mul);
+    assert_eq!(i128::from(row.pos_div), field.pos_div);
+    assert_eq!(row.raw.lowest() < 0, field.signed);
+}
+
 #[test]
 fn each_place_has_the_row_of_its_field() {
     for (place, field) in fields().iter().enumerate() {
-        let row = readings::row(place);
-        assert_eq!(i128::from(row.bias), field.bias);
-        assert_eq!(i128::from(row.pre_mul), field.pre_mul);
-        assert_eq!(i128::from(row.pos_div), field.pos_div);
-        assert_eq!(row.raw.lowest() < 0, field.signed);
+        same_figures(readings::row(place), field);
+    }
+}
+
+#[test]
+fn each_row_that_no_reply_has_is_the_page_s() {
+    for (row, field) in rows_apart() {
+        same_figures(row, &field);
     }
 }
 
@@ -261,16 +299,117 @@ fn ends_and_halves_and_zero_of_each_vipd_row() {
     }
 }
 
+/// No halves: raw words 0 and beside the bias, and where it is held.
+const PIU_TEMP: &Known = &[
+    (0, -27_979),
+    (1, -27_947),
+    (867, -32),
+    (868, 0),
+    (869, 32),
+    (1884, 32_750),
+    (1885, 32_767),
+    (0x7FFF, 32_767),
+    (0x8000, 32_767),
+    (0xFFFF, 32_767),
+];
+
+/// Every odd word is a half. That of 22357 lies half a unit past the top.
+const VOLT_CELL: &Known = &[
+    (0, -768),
+    (1, -767),
+    (510, -3),
+    (511, -2),
+    (512, 0),
+    (513, 2),
+    (514, 3),
+    (22_355, 32_765),
+    (22_356, 32_766),
+    (22_357, 32_767),
+    (22_358, 32_767),
+    (0x7FFF, 32_767),
+    (0x8000, 32_767),
+    (0xFFFF, 32_767),
+];
+
+/// The only row that is held at both ends; 1967 and 1971 are halves.
+const BAT_TEMP1: &Known = &[
+    (0, -32_768),
+    (220, -32_768),
+    (221, -32_768),
+    (222, -32_756),
+    (1966, -56),
+    (1967, -38),
+    (1968, -19),
+    (1969, 0),
+    (1970, 19),
+    (1971, 38),
+    (1972, 56),
+    (3715, 32_738),
+    (3716, 32_756),
+    (3717, 32_767),
+    (0x7FFF, 32_767),
+    (0x8000, 32_767),
+    (0xFFFF, 32_767),
+];
+
+/// 64 and 1472 are the first half and the last that is not held.
+const VOLT_MPPT: &Known = &[
+    (0, 0),
+    (1, 21),
+    (2, 41),
+    (63, 1292),
+    (64, 1313),
+    (128, 2625),
+    (1472, 30_188),
+    (1597, 32_751),
+    (1598, 32_767),
+    (0x7FFF, 32_767),
+    (0x8000, 32_767),
+    (0xFFFF, 32_767),
+];
+
+/// 137 and 9929 are the first half and the last that is not held; 10107 comes to
+/// the top by itself.
+const CURR_MPPT: &Known = &[
+    (0, -133),
+    (1, -130),
+    (40, -3),
+    (41, 0),
+    (42, 3),
+    (137, 313),
+    (233, 625),
+    (9929, 32_188),
+    (10_106, 32_764),
+    (10_107, 32_767),
+    (10_108, 32_767),
+    (0x7FFF, 32_767),
+    (0x8000, 32_767),
+    (0xFFFF, 32_767),
+];
+
+#[test]
+fn corners_of_each_row_that_no_reply_has() {
+    let corners = [PIU_TEMP, VOLT_CELL, BAT_TEMP1, VOLT_MPPT, CURR_MPPT];
+    for ((row, field), known) in rows_apart().into_iter().zip(corners) {
+        for (raw, reading) in known {
+            assert_eq!(row.engineering(*raw as u16), *reading, "{raw} by {field:?}");
+        }
+    }
+}
+
+/// How many raw words have an exact value in the middle between two units.
+fn halves(field: Field) -> usize {
+    let is_half =
+        |raw: &u16| (2 * field.exact(*raw)).rem_euclid(2 * field.pos_div) == field.pos_div;
+    (0..=u16::MAX).filter(is_half).count()
+}
+
 #[test]
 fn where_there_are_halves_and_where_not() {
-    let halves = |place: usize| {
-        let field = fields()[place];
-        let is_half =
-            |raw: &u16| (2 * field.exact(*raw)).rem_euclid(2 * field.pos_div) == field.pos_div;
-        (0..=u16::MAX).filter(is_half).count()
-    };
-    let counts = [0, 1, 2, 3, 4, 26, 27, 28].map(halves);
+    let counts = [0, 1, 2, 3, 4, 26, 27, 28].map(|place| halves(fields()[place]));
     assert_eq!(counts, [0, 0, 512, 32, 512, 512, 16, 256]);
+    let counts = rows_apart().map(|(_, field)| halves(field));
+    assert_eq!(counts, [0, 32_768, 16_384, 512, 341]);
 }
 
 /// A board with channels on and latched in both halves, words unread.
