@@ -19,7 +19,7 @@ use Rattle.wire.proofs.TwosComplement.{pattern-fits}
 use Rattle.rounding.specs.Rounding.{held}
 use Rattle.rounding.proofs.Rounding.{held-fits}
 use Rattle.readings.specs.Readings.{rawOf, noneMeasured, measuredAs, rawWords, engineeringWords}
-use Rattle.readings.specs.Table.{unitsOf, engineeringOf}
+use Rattle.readings.specs.Table.{nearestUnits, engineeringOf}
 use Rattle.readings.specs.Layout.{VIP-CH, POWE, _by_, layout, convertedBy, rowAt}
 use Rattle.readings.specs.declared.apart.Raw.{Raw}
 use Rattle.readings.specs.declared.apart.Engineering.{Engineering}
@@ -54,7 +54,7 @@ shownAs in-units k raw = pattern 2 (engineeringOf (rowAt k) raw .0)
 -- an engineering reading is held to 16 bits
 two-bytes : (k : ℕ) (raw : Raw) → shownAs in-units k raw < 2 ^ 16
 unfolding engineeringOf
-two-bytes k raw = pattern-fits w16 (held (unitsOf (rowAt k) raw)) (held-fits (unitsOf (rowAt k) raw)) .fits
+two-bytes k raw = pattern-fits w16 (held (nearestUnits (rowAt k) raw)) (held-fits (nearestUnits (rowAt k) raw)) .fits
 
 -- the words of a reply are 122, and of each the two bytes that are laid out are those that its code shows
 record Laid (p : Part) (b : Board) : Type 0 where
