@@ -1,5 +1,6 @@
 pub mod Examples
 pub mod Filling
+pub mod PackPlaces
 pub mod Places
 pub mod Rows
 pub mod Scaled

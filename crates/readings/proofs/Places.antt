@@ -34,7 +34,7 @@ module _ (f : ℕ → List Place) (three : (k : ℕ) → length (f k) ≡ 3) whe
       rw (m, e) (getD-append-add (upTo n f) (f n) q p))
       (lt-or-le k n)
 
-past : (xs ys : List Place) (n k : ℕ) (p : Place) → length xs ≡ n → getD (xs ++ ys) (n + k) p ≡ getD ys k p
+pub past : {A : Type 0} (xs ys : List A) (n k : ℕ) (p : A) → length xs ≡ n → getD (xs ++ ys) (n + k) p ≡ getD ys k p
 past xs ys n k p e = rw (← e) (getD-append-add xs ys k p)
 
 -- ---- the layout, part by part

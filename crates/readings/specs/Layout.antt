@@ -12,15 +12,21 @@ use Rattle.readings.specs.declared.table.Row.the-variants.{VoltBrdsup, P
 use Rattle.readings.specs.Table.{engineeringOf}
 
 -- ---- the names on the pages
--- a block of three words (VIPD): the input's, a voltage domain's, an output bus channel's
+-- a block of three words (VIPD): the input's, a voltage domain's, an output bus channel's; and on the battery board a
+-- pack's
 pub data Block : Type 0 where
   VIP-INPUT : Block
   VIP-VD VIP-CH : ℕ → Block
+  VIP-BP-INPUT : ℕ → Block
 
--- the word of a field of one word, and of a block its VOLT, its CURR and its POWE
+-- the word of a field of one word, and of a block its VOLT, its CURR and its POWE; and on the battery board the status
+-- of the board, and of a pack its status, its cells and its temperatures
 pub data Field : Type 0 where
   VOLT-BRDSUP TEMP-MCU : Field
   VOLT CURR POWE : Block → Field
+  STAT-BU : Field
+  STAT-BP : ℕ → Field
+  VOLT-CELL BAT-TEMP : ℕ → ℕ → Field
 
 -- a place: a field, and the row for it
 infix 40 _by_

@@ -1,3 +1,4 @@
 pub mod Readings
 pub mod Table
 pub mod Layout
+pub mod Packs

@@ -1,6 +1,7 @@
 // The two kinds of reading. What is inside them can be named in this file alone. A raw reading comes of a word that was
-// measured, or is the 0 before any. An engineering one comes of a raw one by Table 3-12 and of nothing else that leaves
-// this file, and it goes into the bytes of a reply and nowhere else.
+// measured, or is the 0 before any. An engineering one comes of a raw one by Table 3-12, or by Table 3-13 for the
+// temperature of a pack, and of nothing else that leaves this file; and it goes into the bytes of a reply and nowhere
+// else.
 ghost use mathlib.Core.Path.{_≡_};
 ghost use Prim.Native.Nat.{min};
 ghost use lib.ListN.{take, drop};
@@ -8,7 +9,11 @@ ghost use Rattle.wire.specs.Replies as wire-replies;
 ghost use Rattle.readings.specs.Readings.{noneMeasured, measuredAs, rawWords, engineeringWords};
 ghost use Rattle.readings.specs.Table.{engineeringOf};
 ghost use Rattle.readings.specs.Layout.{layout, convertedBy};
+ghost use Rattle.readings.specs.Packs.{packs, packTemperature, wordBy, toldBy};
+ghost use Rattle.wire.specs.Numbers.{pattern};
 use crate::layout::row_at;
+use crate::packs::Way;
+use crate::packs::way_at;
 use crate::table::Row;
 use crate::table::units;
 use wire::Reply;
@@ -68,6 +73,13 @@ pub fn convert(raw: Raw, row: Row) -> Engineering
     Engineering(units(raw.0, row))
 }
 
+// A raw reading of BAT_TEMP2 or BAT_TEMP3 in hundredths of a degree, by the curve of Table 3-13.
+pub fn pack_temperature(raw: Raw) -> Engineering
+    ensures { λ r. ⌜ r ≡ packTemperature raw ⌝ }
+{
+    Engineering(temperature::temperature(raw.0))
+}
+
 // The raw readings of a distribution board in the units of their fields, each by the row of its place.
 pub fn convert_all(raws: [Raw; 130]) -> [Engineering; 122]
     ensures { λ r. ⌜ r ≡ convertedBy layout raws ⌝ }
@@ -118,4 +130,45 @@ pub fn append_engineering(
 {
     let words = patterns(readings);
     reply.append_words(wire::rest_words(wire::first_words(&words, to), from))
+}
+
+// The word of an engineering reading on the wire.
+fn pattern_of(reading: Engineering) -> u16
+    ensures { λ r. ⌜ r ≡ pattern 2 (reading .0) ⌝ }
+{
+    wire::bits16(reading.0)
+}
+
+// The word that 0x62 tells of a raw reading, in the way of its field.
+fn told(raw: Raw, way: Way) -> u16
+    ensures { λ r. ⌜ r ≡ wordBy way raw ⌝ }
+{
+    match way {
+        Way::ByRow(row) => pattern_of(convert(raw, row)),
+        Way::ByCurve => pattern_of(pack_temperature(raw)),
+        Way::AsItIs => raw.0,
+    }
+}
+
+// The words that 0x62 tells of the raw readings of a battery board, each in the way of its place.
+fn packs_told(raws: [Raw; 130]) -> [u16; 39]
+    ensures { λ r. ⌜ r ≡ toldBy packs raws ⌝ }
+{
+    let mut words = [0u16; 39];
+    let mut i = 0;
+    while i < 39 {
+        let raw = raws[i];
+        let way = way_at(i);
+        words[i] = told(raw, way);
+        i += 1;
+    }
+    words
+}
+
+// A reply with the readings of a battery board behind what it shows, as 0x62 tells them.
+pub fn append_packs(reply: Reply, raws: [Raw; 130]) -> Reply
+    ensures { λ r. ⌜ r ≡ wire-replies.after reply (wire-replies.words (toldBy packs raws)) ⌝ }
+{
+    let words = packs_told(raws);
+    reply.append_words(&words)
 }

@@ -5,7 +5,7 @@ ghost use Rattle.readings.specs.Layout.{vipRow, channelRow, rowAt};
 use crate::table::Row;
 
 // The row of a word of the input's block or of a voltage domain's: its VOLT, its CURR or its POWE.
-fn vip_row(word: usize) -> Row
+pub fn vip_row(word: usize) -> Row
     ensures { λ r. ⌜ r ≡ vipRow word ⌝ }
 {
     if word == 0 {
