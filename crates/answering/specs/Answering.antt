@@ -3,25 +3,26 @@
 use Prim.Native.Nat.{ℕ}
 use mathlib.Core.Bool.{Bool, true, false}
 use Rattle.wire.specs.{Replies.replyOf, declared.reply.Reply.Reply}
+use Rattle.kinds.specs.{Kinds.boardOf, declared.Kind.Kind}
 use Rattle.memory.specs.{Memory.loadOf, Memory.defaultedOf, Memory.setIn, Memory.resetIn, Memory.savedOf, declared.Memory.Memory}
-use Rattle.replies.specs.Layouts.{shortReply, faultsReply, housekeepingReply, parameterReply}
-use Rattle.state.specs.{Parts.wordsOf, Parts.inUnitsOf, declared.parts.Board.Board}
+use Rattle.replies.specs.Layouts.{shortReply, faultsReply, housekeepingReply, parameterReply, abfReply, batteryReply}
+use Rattle.state.specs.{Parts.wordsOf, Parts.inUnitsOf, Parts.packsToldOf, declared.parts.Board.Board}
 use Rattle.answers.specs.{Answers.headerOf, Answers.new, Answers.statOf, Parameters.valueRead, declared.Outcome.Outcome}
 use Rattle.answers.specs.declared.Outcome.the-variants.{WrongWordCount, NoTransfer, Answered}
 use Rattle.command.specs.declared.Layout.{Layout}
-use Rattle.command.specs.declared.Layout.the-variants.{Short, Faults, Housekeeping, Parameter, EngineeringHousekeeping}
+use Rattle.command.specs.declared.Layout.the-variants.{Short, Faults, Housekeeping, Parameter, EngineeringHousekeeping, AbfPlacedState, BatteryHousekeeping, EngineeringBatteryHousekeeping}
 use Rattle.effects.specs.{Effects.newWhere, declared.parts.MemoryChange.MemoryChange}
 use Rattle.effects.specs.declared.parts.MemoryChange.the-variants.{AsBefore, Set, ResetOne, Defaults, Load, Save, Restart}
 
--- ---- the memory; a restart is not made by it, but as a whole
-abbrev pub memoryAfter : MemoryChange → Memory → Memory
-memoryAfter AsBefore m = m
-memoryAfter (Set id v) m = setIn id v m
-memoryAfter (ResetOne id) m = resetIn id m
-memoryAfter Defaults m = defaultedOf m
-memoryAfter Load m = loadOf m
-memoryAfter (Save given) m = savedOf given m .memory
-memoryAfter Restart m = m
+-- ---- the memory of a kind of board; a restart is not made by it, but as a whole
+abbrev pub memoryAfter : Kind → MemoryChange → Memory → Memory
+memoryAfter kind AsBefore m = m
+memoryAfter kind (Set id v) m = setIn id v m
+memoryAfter kind (ResetOne id) m = resetIn kind id m
+memoryAfter kind Defaults m = defaultedOf kind m
+memoryAfter kind Load m = loadOf kind m
+memoryAfter kind (Save given) m = savedOf given m .memory
+memoryAfter kind Restart m = m
 
 abbrev pub alters : MemoryChange → Bool
 alters AsBefore = false
@@ -57,3 +58,8 @@ replyTo code outcome (Parameter id) b = replyOf (parameterReply (headerOf (b .pr
 replyTo code outcome EngineeringHousekeeping b =
     replyOf
     (housekeepingReply (headerOf (b .profile)) code (newWhere (b .measured .fresh .engineering)) (b .channels .on) (b .channels .latched) (inUnitsOf b))
+replyTo code outcome AbfPlacedState b = replyOf (abfReply (headerOf (b .profile)) code new (boardOf (b .profile .kind) .abfPlaced))
+replyTo code outcome BatteryHousekeeping b =
+    replyOf (batteryReply (headerOf (b .profile)) code (newWhere (b .measured .fresh .raw)) (wordsOf b))
+replyTo code outcome EngineeringBatteryHousekeeping b =
+    replyOf (batteryReply (headerOf (b .profile)) code (newWhere (b .measured .fresh .engineering)) (packsToldOf b))

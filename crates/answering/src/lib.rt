@@ -5,7 +5,8 @@ ghost use Rattle.wire.specs.Replies.{replyOf};
 ghost use Rattle.kinds.specs.Kinds.{boardOf};
 ghost use Rattle.readings.specs.Readings.{rawWords, engineeringWords};
 ghost use Rattle.readings.specs.Layout as places;
-ghost use Rattle.replies.specs.Layouts.{housekeepingReply};
+ghost use Rattle.readings.specs.Packs.{packs, toldBy};
+ghost use Rattle.replies.specs.Layouts.{housekeepingReply, batteryReply};
 ghost use Rattle.effects.specs.Effects.{newWhere};
 ghost use Rattle.answering.specs.Answering.{statTold, replyTo, alters, isRestart, memoryAfter};
 use answers::Outcome;
@@ -34,7 +35,7 @@ fn stat_told(outcome: Outcome) -> u8
     }
 }
 
-// The status of an accepted 0x50 or 0x52: NEW where the words are still new as readings of that kind.
+// The status of an accepted 0x50, 0x52, 0x60 or 0x62: NEW where the words are still new as readings of that kind.
 fn new_where(fresh: bool) -> u8
     ensures { λ r. ⌜ r ≡ newWhere fresh ⌝ }
 {
@@ -64,6 +65,25 @@ fn engineering_housekeeping(own: Header, code: u8, c: Channels, m: Measured) -> 
     replies::engineering_housekeeping(own, code, stat, c.on(), c.latched(), units)
 }
 
+// The reply of 0x60 of a board with the first of these words, as many as its kind has.
+fn battery_housekeeping(own: Header, code: u8, kind: Kind, m: Measured) -> Reply
+    ensures { λ r. ⌜ r ≡ replyOf (batteryReply own code (newWhere (m .fresh .raw)) (take (boardOf kind .words) (rawWords (m .words)))) ⌝ }
+{
+    let words = m.words;
+    let count = kinds::word_count(kind);
+    let stat = new_where(m.fresh.raw);
+    replies::raw_battery(own, code, stat, words, count)
+}
+
+// The reply of 0x62 of a board with these words, each in the way of its field.
+fn engineering_battery_housekeeping(own: Header, code: u8, m: Measured) -> Reply
+    ensures { λ r. ⌜ r ≡ replyOf (batteryReply own code (newWhere (m .fresh .engineering)) (toldBy packs (m .words))) ⌝ }
+{
+    let words = m.words;
+    let stat = new_where(m.fresh.engineering);
+    replies::engineering_battery(own, code, stat, words)
+}
+
 // The reply of a board whose memory is as after the command and whose words are as new as before it, with the board's
 // own header and not the one that was received.
 pub fn reply_to(b: Board, received: Received, outcome: Outcome, layout: Layout) -> Reply
@@ -71,6 +91,8 @@ pub fn reply_to(b: Board, received: Received, outcome: Outcome, layout: Layout) 
 {
     let own = header(b.profile);
     let c = b.channels;
+    let profile = b.profile;
+    let kind = profile.kind;
     match layout {
         Layout::Short => replies::short(own, received.code, stat_told(outcome)),
         Layout::Faults => replies::faults(
@@ -81,17 +103,22 @@ pub fn reply_to(b: Board, received: Received, outcome: Outcome, layout: Layout) 
             c.latched(),
             c.counts(),
         ),
-        Layout::Housekeeping => {
-            let profile = b.profile;
-            let kind = profile.kind;
-            housekeeping(own, received.code, kind, c, b.measured)
-        }
+        Layout::Housekeeping => housekeeping(own, received.code, kind, c, b.measured),
         Layout::Parameter(id) => {
             let value = value_read(b.profile, b.memory, b.resets, id);
             replies::parameter(own, received.code, 0x80, id, value)
         }
         Layout::EngineeringHousekeeping => {
             engineering_housekeeping(own, received.code, c, b.measured)
+        }
+        Layout::AbfPlacedState => {
+            replies::abf(own, received.code, 0x80, kinds::abf_placed(kind))
+        }
+        Layout::BatteryHousekeeping => {
+            battery_housekeeping(own, received.code, kind, b.measured)
+        }
+        Layout::EngineeringBatteryHousekeeping => {
+            engineering_battery_housekeeping(own, received.code, b.measured)
         }
     }
 }
@@ -126,16 +153,16 @@ pub fn is_restart(change: MemoryChange) -> bool
     }
 }
 
-// The memory after a command that does not start the board over. A save that is refused leaves it.
-pub fn memory_after(m: Memory, change: MemoryChange) -> Memory
-    ensures { λ r. ⌜ r ≡ memoryAfter change m ⌝ }
+// The memory of a kind of board after a command that does not start it over. A save that is refused leaves it.
+pub fn memory_after(kind: Kind, m: Memory, change: MemoryChange) -> Memory
+    ensures { λ r. ⌜ r ≡ memoryAfter kind change m ⌝ }
 {
     match change {
         MemoryChange::AsBefore => m,
         MemoryChange::Set(id, v) => m.set(id, v),
-        MemoryChange::ResetOne(id) => m.reset_one(id),
-        MemoryChange::Defaults => m.to_defaults(),
-        MemoryChange::Load => m.load(),
+        MemoryChange::ResetOne(id) => m.reset_one(kind, id),
+        MemoryChange::Defaults => m.to_defaults(kind),
+        MemoryChange::Load => m.load(kind),
         MemoryChange::Save(checksum) => {
             let s = m.save(checksum);
             s.memory

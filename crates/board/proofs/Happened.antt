@@ -36,7 +36,7 @@ use Rattle.answers.specs.declared.Answer.the-variants.{Accepted, FewerThanFourB
 use Rattle.answers.specs.declared.Outcome.{Outcome}
 use Rattle.answers.specs.declared.Outcome.the-variants.{NoTransfer, Answered}
 use Rattle.answers.specs.declared.Commanded.{Commanded}
-use Rattle.effects.specs.Effects.{isNominal, switchedOf, groupOnOf, groupOffOf, groupStateOf, channelOnOf, channelOffOf, cancelledOf, switchedModeOf, faultsOf, housekeepingOf, engineeringHousekeepingOf, parameterAnswered, rememberedOf, savedIn, restartedOf, reportedOf, runOf}
+use Rattle.effects.specs.Effects.{isNominal, switchedOf, groupOnOf, groupOffOf, groupStateOf, channelOnOf, channelOffOf, cancelledOf, switchedModeOf, faultsOf, housekeepingOf, engineeringHousekeepingOf, abfOf, batteryHousekeepingOf, engineeringBatteryHousekeepingOf, parameterAnswered, rememberedOf, savedIn, restartedOf, reportedOf, runOf}
 use Rattle.commands.specs.Step.{readBy, transferredOf, commandedOf}
 use Rattle.commands.proofs.Stepwise.{turnedDown, decodedOf, steppedOf}
 use Rattle.commands.proofs.Told.{stepwise, numbered}
@@ -72,15 +72,18 @@ module _ (r : Reply) where
   switched-mode code change.ModeAnswer.Unavailable b = replies NotAvailable refl refl refl
 
   reported : (code : ℕ) (layout : Layout) (b : Board) → Answers b (reportedOf code layout b) (reportedOf code layout (withReply r b))
-  unfolding reportedOf faultsOf housekeepingOf engineeringHousekeepingOf parameterAnswered acceptedOf acceptedWith
+  unfolding reportedOf faultsOf housekeepingOf engineeringHousekeepingOf abfOf batteryHousekeepingOf engineeringBatteryHousekeepingOf parameterAnswered acceptedOf acceptedWith
   reported code Layout.Short b = replies Accepted refl refl refl
   reported code Layout.Faults b = replies Accepted refl refl refl
   reported code Layout.Housekeeping b = replies Accepted refl refl refl
   reported code (Layout.Parameter id) b = replies Accepted refl refl refl
   reported code Layout.EngineeringHousekeeping b = replies Accepted refl refl refl
+  reported code Layout.AbfPlacedState b = replies Accepted refl refl refl
+  reported code Layout.BatteryHousekeeping b = replies Accepted refl refl refl
+  reported code Layout.EngineeringBatteryHousekeeping b = replies Accepted refl refl refl
 
   run : (rail : ℤ) (limits : Limits) (code : ℕ) (c : Command) (b : Board) → Answers b (runOf rail limits code c b) (runOf rail limits code c (withReply r b))
-  unfolding runOf groupOnOf groupOffOf groupStateOf channelOnOf channelOffOf cancelledOf faultsOf housekeepingOf engineeringHousekeepingOf parameterAnswered rememberedOf savedIn restartedOf refusedOf acceptedOf acceptedWith
+  unfolding runOf groupOnOf groupOffOf groupStateOf channelOnOf channelOffOf cancelledOf faultsOf housekeepingOf engineeringHousekeepingOf abfOf batteryHousekeepingOf engineeringBatteryHousekeepingOf parameterAnswered rememberedOf savedIn restartedOf refusedOf acceptedOf acceptedWith
   run rail limits code (Command.GroupOn g) b = switched code _ _ b
   run rail limits code (Command.GroupOff g) b = switched code _ _ b
   run rail limits code (Command.GroupState g) b = switched code _ _ b

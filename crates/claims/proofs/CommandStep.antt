@@ -35,7 +35,7 @@ use Rattle.answers.specs.declared.Answer.{Answer}
 use Rattle.answers.specs.declared.Answer.the-variants.{Accepted}
 use Rattle.answers.specs.declared.Outcome.the-variants.{Answered}
 use Rattle.answers.specs.declared.Commanded.{Commanded}
-use Rattle.effects.specs.Effects.{isNominal, switchedOf, groupOnOf, groupOffOf, groupStateOf, channelOnOf, channelOffOf, cancelledOf, switchedModeOf, faultsOf, housekeepingOf, engineeringHousekeepingOf, parameterAnswered, rememberedOf, savedIn, restartedOf, reportedOf, runOf}
+use Rattle.effects.specs.Effects.{isNominal, switchedOf, groupOnOf, groupOffOf, groupStateOf, channelOnOf, channelOffOf, cancelledOf, switchedModeOf, faultsOf, housekeepingOf, engineeringHousekeepingOf, abfOf, batteryHousekeepingOf, engineeringBatteryHousekeepingOf, parameterAnswered, rememberedOf, savedIn, restartedOf, reportedOf, runOf}
 use Rattle.asking.specs.Checks.{isStartup}
 use Rattle.commands.specs.Step.{transferredOf, commandedOf}
 use Rattle.commands.proofs.Stepwise.{turnedDown, decodedOf, steppedOf}
@@ -156,16 +156,19 @@ module _ (rail : ℤ) (limits : Limits) (b : Board) where
 
   -- a command that only has something told
   reported : (code : ℕ) (layout : Layout) → Stays b (reportedOf code layout b .board)
-  unfolding reportedOf faultsOf housekeepingOf engineeringHousekeepingOf parameterAnswered acceptedOf
+  unfolding reportedOf faultsOf housekeepingOf engineeringHousekeepingOf abfOf batteryHousekeepingOf engineeringBatteryHousekeepingOf parameterAnswered acceptedOf
   reported code Layout.Short = accepted _
   reported code Layout.Faults = accepted _
   reported code Layout.Housekeeping = measured _ _
   reported code (Layout.Parameter id) = remembers _ _
   reported code Layout.EngineeringHousekeeping = measured _ _
+  reported code Layout.AbfPlacedState = accepted _
+  reported code Layout.BatteryHousekeeping = measured _ _
+  reported code Layout.EngineeringBatteryHousekeeping = measured _ _
 
   -- every command of the list
   run : (code : ℕ) (c : Command) → DoesIt (Run c) (runOf rail limits code c b)
-  unfolding runOf groupOnOf groupOffOf groupStateOf channelOnOf channelOffOf cancelledOf faultsOf housekeepingOf engineeringHousekeepingOf parameterAnswered rememberedOf restartedOf acceptedOf
+  unfolding runOf groupOnOf groupOffOf groupStateOf channelOnOf channelOffOf cancelledOf faultsOf housekeepingOf engineeringHousekeepingOf abfOf batteryHousekeepingOf engineeringBatteryHousekeepingOf parameterAnswered rememberedOf restartedOf acceptedOf
   run code (Command.GroupOn g) = switched _ refl code _ (of-channels.group-on (g .spoken) (g .mask))
   run code (Command.GroupOff g) = switched _ refl code _ (of-channels.group-off (g .spoken) (g .mask))
   run code (Command.GroupState g) = switched _ refl code _ (of-channels.group-state (g .spoken) (g .mask))

@@ -32,13 +32,13 @@ use Rattle.watchdog.specs.declared.Event.{Event}
 use Rattle.watchdog.specs.declared.Event.the-variants.{NoEvent, PeripheralReset, WatchdogReset}
 use Rattle.memory.specs.Limits.{limitsOf}
 use Rattle.memory.specs.Memory.{savedOf}
-use Rattle.replies.specs.Layouts.{shortReply, faultsReply, housekeepingReply, parameterReply}
+use Rattle.replies.specs.Layouts.{shortReply, faultsReply, housekeepingReply, parameterReply, abfReply, batteryReply}
 use Rattle.state.specs.Parts.{modeOf, wordCount}
 use Rattle.state.specs.declared.parts.Board.{Board}
 use Rattle.answers.specs.Answers.{toldNumber, acceptedWith, acceptedOf, refusedOf, notThisBoardOf}
 use Rattle.answers.specs.declared.Answer.{Answer}
 use Rattle.answers.specs.declared.Commanded.{Commanded}
-use Rattle.effects.specs.Effects.{isNominal, switchedOf, groupOnOf, groupOffOf, groupStateOf, channelOnOf, channelOffOf, cancelledOf, switchedModeOf, faultsOf, housekeepingOf, engineeringHousekeepingOf, parameterAnswered, rememberedOf, savedIn, restartedOf, reportedOf, runOf}
+use Rattle.effects.specs.Effects.{isNominal, switchedOf, groupOnOf, groupOffOf, groupStateOf, channelOnOf, channelOffOf, cancelledOf, switchedModeOf, faultsOf, housekeepingOf, engineeringHousekeepingOf, abfOf, batteryHousekeepingOf, engineeringBatteryHousekeepingOf, parameterAnswered, rememberedOf, savedIn, restartedOf, reportedOf, runOf}
 use Rattle.asking.specs.Checks.{isStartup}
 use Rattle.commands.specs.Step.{readBy, commandedOf}
 use Rattle.commands.proofs.Stepwise.{turnedDown, decodedOf, steppedOf}
@@ -109,15 +109,18 @@ module _ (code : ℕ) where
   switched-mode change.ModeAnswer.Unavailable b = refused _ b
 
   reported : (layout : Layout) (b : Board) → Coded (reportedOf code layout b)
-  unfolding reportedOf faultsOf housekeepingOf engineeringHousekeepingOf parameterAnswered acceptedWith faultsReply housekeepingReply parameterReply laidOut bytesOf
+  unfolding reportedOf faultsOf housekeepingOf engineeringHousekeepingOf abfOf batteryHousekeepingOf engineeringBatteryHousekeepingOf parameterAnswered acceptedWith faultsReply housekeepingReply parameterReply abfReply batteryReply laidOut bytesOf
   reported Layout.Short b = accepted _
   reported Layout.Faults b = coded (byte-2 _ _ _ _)
   reported Layout.Housekeeping b = coded (byte-2 _ _ _ _)
   reported (Layout.Parameter id) b = coded (byte-2 _ _ _ _)
   reported Layout.EngineeringHousekeeping b = coded (byte-2 _ _ _ _)
+  reported Layout.AbfPlacedState b = coded (byte-2 _ _ _ _)
+  reported Layout.BatteryHousekeeping b = coded (byte-2 _ _ _ _)
+  reported Layout.EngineeringBatteryHousekeeping b = coded (byte-2 _ _ _ _)
 
   run : (rail : ℤ) (limits : Limits) (c : Command) (b : Board) → Coded (runOf rail limits code c b)
-  unfolding runOf reportedOf groupOnOf groupOffOf groupStateOf channelOnOf channelOffOf cancelledOf faultsOf housekeepingOf engineeringHousekeepingOf parameterAnswered rememberedOf savedIn restartedOf acceptedWith faultsReply housekeepingReply parameterReply laidOut bytesOf
+  unfolding runOf reportedOf groupOnOf groupOffOf groupStateOf channelOnOf channelOffOf cancelledOf faultsOf housekeepingOf engineeringHousekeepingOf abfOf batteryHousekeepingOf engineeringBatteryHousekeepingOf parameterAnswered rememberedOf savedIn restartedOf acceptedWith faultsReply housekeepingReply parameterReply abfReply batteryReply laidOut bytesOf
   run rail limits (Command.GroupOn g) b = switched _ _ b
   run rail limits (Command.GroupOff g) b = switched _ _ b
   run rail limits (Command.GroupState g) b = switched _ _ b

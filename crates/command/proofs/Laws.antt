@@ -130,7 +130,7 @@ module _ (s : List ℕ) where
       and (plain 6 _ ∙ ap (cond (ltb (length s) 6) 5) (get-number (idOf s) (parameterOf (idOf s))))
       and (plain 6 _ ∙ ap (cond (ltb (length s) 6) 5) (set-number (idOf s) (parameterOf (idOf s)) (valuePart s)))
       and (plain 6 _ ∙ ap (cond (ltb (length s) 6) 5) (reset-number (idOf s) (parameterOf (idOf s))))
-      and keyed 5 0xA7 _ and keyed 5 0xA7 _ and keyed 7 0xA7 _ and plain 4 _ and none)
+      and keyed 5 0xA7 _ and keyed 5 0xA7 _ and keyed 7 0xA7 _ and plain 4 _ and plain 4 _ and plain 4 _ and plain 4 _ and none)
 
 -- ---- the first check that applies answers
 differs : (a b c : Bool) → not (a && b && c) ≡ (not a || not b || not c)

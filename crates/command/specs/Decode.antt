@@ -119,6 +119,9 @@ carried Name.ResetConfiguration s = Run Command.ResetConfiguration
 carried Name.LoadConfiguration s = Run Command.LoadConfiguration
 carried Name.SaveConfiguration s = Run (Command.SaveConfiguration (checksumIn s))
 carried Name.GetEngineeringHousekeeping s = Run (Command.Report Layout.EngineeringHousekeeping)
+carried Name.GetAbfPlacedState s = Run (Command.Report Layout.AbfPlacedState)
+carried Name.GetBatteryHousekeeping s = Run (Command.Report Layout.BatteryHousekeeping)
+carried Name.GetEngineeringBatteryHousekeeping s = Run (Command.Report Layout.EngineeringBatteryHousekeeping)
 
 -- ---- a code of the table: long enough, with its key, and then what it carries
 unfoldable pub listed : Listed → List ℕ → Decoded

@@ -37,6 +37,9 @@ commandTable =
     ∷ 0x92 is Name.LoadConfiguration of 5 bytes-with-key 0xA7  -- page 70
     ∷ 0x94 is Name.SaveConfiguration of 7 bytes-with-key 0xA7  -- page 71
     ∷ 0x52 is Name.GetEngineeringHousekeeping of 4 bytes  -- page 51
+    ∷ 0x44 is Name.GetAbfPlacedState of 4 bytes  -- page 46
+    ∷ 0x60 is Name.GetBatteryHousekeeping of 4 bytes  -- page 55
+    ∷ 0x62 is Name.GetEngineeringBatteryHousekeeping of 4 bytes  -- page 57
     ∷ []
 
 -- what such rows say of a code: its row, or that it has none

@@ -45,6 +45,9 @@ enum Name {
     LoadConfiguration,
     SaveConfiguration,
     GetEngineeringHousekeeping,
+    GetAbfPlacedState,
+    GetBatteryHousekeeping,
+    GetEngineeringBatteryHousekeeping,
 }
 
 // What the table of commands says of a code: the command and the bytes it needs, with its key where it has one.
@@ -55,18 +58,22 @@ enum Listed {
 }
 
 // How a reply is laid out, by what it tells: nothing more than its 5 bytes, the overcurrent faults, the measured words
-// as raw readings, a parameter, or the measured words as engineering readings.
+// as raw readings, a parameter, or the measured words as engineering readings; and of a battery board whether its ABF is
+// placed, and its measured words as raw and as engineering readings.
 pub enum Layout {
     Short,
     Faults,
     Housekeeping,
     Parameter(u16),
     EngineeringHousekeeping,
+    AbfPlacedState,
+    BatteryHousekeeping,
+    EngineeringBatteryHousekeeping,
 }
 
 // A command with what it carries: a group, a channel, a parameter's id, an id and a value, or a checksum. The commands
-// that change neither mode, channels nor memory are one case with the layout of their reply: 0x02, 0x06, 0x42, 0x82,
-// and 0x50 and 0x52, each of which ends its own NEW besides.
+// that change neither mode, channels nor memory are one case with the layout of their reply: 0x02, 0x06, 0x42, 0x44,
+// 0x82, and 0x50, 0x52, 0x60 and 0x62, each of which ends its own NEW besides.
 pub enum Command {
     SystemReset,
     CancelOperation,
@@ -159,6 +166,9 @@ fn listed_as(code: u8) -> Listed
         0x92 => Listed::Keyed(Name::LoadConfiguration, 5, 0xA7),
         0x94 => Listed::Keyed(Name::SaveConfiguration, 7, 0xA7),
         0x52 => Listed::Plain(Name::GetEngineeringHousekeeping, 4),
+        0x44 => Listed::Plain(Name::GetAbfPlacedState, 4),
+        0x60 => Listed::Plain(Name::GetBatteryHousekeeping, 4),
+        0x62 => Listed::Plain(Name::GetEngineeringBatteryHousekeeping, 4),
         _ => Listed::Missing,
     }
 }
@@ -252,6 +262,11 @@ fn carried(name: Name, transfer: &[u8]) -> Decoded
         ))),
         Name::GetEngineeringHousekeeping => Decoded::Run(Command::Report(
             Layout::EngineeringHousekeeping,
+        )),
+        Name::GetAbfPlacedState => Decoded::Run(Command::Report(Layout::AbfPlacedState)),
+        Name::GetBatteryHousekeeping => Decoded::Run(Command::Report(Layout::BatteryHousekeeping)),
+        Name::GetEngineeringBatteryHousekeeping => Decoded::Run(Command::Report(
+            Layout::EngineeringBatteryHousekeeping,
         )),
     }
 }

@@ -37,7 +37,7 @@ use Rattle.state.specs.declared.parts.Board.{Board}
 use Rattle.answers.specs.Answers.{toldNumber, acceptedWith, acceptedOf, refusedOf, notThisBoardOf}
 use Rattle.answers.specs.declared.Answer.{Answer}
 use Rattle.answers.specs.declared.Commanded.{Commanded}
-use Rattle.effects.specs.Effects.{isNominal, switchedOf, groupOnOf, groupOffOf, groupStateOf, channelOnOf, channelOffOf, cancelledOf, switchedModeOf, faultsOf, housekeepingOf, engineeringHousekeepingOf, parameterAnswered as parameterRun, rememberedOf, savedIn, restartedOf, reportedOf, runOf}
+use Rattle.effects.specs.Effects.{isNominal, switchedOf, groupOnOf, groupOffOf, groupStateOf, channelOnOf, channelOffOf, cancelledOf, switchedModeOf, faultsOf, housekeepingOf, engineeringHousekeepingOf, abfOf, batteryHousekeepingOf, engineeringBatteryHousekeepingOf, parameterAnswered as parameterRun, rememberedOf, savedIn, restartedOf, reportedOf, runOf}
 use Rattle.asking.specs.Checks.{_is_, isStartup, channelCodes, unavailable, channelWrong, checksumWrong, checksOf}
 use Rattle.commands.proofs.Stepwise.{turnedDown, decodedOf, steppedOf}
 
@@ -156,7 +156,7 @@ module _ (rail : ℤ) (limits : Limits) (b : Board) where
 
     -- a command of the list
     in-list : isStartup (modeOf b) ≡ false → (code : ℕ) → isIn code tableCodes ≡ true → toldOf code (listed (find commandTable code) s) ≡ some (first (behind-4 code))
-    unfolding listed find commandTable first isIn idWrong unavailable channelCodes channelWrong checksumWrong carried getting setting resetting decodedOf runOf reportedOf acceptedOf acceptedWith groupOnOf groupOffOf groupStateOf channelOnOf channelOffOf cancelledOf faultsOf housekeepingOf engineeringHousekeepingOf rememberedOf restartedOf toSafety toNominal
+    unfolding listed find commandTable first isIn idWrong unavailable channelCodes channelWrong checksumWrong carried getting setting resetting decodedOf runOf reportedOf acceptedOf acceptedWith groupOnOf groupOffOf groupStateOf channelOnOf channelOffOf cancelledOf faultsOf housekeepingOf engineeringHousekeepingOf abfOf batteryHousekeepingOf engineeringBatteryHousekeepingOf rememberedOf restartedOf toSafety toNominal
     in-list started code h =
         at-code (λ k. toldOf k (listed (find commandTable k) s) ≡ some (first (behind-4 k))) code tableCodes h
         (keyed 0xAA 5 0xA6 _ refl
@@ -179,6 +179,9 @@ module _ (rail : ℤ) (limits : Limits) (b : Board) where
         and keyed 0x92 5 0xA7 _ refl
         and keyed 0x94 7 0xA7 _ (saved 0x94 b _)
         and plain 0x52 4 _ refl
+        and plain 0x44 4 _ refl
+        and plain 0x60 4 _ refl
+        and plain 0x62 4 _ refl
         and none)
 
     -- ---- the whole table

@@ -28,7 +28,7 @@ use Rattle.answers.specs.declared.Answer.{Answer}
 use Rattle.answers.specs.declared.Answer.the-variants.{Accepted, FewerThanFourBytes, InStartup, NotThisBoard, CodeNotListed, TooShort, NotAvailable, Wrong}
 use Rattle.answers.specs.declared.Outcome.the-variants.{Answered}
 use Rattle.answers.specs.declared.Commanded.{Commanded}
-use Rattle.effects.specs.Effects.{isNominal, switchedOf, groupOnOf, groupOffOf, groupStateOf, channelOnOf, channelOffOf, cancelledOf, switchedModeOf, faultsOf, housekeepingOf, engineeringHousekeepingOf, parameterAnswered, rememberedOf, savedIn, restartedOf, reportedOf, runOf}
+use Rattle.effects.specs.Effects.{isNominal, switchedOf, groupOnOf, groupOffOf, groupStateOf, channelOnOf, channelOffOf, cancelledOf, switchedModeOf, faultsOf, housekeepingOf, engineeringHousekeepingOf, abfOf, batteryHousekeepingOf, engineeringBatteryHousekeepingOf, parameterAnswered, rememberedOf, savedIn, restartedOf, reportedOf, runOf}
 use Rattle.asking.specs.Checks.{checksOf}
 use Rattle.commands.specs.Step.{doneOf, readBy, returning, transferredOf, commandedOf, numberOf}
 use Rattle.commands.proofs.Order.{in-order}
@@ -72,15 +72,18 @@ module _ (code : ℕ) (b : Board) where
   switched-mode change.ModeAnswer.Unavailable = not-available
 
   reported : (layout : Layout) → Result code b (reportedOf code layout b)
-  unfolding reportedOf faultsOf housekeepingOf engineeringHousekeepingOf parameterAnswered acceptedOf acceptedWith
+  unfolding reportedOf faultsOf housekeepingOf engineeringHousekeepingOf abfOf batteryHousekeepingOf engineeringBatteryHousekeepingOf parameterAnswered acceptedOf acceptedWith
   reported Layout.Short = accepted refl refl
   reported Layout.Faults = accepted refl refl
   reported Layout.Housekeeping = accepted refl refl
   reported (Layout.Parameter id) = accepted refl refl
   reported Layout.EngineeringHousekeeping = accepted refl refl
+  reported Layout.AbfPlacedState = accepted refl refl
+  reported Layout.BatteryHousekeeping = accepted refl refl
+  reported Layout.EngineeringBatteryHousekeeping = accepted refl refl
 
   run : (rail : ℤ) (limits : Limits) (c : Command) → Result code b (runOf rail limits code c b)
-  unfolding runOf groupOnOf groupOffOf groupStateOf channelOnOf channelOffOf cancelledOf faultsOf housekeepingOf engineeringHousekeepingOf parameterAnswered rememberedOf savedIn restartedOf acceptedOf acceptedWith commandResetOf freshOf
+  unfolding runOf groupOnOf groupOffOf groupStateOf channelOnOf channelOffOf cancelledOf faultsOf housekeepingOf engineeringHousekeepingOf abfOf batteryHousekeepingOf engineeringBatteryHousekeepingOf parameterAnswered rememberedOf savedIn restartedOf acceptedOf acceptedWith commandResetOf freshOf
   run rail limits (Command.GroupOn g) = switched _ _
   run rail limits (Command.GroupOff g) = switched _ _
   run rail limits (Command.GroupState g) = switched _ _

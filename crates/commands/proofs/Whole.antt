@@ -19,7 +19,7 @@ use Rattle.state.specs.Start.{commandResetOf}
 use Rattle.state.specs.declared.parts.Board.{Board}
 use Rattle.answers.specs.Answers.{toldNumber, acceptedWith, acceptedOf, refusedOf, notThisBoardOf}
 use Rattle.answers.specs.declared.Commanded.{Commanded}
-use Rattle.effects.specs.Effects.{isNominal, switchedOf, groupOnOf, groupOffOf, groupStateOf, channelOnOf, channelOffOf, cancelledOf, switchedModeOf, faultsOf, housekeepingOf, engineeringHousekeepingOf, parameterAnswered, rememberedOf, savedIn, restartedOf, reportedOf, runOf}
+use Rattle.effects.specs.Effects.{isNominal, switchedOf, groupOnOf, groupOffOf, groupStateOf, channelOnOf, channelOffOf, cancelledOf, switchedModeOf, faultsOf, housekeepingOf, engineeringHousekeepingOf, abfOf, batteryHousekeepingOf, engineeringBatteryHousekeepingOf, parameterAnswered, rememberedOf, savedIn, restartedOf, reportedOf, runOf}
 use Rattle.asking.specs.Asked.{askedBy, askedOf}
 use Rattle.asking.specs.declared.Asked.{Asked}
 use Rattle.asking.specs.declared.Asked.the-variants as asked
@@ -31,12 +31,12 @@ use Rattle.effects.specs.Parts.{obeyedIn}
 use Rattle.commands.specs.Parts.{askedIn, memoryChangeAsked, layoutAsked}
 use Rattle.effects.specs.declared.parts.Obeyed.{Obeyed}
 use Rattle.command.specs.declared.Layout.{Layout}
-use Rattle.command.specs.declared.Layout.the-variants.{Short, Faults, Housekeeping, Parameter, EngineeringHousekeeping}
+use Rattle.command.specs.declared.Layout.the-variants.{Short, Faults, Housekeeping, Parameter, EngineeringHousekeeping, AbfPlacedState, BatteryHousekeeping, EngineeringBatteryHousekeeping}
 use Rattle.effects.specs.declared.parts.MemoryChange.{MemoryChange}
 
 -- ---- a board, part after part
 abbrev pub altered : MemoryChange → Board → Board
-altered how b = cond (alters how) (withMemory (memoryAfter how (b .memory)) b) b
+altered how b = cond (alters how) (withMemory (memoryAfter (b .profile .kind) how (b .memory)) b) b
 
 abbrev pub replied : ℕ → Obeyed → Layout → Board → Board
 replied code told layout b = cond (told .replied) (withReply (replyTo code (told .outcome) layout b) b) b
@@ -84,15 +84,18 @@ module _ (code : ℕ) (b : Board) where
   saved given = cases (isRight given (b .memory)) (λ e. rw e) (λ e. rw e)
 
   reported : (layout : Layout) → whole code (asked.Run (Command.Report layout)) (obeyedIn (reportedOf 0 layout b)) b ≡ reportedOf code layout b
-  unfolding reportedOf faultsOf housekeepingOf engineeringHousekeepingOf parameterAnswered replyTo acceptedOf acceptedWith
+  unfolding reportedOf faultsOf housekeepingOf engineeringHousekeepingOf abfOf batteryHousekeepingOf engineeringBatteryHousekeepingOf parameterAnswered replyTo acceptedOf acceptedWith
   reported Short = refl
   reported Faults = refl
   reported Housekeeping = refl
   reported (Parameter id) = refl
   reported EngineeringHousekeeping = refl
+  reported AbfPlacedState = refl
+  reported BatteryHousekeeping = refl
+  reported EngineeringBatteryHousekeeping = refl
 
   run : (rail : ℤ) (limits : Limits) (c : Command) → whole code (asked.Run c) (obeyedIn (runOf rail limits 0 c b)) b ≡ runOf rail limits code c b
-  unfolding runOf groupOnOf groupOffOf groupStateOf channelOnOf channelOffOf cancelledOf faultsOf housekeepingOf engineeringHousekeepingOf parameterAnswered rememberedOf restartedOf commandResetOf replyTo acceptedOf acceptedWith
+  unfolding runOf groupOnOf groupOffOf groupStateOf channelOnOf channelOffOf cancelledOf faultsOf housekeepingOf engineeringHousekeepingOf abfOf batteryHousekeepingOf engineeringBatteryHousekeepingOf parameterAnswered rememberedOf restartedOf commandResetOf replyTo acceptedOf acceptedWith
   run rail limits (Command.GroupOn g) = switched _ _
   run rail limits (Command.GroupOff g) = switched _ _
   run rail limits (Command.GroupState g) = switched _ _

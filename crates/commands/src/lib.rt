@@ -116,7 +116,7 @@ pub fn commanded(mut b: Board, rail: i16, limits: Limits, sent: bool, transfer: 
     let outcome = told.outcome;
     let replied = told.replied;
     if is_altering(change) {
-        let memory = memory_after(b.memory, change);
+        let memory = memory_after(kind, b.memory, change);
         b.memory = memory;
     }
     if replied {

@@ -1,5 +1,5 @@
--- Document 01's effects, command by command, in its order, and behind 0x50 that of document 02's 0x52. Where a command
--- knows a 6 or a 7 of its own, its function answers that too; the step takes an effect only where no check applies, so
+-- Document 01's effects, command by command, in its order, and behind 0x50 those of document 02's 0x52, 0x44, 0x60 and
+-- 0x62, of which the last three are a battery board's. Where a command knows a 6 or a 7 of its own, its function answers that too; the step takes an effect only where no check applies, so
 -- there those rows are not reached. `code` is the command's code, from which the reply's is made; the last argument is
 -- the board as the command finds it. Assumes nothing: these are definitions.
 use Prim.Native.Nat.{ℕ}
@@ -9,12 +9,13 @@ use Rattle.wire.specs.Replies.{replyOf}
 use Rattle.modes.specs.{Commands.toSafety, Commands.toNominal, declared.Mode.Mode, declared.Limits.Limits}
 use Rattle.modes.specs.declared.Mode.the-variants.{Startup, Nominal, Safety, Emergency}
 use Rattle.modes.specs.declared.ModeAnswer as switch
+use Rattle.kinds.specs.Kinds.{boardOf}
 use Rattle.channels.specs.Operations.{groupOn, groupOff, groupState, switchOn, switchOff, commandEnabledOff, wrongToSwitchOn, wrongToSwitchOff}
 use Rattle.channels.specs.declared.Channels.{Channels}
 use Rattle.command.specs.{declared.Group.Group, declared.Command.Command, declared.Layout.Layout}
 use Rattle.memory.specs.{Memory.loadOf, Memory.defaultedOf, Memory.setIn, Memory.resetIn, Memory.savedOf, declared.Memory.Memory}
-use Rattle.replies.specs.Layouts.{faultsReply, housekeepingReply, parameterReply}
-use Rattle.state.specs.{Parts.modeOf, Parts.wordsOf, Parts.inUnitsOf, Parts.withPhase, Parts.withMemory, Parts.withChannels, Parts.withMeasured, Start.commandResetOf}
+use Rattle.replies.specs.Layouts.{faultsReply, housekeepingReply, parameterReply, abfReply, batteryReply}
+use Rattle.state.specs.{Parts.modeOf, Parts.wordsOf, Parts.inUnitsOf, Parts.packsToldOf, Parts.withPhase, Parts.withMemory, Parts.withChannels, Parts.withMeasured, Start.commandResetOf}
 use Rattle.state.specs.{declared.parts.Board.Board, declared.parts.Measured.Measured}
 use Rattle.change.specs.Change.{enteringOf}
 use Rattle.answers.specs.Answers.{headerOf, new, silentOf, acceptedWith, acceptedOf, refusedOf}
@@ -101,6 +102,24 @@ engineeringHousekeepingOf code b =
     (housekeepingReply (headerOf (b .profile)) code (newWhere (b .measured .fresh .engineering)) (b .channels .on) (b .channels .latched) (inUnitsOf b)))
     (withMeasured (seenInUnits (b .measured)) b)
 
+-- ---- 0x44: whether the ABF is placed
+unfoldable pub abfOf : ℕ → Board → Commanded
+abfOf code b = acceptedWith (replyOf (abfReply (headerOf (b .profile)) code new (boardOf (b .profile .kind) .abfPlaced))) b
+
+-- ---- 0x60: the words that count, in the battery board's layout, and NEW as on 0x50
+unfoldable pub batteryHousekeepingOf : ℕ → Board → Commanded
+batteryHousekeepingOf code b =
+    acceptedWith
+    (replyOf (batteryReply (headerOf (b .profile)) code (newWhere (b .measured .fresh .raw)) (wordsOf b)))
+    (withMeasured (seen (b .measured)) b)
+
+-- ---- 0x62: the same layout, each measured word in the way of its field, and NEW as on 0x52
+unfoldable pub engineeringBatteryHousekeepingOf : ℕ → Board → Commanded
+engineeringBatteryHousekeepingOf code b =
+    acceptedWith
+    (replyOf (batteryReply (headerOf (b .profile)) code (newWhere (b .measured .fresh .engineering)) (packsToldOf b)))
+    (withMeasured (seenInUnits (b .measured)) b)
+
 -- ---- 0x82, 0x84 and 0x86: a parameter is read, set, or reset; the reply has the value that the id then reads
 unfoldable pub parameterAnswered : ℕ → ℕ → Memory → Board → Commanded
 parameterAnswered code id memory b =
@@ -130,6 +149,9 @@ reportedOf code Layout.Faults b = faultsOf code b
 reportedOf code Layout.Housekeeping b = housekeepingOf code b
 reportedOf code (Layout.Parameter id) b = parameterAnswered code id (b .memory) b
 reportedOf code Layout.EngineeringHousekeeping b = engineeringHousekeepingOf code b
+reportedOf code Layout.AbfPlacedState b = abfOf code b
+reportedOf code Layout.BatteryHousekeeping b = batteryHousekeepingOf code b
+reportedOf code Layout.EngineeringBatteryHousekeeping b = engineeringBatteryHousekeepingOf code b
 
 -- ---- each command
 unfoldable pub runOf : ℤ → Limits → ℕ → Command → Board → Commanded
@@ -142,9 +164,9 @@ runOf rail limits code Command.CancelOperation b = cancelledOf code b
 runOf rail limits code Command.SwitchToSafety b = switchedModeOf code (toSafety (b .phase)) b
 runOf rail limits code Command.SwitchToNominal b = switchedModeOf code (toNominal (b .phase) rail limits) b
 runOf rail limits code (Command.SetParameter id v) b = parameterAnswered code id (setIn id v (b .memory)) b
-runOf rail limits code (Command.ResetParameter id) b = parameterAnswered code id (resetIn id (b .memory)) b
-runOf rail limits code Command.ResetConfiguration b = rememberedOf code (defaultedOf (b .memory)) b
-runOf rail limits code Command.LoadConfiguration b = rememberedOf code (loadOf (b .memory)) b
+runOf rail limits code (Command.ResetParameter id) b = parameterAnswered code id (resetIn (b .profile .kind) id (b .memory)) b
+runOf rail limits code Command.ResetConfiguration b = rememberedOf code (defaultedOf (b .profile .kind) (b .memory)) b
+runOf rail limits code Command.LoadConfiguration b = rememberedOf code (loadOf (b .profile .kind) (b .memory)) b
 runOf rail limits code (Command.SaveConfiguration given) b = savedIn code given b
 runOf rail limits code Command.SystemReset b = restartedOf b
 runOf rail limits code (Command.Report layout) b = reportedOf code layout b

@@ -72,7 +72,7 @@ fn switched_mode(b: Board, asked: modes::ModeAnswer) -> Obeyed
     }
 }
 
-// 0x50: the measured words are no longer new as raw readings.
+// 0x50, and 0x60 on a battery board: the measured words are no longer new as raw readings.
 fn housekeeping(b: Board) -> Obeyed
     ensures { λ r. ⌜ r ≡ obeyedIn (housekeepingOf anyCode b) ⌝ }
 {
@@ -81,7 +81,7 @@ fn housekeeping(b: Board) -> Obeyed
     told
 }
 
-// 0x52: the measured words are no longer new as engineering readings.
+// 0x52, and 0x62 on a battery board: the measured words are no longer new as engineering readings.
 fn engineering_housekeeping(b: Board) -> Obeyed
     ensures { λ r. ⌜ r ≡ obeyedIn (engineeringHousekeepingOf anyCode b) ⌝ }
 {
@@ -120,8 +120,8 @@ fn restarted(b: Board) -> Obeyed
     }
 }
 
-// A command that changes neither mode, channels nor memory: of those parts the timer alone is another, and after 0x50
-// and 0x52 what is new.
+// A command that changes neither mode, channels nor memory: of those parts the timer alone is another, and after 0x50,
+// 0x52, 0x60 and 0x62 what is new.
 fn reported(b: Board, layout: Layout) -> Obeyed
     ensures { λ r. ⌜ r ≡ obeyedIn (reportedOf anyCode layout b) ⌝ }
 {
@@ -131,6 +131,9 @@ fn reported(b: Board, layout: Layout) -> Obeyed
         Layout::Housekeeping => housekeeping(b),
         Layout::Parameter(_) => only_fed(b, Answer::Accepted),
         Layout::EngineeringHousekeeping => engineering_housekeeping(b),
+        Layout::AbfPlacedState => only_fed(b, Answer::Accepted),
+        Layout::BatteryHousekeeping => housekeeping(b),
+        Layout::EngineeringBatteryHousekeeping => engineering_housekeeping(b),
     }
 }
 

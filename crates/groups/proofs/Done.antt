@@ -46,7 +46,7 @@ use Rattle.answers.specs.Answers as answers
 use Rattle.answers.specs.Answers.{toldNumber, new, fed, acceptedWith, acceptedOf, refusedOf, notThisBoardOf}
 use Rattle.answers.specs.declared.Answer.{Answer}
 use Rattle.answers.specs.declared.Commanded.{Commanded}
-use Rattle.effects.specs.Effects.{isNominal, switchedOf, groupOnOf, groupOffOf, groupStateOf, channelOnOf, channelOffOf, cancelledOf, switchedModeOf, faultsOf, housekeepingOf, engineeringHousekeepingOf, parameterAnswered as parameterRun, rememberedOf, savedIn, restartedOf, reportedOf, runOf}
+use Rattle.effects.specs.Effects.{isNominal, switchedOf, groupOnOf, groupOffOf, groupStateOf, channelOnOf, channelOffOf, cancelledOf, switchedModeOf, faultsOf, housekeepingOf, engineeringHousekeepingOf, abfOf, batteryHousekeepingOf, engineeringBatteryHousekeepingOf, parameterAnswered as parameterRun, rememberedOf, savedIn, restartedOf, reportedOf, runOf}
 use Rattle.asking.specs.Checks.{isStartup}
 use Rattle.commands.specs.Step.{commandedOf}
 use Rattle.commands.proofs.Stepwise.{turnedDown, decodedOf, steppedOf}
@@ -80,9 +80,9 @@ module _ (rail : ℤ) (limits : Limits) (s : List ℕ) (b : Board) where
   -- another memory
   pub data Remembers : ℕ → Memory → Type 0 where
     set : (id : ℕ) (v : ParamValue) → Remembers 0x84 (setIn id v (b .memory))
-    reset-one : (id : ℕ) → Remembers 0x86 (resetIn id (b .memory))
-    defaults : Remembers 0x90 (defaultedOf (b .memory))
-    load : Remembers 0x92 (loadOf (b .memory))
+    reset-one : (id : ℕ) → Remembers 0x86 (resetIn (b .profile .kind) id (b .memory))
+    defaults : Remembers 0x90 (defaultedOf (b .profile .kind) (b .memory))
+    load : Remembers 0x92 (loadOf (b .profile .kind) (b .memory))
     save : (given : ℕ) → Remembers 0x94 (savedOf given (b .memory) .memory)
 
   -- ---- the board that an accepted command of a code leaves, with some reply and the timer at 0, or by a reset
@@ -235,7 +235,7 @@ module _ (rail : ℤ) (limits : Limits) (s : List ℕ) (b : Board) where
 
   -- by the table, code by code
   in-list : (code : ℕ) → isIn code tableCodes ≡ true → Runs code (listed (find commandTable code) s)
-  unfolding listed find commandTable isIn carried getting setting resetting decodedOf runOf reportedOf groupOnOf groupOffOf groupStateOf channelOnOf channelOffOf cancelledOf acceptedOf acceptedWith faultsOf housekeepingOf engineeringHousekeepingOf restartedOf toSafety toNominal
+  unfolding listed find commandTable isIn carried getting setting resetting decodedOf runOf reportedOf groupOnOf groupOffOf groupStateOf channelOnOf channelOffOf cancelledOf acceptedOf acceptedWith faultsOf housekeepingOf engineeringHousekeepingOf abfOf batteryHousekeepingOf engineeringBatteryHousekeepingOf restartedOf toSafety toNominal
   in-list code h =
       at-code (λ k. Runs k (listed (find commandTable k) s)) code tableCodes h
       (keyed 0xAA 5 0xA6 _ (accepting refl restarts)
@@ -258,6 +258,9 @@ module _ (rail : ℤ) (limits : Limits) (s : List ℕ) (b : Board) where
       and keyed 0x92 5 0xA7 _ (remembered load)
       and keyed 0x94 7 0xA7 _ (saved _)
       and plain 0x52 4 _ (accepting refl (replies _ _ refl))
+      and plain 0x44 4 _ (accepting refl (replies _ _ refl))
+      and plain 0x60 4 _ (accepting refl (replies _ _ refl))
+      and plain 0x62 4 _ (accepting refl (replies _ _ refl))
       and none)
 
   -- ---- every transfer

@@ -1,7 +1,6 @@
 -- What goes by the kind of board: all that differs between the boards, but for the layouts of their readings, is
--- defined on this page and on no other. Of the defaults only the distribution board's are taken yet, since it alone can
--- be started. IVID is 7 for all of them. A set of channels is a number whose bit c is channel c; `a ∷ b ∷ []` is a list
--- of two, and `cond b x y` is x where b holds, else y. Assumes nothing: these are definitions.
+-- defined on this page and on no other. IVID is 7 for all of them. A set of channels is a number whose bit c is channel
+-- c; `a ∷ b ∷ []` is a list of two, and `cond b x y` is x where b holds, else y. Assumes nothing: these are definitions.
 use Prim.Native.Nat.{ℕ, _-_, _^_}
 use mathlib.Core.{Bool.Bool, Bool.true, Bool.false, Bool.cond, Bool._||_, List.List, List.[], List._∷_}
 use lib.Dec.{eqb}
@@ -17,14 +16,15 @@ pub record KindOfBoard : Type 0 where
   pub enableBits : ℕ  -- the default of CH_STARTUP_ENA_BF and CH_LATCHOFF_ENA_BF, 0 where Table 3-25 gives none
   pub enableKey : ℕ  -- the default of CH_STARTUP_KEY and CH_LATCHOFF_KEY, likewise
   pub codes : List ℕ  -- the commands that it knows, by their codes
+  pub abfPlaced : Bool  -- whether its ABF is placed; a board that has none has none placed
 
 -- channels 0 to n - 1
 abbrev pub below : ℕ → ℕ
 below n = 2 ^ n - 1
 
--- ---- the distribution board (PDU); the battery board (PBU), with whether its ABF is placed, by which nothing goes yet;
--- and the integrated board (PIU), which has more places and words with a daughterboard. The codes of their own that the
--- last two will have, 0x44, 0x60 and 0x62, and 0xA0, are not there yet.
+-- ---- the distribution board (PDU); the battery board (PBU), which fits no channel, with whether its ABF is placed; and
+-- the integrated board (PIU), which has more places and words with a daughterboard. The code of its own that the last
+-- one will have, 0xA0, is not there yet.
 abbrev pub boardOf : Kind → KindOfBoard
 boardOf Distribution =
     record {
@@ -35,6 +35,7 @@ boardOf Distribution =
       enableBits = 0x111;
       enableKey = 0x11111222;
       codes = 0xAA ∷ 0x02 ∷ 0x04 ∷ 0x06 ∷ 0x10 ∷ 0x12 ∷ 0x14 ∷ 0x16 ∷ 0x18 ∷ 0x30 ∷ 0x32 ∷ 0x42 ∷ 0x50 ∷ 0x82 ∷ 0x84 ∷ 0x86 ∷ 0x90 ∷ 0x92 ∷ 0x94 ∷ 0x52 ∷ [];
+      abfPlaced = false;
     }
 boardOf (Battery abf) =
     record {
@@ -44,7 +45,8 @@ boardOf (Battery abf) =
       places = below 0;
       enableBits = 0;
       enableKey = 0;
-      codes = 0xAA ∷ 0x02 ∷ 0x06 ∷ 0x30 ∷ 0x32 ∷ 0x82 ∷ 0x84 ∷ 0x86 ∷ 0x90 ∷ 0x92 ∷ 0x94 ∷ [];
+      codes = 0xAA ∷ 0x02 ∷ 0x06 ∷ 0x30 ∷ 0x32 ∷ 0x82 ∷ 0x84 ∷ 0x86 ∷ 0x90 ∷ 0x92 ∷ 0x94 ∷ 0x44 ∷ 0x60 ∷ 0x62 ∷ [];
+      abfPlaced = abf;
     }
 boardOf (Integrated daughterboard) =
     record {
@@ -55,6 +57,7 @@ boardOf (Integrated daughterboard) =
       enableBits = 0x23;
       enableKey = 0x11111134;
       codes = 0xAA ∷ 0x02 ∷ 0x04 ∷ 0x06 ∷ 0x10 ∷ 0x12 ∷ 0x14 ∷ 0x16 ∷ 0x18 ∷ 0x30 ∷ 0x32 ∷ 0x42 ∷ 0x82 ∷ 0x84 ∷ 0x86 ∷ 0x90 ∷ 0x92 ∷ 0x94 ∷ [];
+      abfPlaced = false;
     }
 
 -- the room for measured words: the most that a kind has
@@ -66,8 +69,8 @@ unfoldable pub isIn : ℕ → List ℕ → Bool
 isIn code [] = false
 isIn code (c ∷ codes) = eqb code c || isIn code codes
 
--- a profile of this kind can be started: of the other two none can, until they have their own codes
+-- a profile of this kind can be started: of the last one none can, until it has its own code
 abbrev pub isServed : Kind → Bool
 isServed Distribution = true
-isServed (Battery abf) = false
+isServed (Battery abf) = true
 isServed (Integrated daughterboard) = false

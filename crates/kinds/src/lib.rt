@@ -119,6 +119,9 @@ fn battery_lists(code: u8) -> bool
             0x90,
             0x92,
             0x94,
+            0x44,
+            0x60,
+            0x62,
         ],
         code,
     )
@@ -164,13 +167,24 @@ pub fn lists(kind: Kind, code: u8) -> bool
     }
 }
 
+// Whether the ABF of a kind of board is placed; a board that has none has none placed.
+pub fn abf_placed(kind: Kind) -> bool
+    ensures { λ r. ⌜ r ≡ boardOf kind .abfPlaced ⌝ }
+{
+    match kind {
+        Kind::Distribution => false,
+        Kind::Battery { abf } => abf,
+        Kind::Integrated { daughterboard: _ } => false,
+    }
+}
+
 // Whether a profile of a kind of board can be started.
 pub fn is_served(kind: Kind) -> bool
     ensures { λ r. ⌜ r ≡ isServed kind ⌝ }
 {
     match kind {
         Kind::Distribution => true,
-        Kind::Battery { abf: _ } => false,
+        Kind::Battery { abf: _ } => true,
         Kind::Integrated { daughterboard: _ } => false,
     }
 }

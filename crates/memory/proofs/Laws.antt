@@ -12,6 +12,8 @@ use lib.ListN.{getD}
 use mir.Syntax.{w32}
 use mir.Val.{toZ}
 use mir.ValLaws.{toZ-pos}
+use Rattle.kinds.specs.declared.Kind.{Kind}
+use Rattle.kinds.specs.declared.Kind.the-variants.{Distribution}
 use Rattle.value.specs.declared.ParamValue.{ParamValue}
 use Rattle.settings.specs.declared.Settings.{Settings}
 use Rattle.settings.specs.Values.{settingOf, defaultsOf, inRangeOf}
@@ -66,29 +68,29 @@ unfolding oneMore storedCount emptyStore
 count-starts = refl
 
 -- ---- a load
-pub load-of-nothing : (store : Store) → store .held ≡ false → loadedFrom store ≡ withDefaults store
+pub load-of-nothing : (kind : Kind) (store : Store) → store .held ≡ false → loadedFrom kind store ≡ withDefaults kind store
 unfolding loadedFrom
-load-of-nothing store e = rw e
+load-of-nothing kind store e = rw e
 
-pub load-of-stored : (store : Store) → store .held ≡ true → loadedFrom store ≡ withStored store
+pub load-of-stored : (kind : Kind) (store : Store) → store .held ≡ true → loadedFrom kind store ≡ withStored store
 unfolding loadedFrom
-load-of-stored store e = rw e
+load-of-stored kind store e = rw e
 
 -- what holds of the defaults and of what is stored holds of what is loaded
-loaded-by : (P : Memory → Type 0) (store : Store) → (store .held ≡ true → P (withStored store)) → (store .held ≡ false → P (withDefaults store)) → P (loadedFrom store)
-loaded-by P store s d = go (store .held) refl
+loaded-by : (kind : Kind) (P : Memory → Type 0) (store : Store) → (store .held ≡ true → P (withStored store)) → (store .held ≡ false → P (withDefaults kind store)) → P (loadedFrom kind store)
+loaded-by kind P store s d = go (store .held) refl
   where
-    go : (b : Bool) → store .held ≡ b → P (loadedFrom store)
-    go true e = subst P (sym (load-of-stored store e)) (s e)
-    go false e = subst P (sym (load-of-nothing store e)) (d e)
+    go : (b : Bool) → store .held ≡ b → P (loadedFrom kind store)
+    go true e = subst P (sym (load-of-stored kind store e)) (s e)
+    go false e = subst P (sym (load-of-nothing kind store e)) (d e)
 
-pub load-leaves-store : (store : Store) → loadedFrom store .store ≡ store
-load-leaves-store store = loaded-by (λ m. m .store ≡ store) store (λ e. refl) (λ e. refl)
+pub load-leaves-store : (kind : Kind) (store : Store) → loadedFrom kind store .store ≡ store
+load-leaves-store kind store = loaded-by kind (λ m. m .store ≡ store) store (λ e. refl) (λ e. refl)
 
 -- a second load changes nothing more
-pub load-twice : (m : Memory) → loadOf (loadOf m) ≡ loadOf m
+pub load-twice : (kind : Kind) (m : Memory) → loadOf kind (loadOf kind m) ≡ loadOf kind m
 unfolding loadOf
-load-twice m = ap loadedFrom (load-leaves-store (m .store))
+load-twice kind m = ap (loadedFrom kind) (load-leaves-store kind (m .store))
 
 -- ---- set, reset of one and defaults leave the store; set and reset of one leave what is shown
 module _ (m : Memory) (id : ℕ) (v : ParamValue) where
@@ -101,22 +103,22 @@ module _ (m : Memory) (id : ℕ) (v : ParamValue) where
   set-leaves-shown = refl
 
 module _ (m : Memory) (id : ℕ) where
-  pub reset-leaves-store : resetIn id m .store ≡ m .store
+  pub reset-leaves-store : (kind : Kind) → resetIn kind id m .store ≡ m .store
   unfolding resetIn
-  reset-leaves-store = refl
+  reset-leaves-store kind = refl
 
-  pub reset-leaves-shown : resetIn id m .shown ≡ m .shown
+  pub reset-leaves-shown : (kind : Kind) → resetIn kind id m .shown ≡ m .shown
   unfolding resetIn
-  reset-leaves-shown = refl
+  reset-leaves-shown kind = refl
 
 module _ (m : Memory) where
-  pub defaults-leave-store : defaultedOf m .store ≡ m .store
+  pub defaults-leave-store : (kind : Kind) → defaultedOf kind m .store ≡ m .store
   unfolding defaultedOf
-  defaults-leave-store = refl
+  defaults-leave-store kind = refl
 
-  pub defaults-show-nothing : defaultedOf m .shown ≡ showingNothing
+  pub defaults-show-nothing : (kind : Kind) → defaultedOf kind m .shown ≡ showingNothing
   unfolding defaultedOf
-  defaults-show-nothing = refl
+  defaults-show-nothing kind = refl
 
 -- ---- the checksums that are right: 0 and the settings' own, and no other
 module _ (given : ℕ) (m : Memory) where
@@ -168,31 +170,31 @@ module _ (given : ℕ) (m : Memory) where
   save-leaves-current = saved-by (λ k. k .current ≡ m .current) refl refl
 
   -- what a save stores, a load brings back: the settings, the store and what is shown
-  pub save-comes-back : isRight given m ≡ true → loadOf (savedOf given m .memory) ≡ savedOf given m .memory
+  pub save-comes-back : (kind : Kind) → isRight given m ≡ true → loadOf kind (savedOf given m .memory) ≡ savedOf given m .memory
   unfolding loadOf loadedFrom
-  save-comes-back h = rw (right-stores h)
+  save-comes-back kind h = rw (right-stores h)
 
 -- ---- what is shown is 0 and 0, or the count and the checksum of what is stored
 abbrev pub Shows : Memory → Type 0
 Shows m = (m .shown ≡ showingNothing) ⊎ ((m .store .held ≡ true) × (m .shown ≡ showing (m .store .«save_count») (m .store .settings)))
 
-pub loaded-shows : (store : Store) → Shows (loadedFrom store)
-loaded-shows store = loaded-by Shows store (λ e. inr (e, refl)) (λ e. inl refl)
+pub loaded-shows : (kind : Kind) (store : Store) → Shows (loadedFrom kind store)
+loaded-shows kind store = loaded-by kind Shows store (λ e. inr (e, refl)) (λ e. inl refl)
 
-pub load-shows : (m : Memory) → Shows (loadOf m)
+pub load-shows : (kind : Kind) (m : Memory) → Shows (loadOf kind m)
 unfolding loadOf
-load-shows m = loaded-shows (m .store)
+load-shows kind m = loaded-shows kind (m .store)
 
-pub defaults-show : (m : Memory) → Shows (defaultedOf m)
-defaults-show m = inl (defaults-show-nothing m)
+pub defaults-show : (kind : Kind) (m : Memory) → Shows (defaultedOf kind m)
+defaults-show kind m = inl (defaults-show-nothing m kind)
 
 pub set-shows : (m : Memory) (id : ℕ) (v : ParamValue) → Shows m → Shows (setIn id v m)
 unfolding setIn
 set-shows m id v h = h
 
-pub reset-shows : (m : Memory) (id : ℕ) → Shows m → Shows (resetIn id m)
+pub reset-shows : (kind : Kind) (m : Memory) (id : ℕ) → Shows m → Shows (resetIn kind id m)
 unfolding resetIn
-reset-shows m id h = h
+reset-shows kind m id h = h
 
 pub save-shows : (given : ℕ) (m : Memory) → Shows m → Shows (savedOf given m .memory)
 save-shows given m h = saved-by given m Shows (inr (refl, refl)) h
@@ -203,8 +205,8 @@ pub record Ranged (s : Settings) : Type 0 where
   pub sized : Sized s
   pub in-range : inRangeOf s ≡ true
 
-pub defaults-ranged : Ranged defaultsOf
-defaults-ranged = record { sized = of-settings.defaults-sized; in-range = of-settings.defaults-in-range }
+pub defaults-ranged : (kind : Kind) → Ranged (defaultsOf kind)
+defaults-ranged kind = record { sized = of-settings.defaults-sized kind; in-range = of-settings.defaults-in-range kind }
 
 -- of a store that holds something, and of a memory
 abbrev pub StoreRanged : Store → Type 0
@@ -216,20 +218,20 @@ pub record MemoryRanged (m : Memory) : Type 0 where
 
 pub empty-ranged : StoreRanged emptyStore
 unfolding emptyStore
-empty-ranged e = defaults-ranged
+empty-ranged e = defaults-ranged Distribution
 
-pub loaded-ranged : (store : Store) → StoreRanged store → MemoryRanged (loadedFrom store)
-loaded-ranged store h =
-    loaded-by MemoryRanged store (λ e. record { of-current = h e; of-store = h }) (λ e. record { of-current = defaults-ranged; of-store = h })
+pub loaded-ranged : (kind : Kind) (store : Store) → StoreRanged store → MemoryRanged (loadedFrom kind store)
+loaded-ranged kind store h =
+    loaded-by kind MemoryRanged store (λ e. record { of-current = h e; of-store = h }) (λ e. record { of-current = defaults-ranged kind; of-store = h })
 
 module _ (m : Memory) (h : MemoryRanged m) where
-  pub load-ranged : MemoryRanged (loadOf m)
+  pub load-ranged : (kind : Kind) → MemoryRanged (loadOf kind m)
   unfolding loadOf
-  load-ranged = loaded-ranged (m .store) (h .of-store)
+  load-ranged kind = loaded-ranged kind (m .store) (h .of-store)
 
-  pub defaulted-ranged : MemoryRanged (defaultedOf m)
+  pub defaulted-ranged : (kind : Kind) → MemoryRanged (defaultedOf kind m)
   unfolding defaultedOf
-  defaulted-ranged = record { of-current = defaults-ranged; of-store = h .of-store }
+  defaulted-ranged kind = record { of-current = defaults-ranged kind; of-store = h .of-store }
 
   pub set-ranged : (id : ℕ) (v : ParamValue) → MemoryRanged (setIn id v m)
   unfolding setIn
@@ -241,13 +243,13 @@ module _ (m : Memory) (h : MemoryRanged m) where
         of-store = h .of-store;
       }
 
-  pub reset-ranged : (id : ℕ) → MemoryRanged (resetIn id m)
+  pub reset-ranged : (kind : Kind) (id : ℕ) → MemoryRanged (resetIn kind id m)
   unfolding resetIn
-  reset-ranged id =
+  reset-ranged kind id =
       let k = h .of-current in
       record {
         of-current =
-            record { sized = of-settings.reset-sized (m .current) id (k .sized); in-range = of-settings.reset-in-range (m .current) id (k .sized) (k .in-range) };
+            record { sized = of-settings.reset-sized kind (m .current) id (k .sized); in-range = of-settings.reset-in-range kind (m .current) id (k .sized) (k .in-range) };
         of-store = h .of-store;
       }
 

@@ -4,6 +4,8 @@
 use Prim.Native.Nat.{ℕ, _+_, min}
 use mathlib.Core.Bool.{Bool, true, false, cond, _||_}
 use lib.Dec.{eqb}
+use Rattle.kinds.specs.declared.Kind.{Kind}
+use Rattle.kinds.specs.declared.Kind.the-variants.{Distribution}
 use Rattle.value.specs.declared.ParamValue.{ParamValue}
 use Rattle.settings.specs.{declared.Settings.Settings, Values.defaultsOf, Values.setOf, Values.resetOf}
 use Rattle.image.specs.Image.{settingsChecksum}
@@ -15,9 +17,9 @@ oneMore count = min (count + 1) 65535
 
 -- nothing is stored; what stands in the other two fields is not looked at
 unfoldable pub emptyStore : Store
-emptyStore = record { settings = defaultsOf; «save_count» = 0; held = false }
+emptyStore = record { settings = defaultsOf Distribution; «save_count» = 0; held = false }
 
--- ---- the settings of the store, or the defaults
+-- ---- the settings of the store, or the defaults of the kind of board
 
 -- the two read-only values once some settings were saved or loaded: their save count and their checksum
 abbrev pub showing : ℕ → Settings → Shown
@@ -27,25 +29,25 @@ showing count s = record { «save_count» = count; checksum = settingsChecksum s
 abbrev pub showingNothing : Shown
 showingNothing = record { «save_count» = 0; checksum = 0 }
 
-abbrev pub withDefaults : Store → Memory
-withDefaults store = record { current = defaultsOf; store = store; shown = showingNothing }
+abbrev pub withDefaults : Kind → Store → Memory
+withDefaults kind store = record { current = defaultsOf kind; store = store; shown = showingNothing }
 
 abbrev pub withStored : Store → Memory
 withStored store = record { current = store .settings; store = store; shown = showing (store .«save_count») (store .settings) }
 
 -- what is stored; where nothing is, the defaults
-unfoldable pub loadedFrom : Store → Memory
-loadedFrom store = cond (store .held) (withStored store) (withDefaults store)
+unfoldable pub loadedFrom : Kind → Store → Memory
+loadedFrom kind store = cond (store .held) (withStored store) (withDefaults kind store)
 
 -- ---- the commands on settings
 
 -- 0x92 load
-unfoldable pub loadOf : Memory → Memory
-loadOf m = loadedFrom (m .store)
+unfoldable pub loadOf : Kind → Memory → Memory
+loadOf kind m = loadedFrom kind (m .store)
 
 -- 0x90 defaults; the store stays
-unfoldable pub defaultedOf : Memory → Memory
-defaultedOf m = withDefaults (m .store)
+unfoldable pub defaultedOf : Kind → Memory → Memory
+defaultedOf kind m = withDefaults kind (m .store)
 
 -- other settings in force; what is shown and what is stored stay
 abbrev pub inForce : Settings → Memory → Memory
@@ -55,8 +57,8 @@ inForce s m = record { current = s; store = m .store; shown = m .shown }
 unfoldable pub setIn : ℕ → ParamValue → Memory → Memory
 setIn id v m = inForce (setOf (m .current) id v) m
 
-unfoldable pub resetIn : ℕ → Memory → Memory
-resetIn id m = inForce (resetOf (m .current) id) m
+unfoldable pub resetIn : Kind → ℕ → Memory → Memory
+resetIn kind id m = inForce (resetOf kind (m .current) id) m
 
 -- 0x94 save: the checksum that came with it is 0, or that of the settings in force
 unfoldable pub isRight : ℕ → Memory → Bool

@@ -2,6 +2,7 @@
 ghost use mathlib.Core.Path.{_≡_};
 ghost use Rattle.memory.specs.Memory.{oneMore, emptyStore, loadedFrom, loadOf, defaultedOf, setIn, resetIn, storedCount, savedOf};
 ghost use Rattle.memory.specs.Limits.{safetyLow, safetyHigh, timeoutOf, limitsOf};
+use kinds::Kind;
 use modes::Limits;
 use settings::Settings;
 use value::ParamValue;
@@ -46,7 +47,7 @@ impl Store {
         ensures { λ r. ⌜ r ≡ emptyStore ⌝ }
     {
         Store {
-            settings: settings::defaults(),
+            settings: settings::defaults(Kind::Distribution),
             save_count: 0,
             held: false,
         }
@@ -64,9 +65,10 @@ pub fn one_more(count: u16) -> u16
 }
 
 impl Memory {
-    // The memory after a start, a reset or a load: the settings of the store, or the defaults where nothing is stored.
-    pub fn loaded(store: Store) -> Memory
-        ensures { λ r. ⌜ r ≡ loadedFrom store ⌝ }
+    // The memory after a start, a reset or a load: the settings of the store, or the defaults of the kind of board where
+    // nothing is stored.
+    pub fn loaded(kind: Kind, store: Store) -> Memory
+        ensures { λ r. ⌜ r ≡ loadedFrom kind store ⌝ }
     {
         if store.held {
             let current = store.settings;
@@ -81,7 +83,7 @@ impl Memory {
             };
         }
         Memory {
-            current: settings::defaults(),
+            current: settings::defaults(kind),
             store,
             shown: Shown {
                 save_count: 0,
@@ -91,19 +93,19 @@ impl Memory {
     }
 
     // 0x92: the memory as a start has it.
-    pub fn load(self) -> Memory
-        ensures { λ r. ⌜ r ≡ loadOf self ⌝ }
+    pub fn load(self, kind: Kind) -> Memory
+        ensures { λ r. ⌜ r ≡ loadOf kind self ⌝ }
     {
-        Memory::loaded(self.store)
+        Memory::loaded(kind, self.store)
     }
 
-    // 0x90: every setting at its default; the store stays.
-    pub fn to_defaults(self) -> Memory
-        ensures { λ r. ⌜ r ≡ defaultedOf self ⌝ }
+    // 0x90: every setting at its default on the kind of board; the store stays.
+    pub fn to_defaults(self, kind: Kind) -> Memory
+        ensures { λ r. ⌜ r ≡ defaultedOf kind self ⌝ }
     {
         let store = self.store;
         Memory {
-            current: settings::defaults(),
+            current: settings::defaults(kind),
             store,
             shown: Shown {
                 save_count: 0,
@@ -121,11 +123,11 @@ impl Memory {
         self
     }
 
-    // 0x86: one setting at its default.
-    pub fn reset_one(mut self, id: u16) -> Memory
-        ensures { λ r. ⌜ r ≡ resetIn id self ⌝ }
+    // 0x86: one setting at its default on the kind of board.
+    pub fn reset_one(mut self, kind: Kind, id: u16) -> Memory
+        ensures { λ r. ⌜ r ≡ resetIn kind id self ⌝ }
     {
-        let current = settings::reset_one(self.current, id);
+        let current = settings::reset_one(self.current, kind, id);
         self.current = current;
         self
     }

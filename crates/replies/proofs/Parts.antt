@@ -1,7 +1,8 @@
 -- A long reply is the six bytes that each of them starts with, and then one row of words, or the id and a value.
 -- Assumes nothing.
 use Prim.Native.Nat.{ℕ, _≤_, min}
-use mathlib.Core.List.{List, _∷_, _++_, append-assoc}
+use mathlib.Core.Bool.{Bool, true, false}
+use mathlib.Core.List.{List, [], _∷_, _++_, append-assoc}
 use mathlib.Core.Path.{_≡_, refl, sym, ap, _∙_}
 use native.Mathlib.Omega.{arith}
 use lib.ListN.{length, getD, take, drop, length-take}
@@ -12,7 +13,7 @@ use Rattle.wire.specs.Replies.{Field, _bytes_, laidOut, words, replyOf, after}
 use Rattle.wire.proofs.Room.{after-replyOf}
 use Rattle.wire.proofs.Rows.{laidOut-append, laidOut-words, words-append}
 use Rattle.command.specs.declared.Header.{Header}
-use Rattle.replies.specs.Layouts.{head, reserved, wordFields, channelWords, faultsReply, housekeepingReply, parameterReply}
+use Rattle.replies.specs.Layouts.{head, reserved, wordFields, channelWords, faultsReply, housekeepingReply, parameterReply, abfByte, abfReply, batteryReply}
 
 -- ---- rows of words behind each other are one row
 
@@ -70,3 +71,12 @@ module _ (board : Header) (code stat : ℕ) where
   pub parameter-parts : (id : ℕ) (value : List ℕ) → parameterReply board code stat id value ≡ start ++ bytesOf 2 id ++ value
   unfolding parameterReply laidOut bytesOf
   parameter-parts id value = refl
+
+  pub abf-parts : (placed : Bool) → abfReply board code stat placed ≡ start ++ (abfByte placed ∷ abfByte placed ∷ [])
+  unfolding abfReply laidOut bytesOf
+  abf-parts true = refl
+  abf-parts false = refl
+
+  pub battery-row : (ws : List ℕ) → batteryReply board code stat ws ≡ start ++ words ws
+  unfolding batteryReply
+  battery-row ws = words-behind (head board code stat ++ reserved) ws

@@ -2,6 +2,7 @@
 -- is their bytes in a row. xs ++ ys is xs and then ys, `take n` are the first n of a list and `drop n` what follows
 -- them. A set of channels is a number whose bit c is channel c. Assumes nothing: these are definitions.
 use Prim.Native.Nat.{ℕ, _/_, _%_, _^_}
+use mathlib.Core.Bool.{Bool, cond}
 use mathlib.Core.List.{List, [], _∷_, _++_, map}
 use lib.ListN.{take, drop}
 use Rattle.wire.specs.Replies.{Field, _bytes_, laidOut, replyCode}
@@ -46,3 +47,14 @@ housekeepingReply board code stat on latched words =
 -- 0x82, 0x84, 0x86 (pages 65 to 68; page 66 has RC and BID in each other's place): the id, then the bytes of the value
 unfoldable pub parameterReply : Header → ℕ → ℕ → ℕ → List ℕ → List ℕ
 parameterReply board code stat id value = laidOut (head board code stat ++ reserved ++ (2 bytes id) ∷ []) ++ value
+
+-- 0x44 (page 46): ABF_PLACED_0 and ABF_PLACED_1, 0xAB where the ABF is placed and 0x00 where it is not
+abbrev pub abfByte : Bool → ℕ
+abfByte placed = cond placed 0xAB 0x00
+
+unfoldable pub abfReply : Header → ℕ → ℕ → Bool → List ℕ
+abfReply board code stat placed = laidOut (head board code stat ++ reserved ++ (1 bytes abfByte placed) ∷ (1 bytes abfByte placed) ∷ [])
+
+-- 0x60 and 0x62 (pages 55 to 58): the measured words
+unfoldable pub batteryReply : Header → ℕ → ℕ → List ℕ → List ℕ
+batteryReply board code stat words = laidOut (head board code stat ++ reserved ++ wordFields words)

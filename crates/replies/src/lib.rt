@@ -4,7 +4,8 @@ ghost use mathlib.Core.List.{_++_};
 ghost use lib.ListN.{take};
 ghost use Rattle.wire.specs.Replies.{replyOf, laidOut};
 ghost use Rattle.readings.specs.Readings.{rawWords, engineeringWords};
-ghost use Rattle.replies.specs.Layouts.{head, reserved, shortReply, faultsReply, housekeepingReply, parameterReply, channelWords};
+ghost use Rattle.readings.specs.Packs.{packs, toldBy};
+ghost use Rattle.replies.specs.Layouts.{head, reserved, shortReply, faultsReply, housekeepingReply, parameterReply, channelWords, abfByte, abfReply, batteryReply};
 use command::Header;
 use readings::Engineering;
 use readings::Raw;
@@ -90,4 +91,34 @@ pub fn parameter(board: Header, code: u8, stat: u8, id: u16, value: ValueBytes) 
     longer(board, code, stat)
         .append_bytes(&id_bytes)
         .append_bytes(wire::first(&bytes, value.len))
+}
+
+// The byte that tells whether the ABF is placed.
+fn abf_byte(placed: bool) -> u8
+    ensures { λ r. ⌜ r ≡ abfByte placed ⌝ }
+{
+    if placed { 0xAB } else { 0x00 }
+}
+
+// The reply of 0x44: whether the ABF is placed, told twice.
+pub fn abf(board: Header, code: u8, stat: u8, placed: bool) -> Reply
+    ensures { λ r. ⌜ r ≡ replyOf (abfReply board code stat placed) ⌝ }
+{
+    let told = abf_byte(placed);
+    let both = [told, told];
+    longer(board, code, stat).append_bytes(&both)
+}
+
+// The reply of 0x60, of raw readings and of nothing else: those that count, in a row.
+pub fn raw_battery(board: Header, code: u8, stat: u8, raws: [Raw; 130], count: usize) -> Reply
+    ensures { λ r. ⌜ r ≡ replyOf (batteryReply board code stat (take count (rawWords raws))) ⌝ }
+{
+    readings::append_raw(longer(board, code, stat), raws, count, 0, count)
+}
+
+// The reply of 0x62, of engineering readings and the status words, in the same layout.
+pub fn engineering_battery(board: Header, code: u8, stat: u8, raws: [Raw; 130]) -> Reply
+    ensures { λ r. ⌜ r ≡ replyOf (batteryReply board code stat (toldBy packs raws)) ⌝ }
+{
+    readings::append_packs(longer(board, code, stat), raws)
 }

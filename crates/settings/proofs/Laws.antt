@@ -7,6 +7,8 @@ use native.Mathlib.Omega.{arith}
 use native.Mathlib.Decide.{ℕ-discrete}
 use lib.IntN.{ℤ, pos}
 use lib.ListN.{length, length-set, set}
+use Rattle.kinds.specs.declared.Kind.{Kind}
+use Rattle.kinds.specs.declared.Kind.the-variants.{Distribution, Battery, Integrated}
 use Rattle.value.specs.Types.{codeOf, typeOf}
 use Rattle.value.specs.declared.ValueType.{ValueType}
 use Rattle.value.specs.declared.ValueType.the-variants.{Int8, Uint8, Int16, Uint16, Int32, Uint32, Float, Int64, Uint64, Double}
@@ -48,12 +50,12 @@ module _ (s : Settings) (id : ℕ) (v : ParamValue) (z : Sized s) (e : parameter
       value-of (ParamValue.Double x) e = none id Double refl e
 
 -- ---- a reset parameter reads its default
-pub reset-get : (s : Settings) (id : ℕ) (t : ValueType) → Sized s → parameterOf id ≡ Parameter.ReadWrite t → getOf (resetOf s id) id ≡ gotValue t (defaultOf id)
+pub reset-get : (kind : Kind) (s : Settings) (id : ℕ) (t : ValueType) → Sized s → parameterOf id ≡ Parameter.ReadWrite t → getOf (resetOf kind s id) id ≡ gotValue t (defaultOf kind id)
 unfolding resetOf
-reset-get s id t z e = rw e (gets _ id t e ∙ ap (gotValue t) (number-same s id t (defaultOf id) z e (default-fits id t e)))
+reset-get kind s id t z e = rw e (gets _ id t e ∙ ap (gotValue t) (number-same s id t (defaultOf kind id) z e (default-fits kind id t e)))
 
-pub reset-get-default : (s : Settings) (id : ℕ) (t : ValueType) → Sized s → parameterOf id ≡ Parameter.ReadWrite t → getOf (resetOf s id) id ≡ getOf defaultsOf id
-reset-get-default s id t z e = reset-get s id t z e ∙ sym (default-get id t e)
+pub reset-get-default : (kind : Kind) (s : Settings) (id : ℕ) (t : ValueType) → Sized s → parameterOf id ≡ Parameter.ReadWrite t → getOf (resetOf kind s id) id ≡ getOf (defaultsOf kind) id
+reset-get-default kind s id t z e = reset-get kind s id t z e ∙ sym (default-get kind id t e)
 
 -- ---- every other id reads as before
 wrote-other : (s r : Settings) (id other : ℕ) → Wrote s id r → (other ≡ id → ⊥) → settingOf r other ≡ settingOf s other
@@ -67,8 +69,8 @@ got-other s r id other w n = ap (gotAs (parameterOf other)) (wrote-other s r id 
 pub set-other : (s : Settings) (id other : ℕ) (v : ParamValue) → (other ≡ id → ⊥) → getOf (setOf s id v) other ≡ getOf s other
 set-other s id other v n = got-other s (setOf s id v) id other (set-wrote s id v) n
 
-pub reset-other : (s : Settings) (id other : ℕ) → (other ≡ id → ⊥) → getOf (resetOf s id) other ≡ getOf s other
-reset-other s id other n = got-other s (resetOf s id) id other (reset-wrote s id) n
+pub reset-other : (kind : Kind) (s : Settings) (id other : ℕ) → (other ≡ id → ⊥) → getOf (resetOf kind s id) other ≡ getOf s other
+reset-other kind s id other n = got-other s (resetOf kind s id) id other (reset-wrote kind s id) n
 
 -- ---- an id that is read-only or unknown, and a value of another type, change nothing
 module _ (s : Settings) (id : ℕ) where
@@ -84,13 +86,13 @@ module _ (s : Settings) (id : ℕ) where
   unfolding setOf
   set-other-type v t e n = rw (e, n)
 
-  pub reset-read-only : (t : ValueType) → parameterOf id ≡ Parameter.ReadOnly t → resetOf s id ≡ s
+  pub reset-read-only : (kind : Kind) (t : ValueType) → parameterOf id ≡ Parameter.ReadOnly t → resetOf kind s id ≡ s
   unfolding resetOf
-  reset-read-only t e = rw e
+  reset-read-only kind t e = rw e
 
-  pub reset-unknown : parameterOf id ≡ Parameter.Unknown → resetOf s id ≡ s
+  pub reset-unknown : (kind : Kind) → parameterOf id ≡ Parameter.Unknown → resetOf kind s id ≡ s
   unfolding resetOf
-  reset-unknown e = rw e
+  reset-unknown kind e = rw e
 
 -- ---- the arrays keep their lengths
 kept-length : (b : Bool) (xs : List ℤ) (i : ℕ) (z : ℤ) → length (stored b xs i z) ≡ length xs
@@ -115,12 +117,12 @@ wrote-sized s r id (one t z e h) k = record {
 pub set-sized : (s : Settings) (id : ℕ) (v : ParamValue) → Sized s → Sized (setOf s id v)
 set-sized s id v k = wrote-sized s (setOf s id v) id (set-wrote s id v) k
 
-pub reset-sized : (s : Settings) (id : ℕ) → Sized s → Sized (resetOf s id)
-reset-sized s id k = wrote-sized s (resetOf s id) id (reset-wrote s id) k
+pub reset-sized : (kind : Kind) (s : Settings) (id : ℕ) → Sized s → Sized (resetOf kind s id)
+reset-sized kind s id k = wrote-sized s (resetOf kind s id) id (reset-wrote kind s id) k
 
-pub defaults-sized : Sized defaultsOf
+pub defaults-sized : (kind : Kind) → Sized (defaultsOf kind)
 unfolding defaultsOf column
-defaults-sized = record { u32-size = refl; u16-size = refl; i16-size = refl; i8-size = refl; u8-size = refl }
+defaults-sized kind = record { u32-size = refl; u16-size = refl; i16-size = refl; i8-size = refl; u8-size = refl }
 
 -- ---- in range: each read/write parameter is
 pub in-range-each : (s : Settings) → inRangeOf s ≡ true → (id : ℕ) (t : ValueType) → parameterOf id ≡ Parameter.ReadWrite t → insideOf id (settingOf s id) ≡ true
@@ -179,11 +181,11 @@ wrote-in-range s r id k w h =
 pub set-in-range : (s : Settings) (id : ℕ) (v : ParamValue) → Sized s → inRangeOf s ≡ true → inRangeOf (setOf s id v) ≡ true
 set-in-range s id v k h = wrote-in-range s (setOf s id v) id k (set-wrote s id v) h
 
-pub reset-in-range : (s : Settings) (id : ℕ) → Sized s → inRangeOf s ≡ true → inRangeOf (resetOf s id) ≡ true
-reset-in-range s id k h = wrote-in-range s (resetOf s id) id k (reset-wrote s id) h
+pub reset-in-range : (kind : Kind) (s : Settings) (id : ℕ) → Sized s → inRangeOf s ≡ true → inRangeOf (resetOf kind s id) ≡ true
+reset-in-range kind s id k h = wrote-in-range s (resetOf kind s id) id k (reset-wrote kind s id) h
 
-pub defaults-in-range : inRangeOf defaultsOf ≡ true
-defaults-in-range = each-in-range defaultsOf (λ id t e. subst (λ (z : ℤ). insideOf id z ≡ true) (sym (default-number id t e)) (default-inside id))
+pub defaults-in-range : (kind : Kind) → inRangeOf (defaultsOf kind) ≡ true
+defaults-in-range kind = each-in-range (defaultsOf kind) (λ id t e. subst (λ (z : ℤ). insideOf id z ≡ true) (sym (default-number kind id t e)) (default-inside kind id))
 
 -- ---- each number fits its type, in range or not
 abbrev pub Fitting : Settings → Type 0
@@ -199,13 +201,15 @@ wrote-fitting s r id k w f j t e =
 pub set-fitting : (s : Settings) (id : ℕ) (v : ParamValue) → Sized s → Fitting s → Fitting (setOf s id v)
 set-fitting s id v k f = wrote-fitting s (setOf s id v) id k (set-wrote s id v) f
 
-pub reset-fitting : (s : Settings) (id : ℕ) → Sized s → Fitting s → Fitting (resetOf s id)
-reset-fitting s id k f = wrote-fitting s (resetOf s id) id k (reset-wrote s id) f
+pub reset-fitting : (kind : Kind) (s : Settings) (id : ℕ) → Sized s → Fitting s → Fitting (resetOf kind s id)
+reset-fitting kind s id k f = wrote-fitting s (resetOf kind s id) id k (reset-wrote kind s id) f
 
-pub defaults-fitting : Fitting defaultsOf
-defaults-fitting = in-range-fitting defaultsOf defaults-in-range
+pub defaults-fitting : (kind : Kind) → Fitting (defaultsOf kind)
+defaults-fitting kind = in-range-fitting (defaultsOf kind) (defaults-in-range kind)
 
 -- ---- every default that the page gives lies in its range
-pub defaults-given : map defaultOf ids ≡ map (λ id. pos (givenIn (rowOf id))) ids
+pub defaults-given : (kind : Kind) → map (defaultOf kind) ids ≡ map (λ id. pos (givenIn (rowOf id) kind)) ids
 unfolding defaultOf clampOf atLeast atMost lowOf highOf rowOf find lies readWriteRows readOnlyRows ids idsOf from column
-defaults-given = refl
+defaults-given Distribution = refl
+defaults-given (Battery abf) = refl
+defaults-given (Integrated daughterboard) = refl

@@ -10,6 +10,7 @@ use lib.Dec.{T, leb, ltb}
 use lib.IntN.{ℤ, pos, natAbs}
 use lib.Signed.{leZ}
 use lib.ListN.{getD, List·getD-map, replicate, getD-replicate}
+use Rattle.kinds.specs.declared.Kind.{Kind}
 use Rattle.value.specs.Types.{codeOf}
 use Rattle.value.specs.declared.ValueType.{ValueType}
 use Rattle.value.specs.declared.ValueType.the-variants.{Int8, Uint8, Int16, Uint16, Int32, Uint32, Float, Int64, Uint64, Double}
@@ -103,7 +104,7 @@ Known id (readWrite t r d) = Held id t (lowEnd t r) (highEnd t r)
 Known id (readOnly t) = Shown id t
 Known id missing = Unit
 
-written : (a b id : ℕ) (t : ValueType) (r : Range) (d : ℕ) → fine (a to b are t with r default d) ≡ true → lies a b id ≡ true → Held id t (lowEnd t r) (highEnd t r)
+written : (a b id : ℕ) (t : ValueType) (r : Range) (d : Kind → ℕ) → fine (a to b are t with r default d) ≡ true → lies a b id ≡ true → Held id t (lowEnd t r) (highEnd t r)
 unfolding fine
 written a b id t r d f e =
     let l = lies-yes a b id e in

@@ -10,6 +10,7 @@ use lib.IntN.{ℤ, pos, negsuc, natAbs}
 use lib.Signed.{leZ}
 use lib.ListN.{length, length-map, getD, set}
 use lib.Seq.{getD-set-same, getD-set-other}
+use Rattle.kinds.specs.declared.Kind.{Kind}
 use Rattle.value.specs.Types.{codeOf, typeOf}
 use Rattle.value.specs.declared.ValueType.{ValueType}
 use Rattle.value.specs.declared.ValueType.the-variants.{Int8, Uint8, Int16, Uint16, Int32, Uint32, Float, Int64, Uint64, Double}
@@ -151,12 +152,12 @@ set-wrote s id v = go (parameterOf id) refl
     go (Parameter.ReadOnly t) e = nothing
     go Parameter.Unknown e = nothing
 
-pub reset-wrote : (s : Settings) (id : ℕ) → Wrote s id (resetOf s id)
+pub reset-wrote : (kind : Kind) (s : Settings) (id : ℕ) → Wrote s id (resetOf kind s id)
 unfolding resetOf defaultOf
-reset-wrote s id = go (parameterOf id) refl
+reset-wrote kind s id = go (parameterOf id) refl
   where
-    go : (p : Parameter) → parameterOf id ≡ p → Wrote s id (resetAs s id p)
-    go (Parameter.ReadWrite t) e = one t (defaultOf id) e (clamp-in id _)
+    go : (p : Parameter) → parameterOf id ≡ p → Wrote s id (resetAs kind s id p)
+    go (Parameter.ReadWrite t) e = one t (defaultOf kind id) e (clamp-in id _)
     go (Parameter.ReadOnly t) e = nothing
     go Parameter.Unknown e = nothing
 

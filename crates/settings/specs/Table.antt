@@ -4,8 +4,7 @@
 use Prim.Native.Nat.{ℕ, zero, suc, _-_, _/_, _^_}
 use mathlib.Core.{Bool.Bool, Bool.cond, Bool._&&_, List.List, List.[], List._∷_, List._++_}
 use lib.{Dec.leb, Dec.eqb, IntN.ℤ, IntN.pos, IntN.negsuc, Signed.ltZ, Signed.leZ}
-use Rattle.kinds.specs.Kinds.{boardOf}
-use Rattle.kinds.specs.declared.Kind.the-variants.{Distribution}
+use Rattle.kinds.specs.{Kinds.boardOf, declared.Kind.Kind}
 use Rattle.value.specs.declared.ValueType.{ValueType}
 use Rattle.value.specs.declared.ValueType.the-variants.{Int8, Uint8, Int16, Uint16, Int32, Uint32, Float, Int64, Uint64, Double}
 use Rattle.value.specs.Types.{Sign, Signed, Unsigned, signIn, bytesIn, codeOf, typeTable as types}
@@ -58,50 +57,53 @@ minus suc a up-to b = between (negsuc a) (pos b)
 infix 70 _to_are_with_default_
 infix 70 _to_are-read_
 pub data Row : Type 0 where
-  _to_are_with_default_ : ℕ → ℕ → ValueType → Range → ℕ → Row
+  _to_are_with_default_ : ℕ → ℕ → ValueType → Range → (Kind → ℕ) → Row
   _to_are-read_ : ℕ → ℕ → ValueType → Row
 
--- ---- Table 3-25, from the lowest id to the highest, where "n/a" is 0; the defaults that differ between the boards are
--- the distribution board's
-abbrev pub enabled : ℕ
-enabled = boardOf Distribution .enableBits
+-- ---- Table 3-25, from the lowest id to the highest, where "n/a" is 0. A default is given for a kind of board: the same
+-- for each, or the board's own
+abbrev pub each : ℕ → Kind → ℕ
+each number kind = number
 
-abbrev pub key : ℕ
-key = boardOf Distribution .enableKey
+abbrev pub enabled : Kind → ℕ
+enabled kind = boardOf kind .enableBits
+
+abbrev pub key : Kind → ℕ
+key kind = boardOf kind .enableKey
 
 unfoldable pub readWriteRows : List Row
 readWriteRows =
-    0x1000 to 0x1000 are Int8 with any default 0  -- (internal)
-    ∷ 0x1001 to 0x1003 are Int8 with any default 0  -- AUTO_HEAT_ENA_BP1 to BP3
-    ∷ 0x1004 to 0x1006 are Int8 with any default 0  -- AUTO_BAL_ENA_BP1 to BP3
-    ∷ 0x1007 to 0x100D are Int8 with any default 0  -- VD1_ALWAYS_ENA to VD6, seven ids
-    ∷ 0x100E to 0x1014 are Int8 with any default 0  -- VD1_ALWAYS_DISA to VD6, seven ids
-    ∷ 0x2000 to 0x2000 are Uint8 with any default 1  -- BOARD_IDENTIFIER
-    ∷ 0x2001 to 0x2001 are Uint8 with any default 0x12  -- BOARD_IDENTIFIER_KEY
-    ∷ 0x2002 to 0x2002 are Uint8 with any default 3  -- RAVG_STRENGTH_P2
-    ∷ 0x3000 to 0x3002 are Int16 with minus 2000 up-to 3000 default 200  -- LOTHR_BP1_HEATER to BP3
-    ∷ 0x3003 to 0x3005 are Int16 with minus 2000 up-to 3400 default 600  -- HITHR_BP1_HEATER to BP3
-    ∷ 0x3006 to 0x3008 are Int16 with min 30 default 30  -- LOTHR_BP1_UNBAL to BP3
-    ∷ 0x3009 to 0x300B are Int16 with min 30 default 50  -- HITHR_BP1_UNBAL to BP3
-    ∷ 0x300C to 0x300C are Int16 with any default 0  -- MCU_TEMP_BIAS
-    ∷ 0x300D to 0x300D are Int16 with any default 1  -- MCU_TEMP_PREMUL
-    ∷ 0x300E to 0x300E are Int16 with any default 1  -- MCU_TEMP_POSDIV
-    ∷ 0x300F to 0x3011 are Int16 with any default 0  -- BP1_TEMP1_BIAS to TEMP3
-    ∷ 0x3012 to 0x3014 are Int16 with any default 0  -- BP2_TEMP1_BIAS to TEMP3
-    ∷ 0x3015 to 0x3017 are Int16 with any default 0  -- BP3_TEMP1_BIAS to TEMP3
-    ∷ 0x3018 to 0x301A are Int16 with any default 1  -- BP1_TEMP1_PREMUL to TEMP3
-    ∷ 0x301B to 0x301D are Int16 with any default 1  -- BP2_TEMP1_PREMUL to TEMP3
-    ∷ 0x301E to 0x3020 are Int16 with any default 1  -- BP3_TEMP1_PREMUL to TEMP3
-    ∷ 0x3021 to 0x3023 are Int16 with any default 1  -- BP1_TEMP1_POSDIV to TEMP3
-    ∷ 0x3024 to 0x3026 are Int16 with any default 1  -- BP2_TEMP1_POSDIV to TEMP3
-    ∷ 0x3027 to 0x3029 are Int16 with any default 1  -- BP3_TEMP1_POSDIV to TEMP3
-    ∷ 0x4000 to 0x4000 are Uint16 with any default 300  -- TTC_WDG_TIMEOUT
-    ∷ 0x4001 to 0x4001 are Uint16 with any default 0  -- TTC_WDG_TIMEOUT_KEY
-    ∷ 0x4002 to 0x4021 are Uint16 with max 20000 default 0  -- CH_STARTUP_DELAY
-    ∷ 0x4022 to 0x4041 are Uint16 with 50 up-to 20000 default 5000  -- CH_LATCHOFF_DELAY
-    ∷ 0x4042 to 0x4042 are Uint16 with any default 12400  -- SAFETY_VOLT_LOTHR
-    ∷ 0x4043 to 0x4043 are Uint16 with any default 14000  -- SAFETY_VOLT_HITHR
-    ∷ 0x6000 to 0x6001 are Uint32 with any default 0  -- (internal)
+    0x1000 to 0x1000 are Int8 with any default each 0  -- (internal)
+    ∷ 0x1001 to 0x1003 are Int8 with any default each 0  -- AUTO_HEAT_ENA_BP1 to BP3
+    ∷ 0x1004 to 0x1006 are Int8 with any default each 0  -- AUTO_BAL_ENA_BP1 to BP3
+    ∷ 0x1007 to 0x100D are Int8 with any default each 0  -- VD1_ALWAYS_ENA to VD6, seven ids
+    ∷ 0x100E to 0x1014 are Int8 with any default each 0  -- VD1_ALWAYS_DISA to VD6, seven ids
+    ∷ 0x2000 to 0x2000 are Uint8 with any default each 1  -- BOARD_IDENTIFIER
+    ∷ 0x2001 to 0x2001 are Uint8 with any default each 0x12  -- BOARD_IDENTIFIER_KEY
+    ∷ 0x2002 to 0x2002 are Uint8 with any default each 3  -- RAVG_STRENGTH_P2
+    ∷ 0x3000 to 0x3002 are Int16 with minus 2000 up-to 3000 default each 200  -- LOTHR_BP1_HEATER to BP3
+    ∷ 0x3003 to 0x3005 are Int16 with minus 2000 up-to 3400 default each 600  -- HITHR_BP1_HEATER to BP3
+    ∷ 0x3006 to 0x3008 are Int16 with min 30 default each 30  -- LOTHR_BP1_UNBAL to BP3
+    ∷ 0x3009 to 0x300B are Int16 with min 30 default each 50  -- HITHR_BP1_UNBAL to BP3
+    ∷ 0x300C to 0x300C are Int16 with any default each 0  -- MCU_TEMP_BIAS
+    ∷ 0x300D to 0x300D are Int16 with any default each 1  -- MCU_TEMP_PREMUL
+    ∷ 0x300E to 0x300E are Int16 with any default each 1  -- MCU_TEMP_POSDIV
+    ∷ 0x300F to 0x3011 are Int16 with any default each 0  -- BP1_TEMP1_BIAS to TEMP3
+    ∷ 0x3012 to 0x3014 are Int16 with any default each 0  -- BP2_TEMP1_BIAS to TEMP3
+    ∷ 0x3015 to 0x3017 are Int16 with any default each 0  -- BP3_TEMP1_BIAS to TEMP3
+    ∷ 0x3018 to 0x301A are Int16 with any default each 1  -- BP1_TEMP1_PREMUL to TEMP3
+    ∷ 0x301B to 0x301D are Int16 with any default each 1  -- BP2_TEMP1_PREMUL to TEMP3
+    ∷ 0x301E to 0x3020 are Int16 with any default each 1  -- BP3_TEMP1_PREMUL to TEMP3
+    ∷ 0x3021 to 0x3023 are Int16 with any default each 1  -- BP1_TEMP1_POSDIV to TEMP3
+    ∷ 0x3024 to 0x3026 are Int16 with any default each 1  -- BP2_TEMP1_POSDIV to TEMP3
+    ∷ 0x3027 to 0x3029 are Int16 with any default each 1  -- BP3_TEMP1_POSDIV to TEMP3
+    ∷ 0x4000 to 0x4000 are Uint16 with any default each 300  -- TTC_WDG_TIMEOUT
+    ∷ 0x4001 to 0x4001 are Uint16 with any default each 0  -- TTC_WDG_TIMEOUT_KEY
+    ∷ 0x4002 to 0x4021 are Uint16 with max 20000 default each 0  -- CH_STARTUP_DELAY
+    ∷ 0x4022 to 0x4041 are Uint16 with 50 up-to 20000 default each 5000  -- CH_LATCHOFF_DELAY
+    ∷ 0x4042 to 0x4042 are Uint16 with any default each 12400  -- SAFETY_VOLT_LOTHR
+    ∷ 0x4043 to 0x4043 are Uint16 with any default each 14000  -- SAFETY_VOLT_HITHR
+    ∷ 0x6000 to 0x6001 are Uint32 with any default each 0  -- (internal)
     ∷ 0x6002 to 0x6002 are Uint32 with any default enabled  -- CH_STARTUP_ENA_BF
     ∷ 0x6003 to 0x6003 are Uint32 with any default key  -- CH_STARTUP_KEY
     ∷ 0x6004 to 0x6004 are Uint32 with any default enabled  -- CH_LATCHOFF_ENA_BF
@@ -153,7 +155,7 @@ lies first last id = leb first id && leb id last
 
 -- what the tables say of an id
 pub data Entry : Type 0 where
-  readWrite : ValueType → Range → ℕ → Entry
+  readWrite : ValueType → Range → (Kind → ℕ) → Entry
   readOnly : ValueType → Entry
   missing : Entry
 
@@ -246,11 +248,11 @@ atMost high z = cond (ltZ high z) high z
 unfoldable pub clampOf : ℕ → ℤ → ℤ
 clampOf id z = atMost (highOf id) (atLeast (lowOf id) z)
 
--- ---- its default, brought into range
-abbrev pub givenIn : Entry → ℕ
-givenIn (readWrite t r d) = d
-givenIn (readOnly t) = 0
-givenIn missing = 0
+-- ---- its default on a kind of board, brought into range
+abbrev pub givenIn : Entry → Kind → ℕ
+givenIn (readWrite t r d) kind = d kind
+givenIn (readOnly t) kind = 0
+givenIn missing kind = 0
 
-unfoldable pub defaultOf : ℕ → ℤ
-defaultOf id = clampOf id (pos (givenIn (rowOf id)))
+unfoldable pub defaultOf : Kind → ℕ → ℤ
+defaultOf kind id = clampOf id (pos (givenIn (rowOf id) kind))

@@ -2,6 +2,7 @@
 use Prim.Native.Nat.{ℕ, _-_}
 use mathlib.Core.{Bool.Bool, Bool.true, Bool.cond, Bool._&&_, List.List, List.[], List._∷_, List.map}
 use lib.{ListN.getD, ListN.set, IntN.ℤ, IntN.pos, IntN.natAbs}
+use Rattle.kinds.specs.declared.Kind.{Kind}
 use Rattle.value.specs.{Types.codeOf, Types.typeOf, declared.ValueType.ValueType, declared.ParamValue.ParamValue}
 use Rattle.value.specs.declared.ValueType.the-variants.{Int8, Uint8, Int16, Uint16, Int32, Uint32, Float, Int64, Uint64, Double}
 use Rattle.settings.specs.Table.{same, parameterOf, insideOf, clampOf, defaultOf, column, ids}
@@ -95,26 +96,26 @@ storeAs s id Parameter.Unknown u z = s
 unfoldable pub setOf : Settings → ℕ → ParamValue → Settings
 setOf s id v = storeAs s id (parameterOf id) (typeOf v) (clampOf id (numberIn v))
 
--- a reset stores the default
-abbrev pub resetAs : Settings → ℕ → Parameter → Settings
-resetAs s id (Parameter.ReadWrite t) = withNumber s t (id - codeOf t) (defaultOf id)
-resetAs s id (Parameter.ReadOnly t) = s
-resetAs s id Parameter.Unknown = s
+-- a reset stores the default of the kind of board
+abbrev pub resetAs : Kind → Settings → ℕ → Parameter → Settings
+resetAs kind s id (Parameter.ReadWrite t) = withNumber s t (id - codeOf t) (defaultOf kind id)
+resetAs kind s id (Parameter.ReadOnly t) = s
+resetAs kind s id Parameter.Unknown = s
 
-unfoldable pub resetOf : Settings → ℕ → Settings
-resetOf s id = resetAs s id (parameterOf id)
+unfoldable pub resetOf : Kind → Settings → ℕ → Settings
+resetOf kind s id = resetAs kind s id (parameterOf id)
 
 -- every parameter at its default; `defaultN` is for unsigned types
-unfoldable pub defaultN : ℕ → ℕ
-defaultN id = natAbs (defaultOf id)
+unfoldable pub defaultN : Kind → ℕ → ℕ
+defaultN kind id = natAbs (defaultOf kind id)
 
-unfoldable pub defaultsOf : Settings
-defaultsOf = record {
-  u32s = column defaultN 0x6000 6;
-  u16s = column defaultN 0x4000 68;
-  i16s = column defaultOf 0x3000 42;
-  i8s = column defaultOf 0x1000 21;
-  u8s = column defaultN 0x2000 3;
+unfoldable pub defaultsOf : Kind → Settings
+defaultsOf kind = record {
+  u32s = column (defaultN kind) 0x6000 6;
+  u16s = column (defaultN kind) 0x4000 68;
+  i16s = column (defaultOf kind) 0x3000 42;
+  i8s = column (defaultOf kind) 0x1000 21;
+  u8s = column (defaultN kind) 0x2000 3;
 }
 
 -- ---- every read/write parameter's number lies in its range

@@ -9,6 +9,7 @@ ghost use Rattle.settings.specs.Answers.{setNumber, getNumber, settableN
 
 mod tables;
 
+use kinds::Kind;
 use value::ParamValue;
 use value::ValueType;
 
@@ -109,12 +110,24 @@ pub fn parameter_of(id: u16) -> Parameter
     }
 }
 
-// Every parameter at its default.
-pub fn defaults() -> Settings
-    ensures { λ r. ⌜ r ≡ defaultsOf ⌝ }
+// The defaults of 0x6000 to 0x6005 on a kind of board, the only ones that differ between the boards.
+fn uint32_defaults(kind: Kind) -> [u32; 6]
+    ensures { λ r. ⌜ r ≡ defaultsOf kind .u32s ⌝ }
 {
+    match kind {
+        Kind::Distribution => tables::DISTRIBUTION_DEFAULT,
+        Kind::Battery { abf: _ } => tables::BATTERY_DEFAULT,
+        Kind::Integrated { daughterboard: _ } => tables::INTEGRATED_DEFAULT,
+    }
+}
+
+// Every parameter at its default on a kind of board.
+pub fn defaults(kind: Kind) -> Settings
+    ensures { λ r. ⌜ r ≡ defaultsOf kind ⌝ }
+{
+    let u32s = uint32_defaults(kind);
     Settings {
-        u32s: tables::UINT32_DEFAULT,
+        u32s,
         u16s: tables::UINT16_DEFAULT,
         i16s: tables::INT16_DEFAULT,
         i8s: tables::INT8_DEFAULT,
@@ -286,12 +299,12 @@ pub fn set(s: Settings, id: u16, value: ParamValue) -> Settings
     }
 }
 
-// The settings with one parameter at its default, brought into range; an id that is read-only or unknown, which
-// `parameter_of` tells, changes nothing.
-pub fn reset_one(s: Settings, id: u16) -> Settings
-    ensures { λ r. ⌜ r ≡ resetOf s id ⌝ }
+// The settings with one parameter at its default on a kind of board, brought into range; an id that is read-only or
+// unknown, which `parameter_of` tells, changes nothing.
+pub fn reset_one(s: Settings, kind: Kind, id: u16) -> Settings
+    ensures { λ r. ⌜ r ≡ resetOf kind s id ⌝ }
 {
-    let default = get(defaults(), id);
+    let default = get(defaults(kind), id);
     match default {
         Got::Value(value) => set(s, id, value),
         Got::ReadOnly(_) => s,

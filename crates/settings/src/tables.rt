@@ -1,8 +1,12 @@
 // Table 3-25 in columns: an array for each type, from the lowest id of the type on. Where the page gives no end, the
 // type's own end stands.
 
-// Defaults of 0x6000 to 0x6005.
-pub const UINT32_DEFAULT: [u32; 6] = [0, 0, 0x00000111, 0x11111222, 0x00000111, 0x11111222];
+// Defaults of 0x6000 to 0x6005, by the kind of board.
+pub const DISTRIBUTION_DEFAULT: [u32; 6] = [0, 0, 0x00000111, 0x11111222, 0x00000111, 0x11111222];
+
+pub const BATTERY_DEFAULT: [u32; 6] = [0; 6];
+
+pub const INTEGRATED_DEFAULT: [u32; 6] = [0, 0, 0x00000023, 0x11111134, 0x00000023, 0x11111134];
 
 // Defaults of 0x4000 to 0x4043.
 pub const UINT16_DEFAULT: [u16; 68] = [

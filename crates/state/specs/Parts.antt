@@ -8,7 +8,7 @@ use Rattle.channels.specs.declared.Channels.{Channels}
 use Rattle.kinds.specs.{Kinds.boardOf, declared.Kind.Kind}
 use Rattle.kinds.specs.declared.Kind.the-variants.{Distribution}
 use Rattle.modes.specs.{declared.ModeAge.ModeAge, declared.Mode.Mode}
-use Rattle.readings.specs.{Readings.rawWords, Readings.engineeringWords, Layout.layout, Layout.convertedBy}
+use Rattle.readings.specs.{Readings.rawWords, Readings.engineeringWords, Layout.layout, Layout.convertedBy, Packs.packs, Packs.toldBy}
 use Rattle.memory.specs.declared.Memory.{Memory}
 use Rattle.state.specs.{declared.parts.Board.Board, declared.parts.Cause.Cause, declared.parts.Measured.Measured}
 use Rattle.state.specs.declared.parts.Profile.{Profile}
@@ -29,6 +29,10 @@ wordsOf b = take (wordCount b) (rawWords (b .measured .words))
 -- 0x52 is no other board's
 abbrev pub inUnitsOf : Board → List ℕ
 inUnitsOf b = engineeringWords (convertedBy layout (b .measured .words))
+
+-- and those of a battery board as 0x62, which is no other board's, tells them: each in the way of its field
+abbrev pub packsToldOf : Board → List ℕ
+packsToldOf b = toldBy packs (b .measured .words)
 
 -- the mode that a board is in
 abbrev pub modeOf : Board → Mode

@@ -25,14 +25,14 @@ abbrev pub unmeasured : Measured
 unmeasured = record { words = noneMeasured; fresh = noneNew }
 
 -- a board with nothing behind it: startup just entered, the timer at 0, no reply, what the store holds in force or else
--- the defaults, channels that are off, unlatched and uncounted, no words, the raw form
+-- the defaults of its kind, channels that are off, unlatched and uncounted, no words, the raw form
 unfoldable pub freshOf : Profile → Store → Resets → Board
 freshOf profile store resets =
     record {
       phase = entered Startup;
       timer = 0;
       reply = replyOf [];
-      memory = loadedFrom store;
+      memory = loadedFrom (profile .kind) store;
       channels = cleared;
       profile = profile;
       measured = unmeasured;

@@ -46,7 +46,8 @@ fn fresh(profile: Profile, store: Store, resets: Resets) -> Board
 {
     let phase = ModeAge::start();
     let reply = Reply::none();
-    let memory = Memory::loaded(store);
+    let kind = profile.kind;
+    let memory = Memory::loaded(kind, store);
     let channels = Channels::clear();
     let measured = Measured {
         words: readings::none_measured(),

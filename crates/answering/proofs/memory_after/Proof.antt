@@ -39,7 +39,7 @@ enum-told-4 : tie.Need-enum-told-4
 enum-told-4 c = search needs
 
 returns : tie.Need-returns
-returns c = search needs
+returns c = rw (c .enum-told .given .1)
 
 returns-2 : tie.Need-returns-2
 returns-2 c = rw (c .before .before .change .given .1, c .set .ensures)
@@ -57,7 +57,7 @@ returns-6 : tie.Need-returns-6
 returns-6 c = rw (c .before .before .before .change3 .given .1, c .before .save .ensures)
 
 returns-7 : tie.Need-returns-7
-returns-7 c = search needs
+returns-7 c = rw (c .enum-told4 .given .1)
 
 pub memory-after-spec : {M : Type 1} → statement M
 memory-after-spec =

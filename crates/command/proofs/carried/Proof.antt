@@ -100,6 +100,15 @@ le16-requires-4 c κs = search needs
 enum-told-20 : tie.Need-enum-told-20
 enum-told-20 c = search needs
 
+enum-told-21 : tie.Need-enum-told-21
+enum-told-21 c = search needs
+
+enum-told-22 : tie.Need-enum-told-22
+enum-told-22 c = search needs
+
+enum-told-23 : tie.Need-enum-told-23
+enum-told-23 c = search needs
+
 returns : tie.Need-returns
 unfolding carried
 returns c = rw (c .enum-told .given .1)
@@ -180,6 +189,18 @@ returns-20 : tie.Need-returns-20
 unfolding carried
 returns-20 c = rw (c .enum-told20 .given .1)
 
+returns-21 : tie.Need-returns-21
+unfolding carried
+returns-21 c = rw (c .enum-told21 .given .1)
+
+returns-22 : tie.Need-returns-22
+unfolding carried
+returns-22 c = rw (c .enum-told22 .given .1)
+
+returns-23 : tie.Need-returns-23
+unfolding carried
+returns-23 c = rw (c .enum-told23 .given .1)
+
 pub carried-spec : {M : Type 1} → statement M
 carried-spec =
     tie.close
@@ -216,6 +237,9 @@ carried-spec =
     enum-told-19
     le16-requires-4
     enum-told-20
+    enum-told-21
+    enum-told-22
+    enum-told-23
     returns
     returns-2
     returns-3
@@ -235,4 +259,7 @@ carried-spec =
     returns-17
     returns-18
     returns-19
-    returns-20)
+    returns-20
+    returns-21
+    returns-22
+    returns-23)

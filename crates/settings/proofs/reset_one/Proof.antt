@@ -31,24 +31,27 @@ returns : tie.Need-returns
 returns c =
     let s = c .before .before .before .before .before .before .args .s in
     let id = c .before .before .before .before .before .before .args .id in
-    let g : getOf defaultsOf id ≡ c .before .before .before .before .get .result = sym (c .before .before .before .before .get .ensures .0 ∙ ap (λ (d : Settings). getOf d id) (c .before .before .before .before .before .defaults .ensures)) in
-    c .set .ensures ∙ reset-sets s id _ (g ∙ c .before .before .default .given .1)
+    let kind = c .before .before .before .before .before .before .args .kind in
+    let g : getOf (defaultsOf kind) id ≡ c .before .before .before .before .get .result = sym (c .before .before .before .before .get .ensures .0 ∙ ap (λ (d : Settings). getOf d id) (c .before .before .before .before .before .defaults .ensures)) in
+    c .set .ensures ∙ reset-sets kind s id _ (g ∙ c .before .before .default .given .1)
 
 returns-2 : tie.Need-returns-2
 returns-2 c =
     let s = c .before .before .before .before .args .s in
     let id = c .before .before .before .before .args .id in
-    let g : getOf defaultsOf id ≡ c .before .before .get .result = sym (c .before .before .get .ensures .0 ∙ ap (λ (d : Settings). getOf d id) (c .before .before .before .defaults .ensures)) in
+    let kind = c .before .before .before .before .args .kind in
+    let g : getOf (defaultsOf kind) id ≡ c .before .before .get .result = sym (c .before .before .get .ensures .0 ∙ ap (λ (d : Settings). getOf d id) (c .before .before .before .defaults .ensures)) in
     let n = c .enum-told .given .1 in
-    sym (reset-unread s id (λ v h. let z : _≡_ {A = ℕ} 0 1 = cc in omega arith))
+    sym (reset-unread kind s id (λ v h. let z : _≡_ {A = ℕ} 0 1 = cc in omega arith))
 
 returns-3 : tie.Need-returns-3
 returns-3 c =
     let s = c .before .before .before .before .args .s in
     let id = c .before .before .before .before .args .id in
-    let g : getOf defaultsOf id ≡ c .before .before .get .result = sym (c .before .before .get .ensures .0 ∙ ap (λ (d : Settings). getOf d id) (c .before .before .before .defaults .ensures)) in
+    let kind = c .before .before .before .before .args .kind in
+    let g : getOf (defaultsOf kind) id ≡ c .before .before .get .result = sym (c .before .before .get .ensures .0 ∙ ap (λ (d : Settings). getOf d id) (c .before .before .before .defaults .ensures)) in
     let n = c .enum-told2 .given .1 in
-    sym (reset-unread s id (λ v h. let z : _≡_ {A = ℕ} 0 1 = cc in omega arith))
+    sym (reset-unread kind s id (λ v h. let z : _≡_ {A = ℕ} 0 1 = cc in omega arith))
 
 pub reset-one-spec : {M : Type 1} → statement M
 reset-one-spec =
