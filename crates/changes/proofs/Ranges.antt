@@ -11,6 +11,7 @@ use lib.ListN.{length, getD}
 use lib.Seq.{set-out, getD-set-same}
 use Rattle.laws.proofs.Cases.{cases}
 use Rattle.laws.proofs.Lists.{lt-or-le}
+use Rattle.kinds.specs.declared.Kind.{Kind}
 use Rattle.value.specs.Types.{codeOf}
 use Rattle.value.specs.declared.ParamValue.{ParamValue}
 use Rattle.value.specs.declared.ValueType.{ValueType}
@@ -64,11 +65,11 @@ pub record InRange (m : Memory) : Type 0 where
   pub store : storedInRange (m .store) ≡ true
 
 -- what is loaded from a store that is in range
-pub loaded : (store : Store) → storedInRange store ≡ true → InRange (loadedFrom store)
-loaded store h =
+pub loaded : (kind : Kind) (store : Store) → storedInRange store ≡ true → InRange (loadedFrom kind store)
+loaded kind store h =
     cases (store .held)
-    (λ held. subst InRange (sym (load-of-stored store held)) (record { current = rw held at h; store = h }))
-    (λ empty. subst InRange (sym (load-of-nothing store empty)) (record { current = defaults-in-range; store = h }))
+    (λ held. subst InRange (sym (load-of-stored kind store held)) (record { current = rw held at h; store = h }))
+    (λ empty. subst InRange (sym (load-of-nothing kind store empty)) (record { current = defaults-in-range kind; store = h }))
 
 module _ (m : Memory) (h : InRange m) where
   -- 0x84
@@ -77,19 +78,19 @@ module _ (m : Memory) (h : InRange m) where
   set-one id v = record { current = wrote-in-range (m .current) _ id (set-wrote (m .current) id v) (h .current); store = h .store }
 
   -- 0x86
-  pub reset-one : (id : ℕ) → InRange (resetIn id m)
+  pub reset-one : (kind : Kind) (id : ℕ) → InRange (resetIn kind id m)
   unfolding resetIn
-  reset-one id = record { current = wrote-in-range (m .current) _ id (reset-wrote (m .current) id) (h .current); store = h .store }
+  reset-one kind id = record { current = wrote-in-range (m .current) _ id (reset-wrote kind (m .current) id) (h .current); store = h .store }
 
   -- 0x90
-  pub defaulted : InRange (defaultedOf m)
+  pub defaulted : (kind : Kind) → InRange (defaultedOf kind m)
   unfolding defaultedOf
-  defaulted = record { current = defaults-in-range; store = h .store }
+  defaulted kind = record { current = defaults-in-range kind; store = h .store }
 
   -- 0x92
-  pub load : InRange (loadOf m)
+  pub load : (kind : Kind) → InRange (loadOf kind m)
   unfolding loadOf
-  load = loaded (m .store) (h .store)
+  load kind = loaded kind (m .store) (h .store)
 
   -- 0x94
   pub saved : (given : ℕ) → InRange (savedOf given m .memory)

@@ -27,7 +27,7 @@ use Rattle.changes.proofs.Ticks.{of-accepted, step, leaves-all, tells, 
 -- a reset takes its settings from the store, and leaves that
 reset-store : (b : Board) → watchdogResetOf b .memory .store ≡ b .memory .store
 unfolding watchdogResetOf freshOf
-reset-store b = load-leaves-store (b .memory .store)
+reset-store b = load-leaves-store (b .profile .kind) (b .memory .store)
 
 module _ (m : Machine) (i : Sample) where
   -- steps 1 to 3 leave the memory

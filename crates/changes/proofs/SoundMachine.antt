@@ -163,7 +163,7 @@ obeyed-sound m i u =
 -- a board with nothing behind it
 fresh : (p : Profile) (store : Store) (resets : Resets) → storedInRange store ≡ true → Sound (freshOf p store resets)
 unfolding freshOf
-fresh p store resets h = record { apart = cleared-apart; range = loaded store h }
+fresh p store resets h = record { apart = cleared-apart; range = loaded (p .kind) store h }
 
 -- step 5
 reset-sound : (b : Board) → Sound b → Sound (watchdogResetOf b)

@@ -93,9 +93,9 @@ module _ (rail : ℤ) (limits : Limits) (s : List ℕ) (b : Board) where
   remembering : {k : ℕ} {m : Memory} (after : Board) → Remembers rail limits s b k m → after .timer ≡ 0 → after .phase ≡ b .phase → after .memory ≡ m → Obeyed k after
   unfolding isIn loadOf
   remembering after (set id v) t p e = plainly 0x84 after refl t p (λ n. both n refl) (λ _. rw e (set-leaves-store (b .memory) id v)) (λ r. rw e (set-one (b .memory) r id v))
-  remembering after (reset-one id) t p e = plainly 0x86 after refl t p (λ n. both n refl) (λ _. rw e (reset-leaves-store (b .memory) id)) (λ r. rw e (ranges.reset-one (b .memory) r id))
-  remembering after defaults t p e = plainly 0x90 after refl t p (λ n. both n refl) (λ _. rw e (defaults-leave-store (b .memory))) (λ r. rw e (defaulted (b .memory) r))
-  remembering after load t p e = plainly 0x92 after refl t p (λ n. both n refl) (λ _. rw e (load-leaves-store (b .memory .store))) (λ r. rw e (ranges.load (b .memory) r))
+  remembering after (reset-one id) t p e = plainly 0x86 after refl t p (λ n. both n refl) (λ _. rw e (reset-leaves-store (b .memory) id (b .profile .kind))) (λ r. rw e (ranges.reset-one (b .memory) r (b .profile .kind) id))
+  remembering after defaults t p e = plainly 0x90 after refl t p (λ n. both n refl) (λ _. rw e (defaults-leave-store (b .memory) (b .profile .kind))) (λ r. rw e (defaulted (b .memory) r (b .profile .kind)))
+  remembering after load t p e = plainly 0x92 after refl t p (λ n. both n refl) (λ _. rw e (load-leaves-store (b .profile .kind) (b .memory .store))) (λ r. rw e (ranges.load (b .memory) r (b .profile .kind)))
   remembering after (save given) t p e = plainly 0x94 after refl t p (λ _. rw e (save-leaves-current given (b .memory))) (λ n. both n refl) (λ r. rw e (saved (b .memory) r given))
 
   -- ---- the commands on the mode: 0x30
@@ -156,8 +156,8 @@ module _ (rail : ℤ) (limits : Limits) (s : List ℕ) (b : Board) where
         nominal = λ e. both refl e;
         safety = λ e. both refl e;
         current = λ _ e. both e refl;
-        store = λ _. load-leaves-store (b .memory .store);
-        range = λ r. loaded (b .memory .store) (r .store);
+        store = λ _. load-leaves-store (b .profile .kind) (b .memory .store);
+        range = λ r. loaded (b .profile .kind) (b .memory .store) (r .store);
         faults = λ e. both refl e;
       }
 

@@ -3,7 +3,7 @@ use Rattle.refusals.proofs.Answered.{exactly-when}
 use Rattle.refusals.proofs.Refused.{refused-command}
 use Rattle.refusals.proofs.RefusedTicks.{refused-tick}
 use Rattle.refusals.proofs.Untouched.{other-refusals}
-use Rattle.refusals.proofs.Rules.{base-board}
+use Rattle.refusals.proofs.Rules.{base-board, battery-board}
 use Rattle.groups.proofs.Groups.{groups}
 use Rattle.groups.proofs.Altered.{altered}
 use Rattle.groups.proofs.Resets.{reset-is-told}
@@ -38,6 +38,7 @@ claims =
       refused-tick = refused-tick;
       other-refusals = other-refusals;
       base-board = base-board;
+      battery-board = battery-board;
       groups = groups;
       altered = altered;
       reset-is-told = reset-is-told;

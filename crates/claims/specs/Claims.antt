@@ -28,6 +28,7 @@ pub record Claims : Type 0 where
   pub refused-tick : RefusedTick
   pub other-refusals : OtherRefusals
   pub base-board : BaseBoard
+  pub battery-board : BatteryBoard
   -- demand 2: what commands, overcurrent and resets do, at every tick
   pub groups : (rail : ℤ) (limits : Limits) (transfer : List ℕ) (board : Board) → Groups rail limits transfer board
   pub altered : (rail : ℤ) (limits : Limits) (transfer : List ℕ) (board : Board) → Altered rail limits transfer board

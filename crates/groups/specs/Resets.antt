@@ -53,7 +53,7 @@ pub record StartedOver (before after : Board) : Type 0 where
   pub startup : after .phase ≡ entered Startup
   pub timer : after .timer ≡ 0
   pub no-reply : shown (after .reply) ≡ []
-  pub settings : after .memory ≡ loadedFrom (before .memory .store)
+  pub settings : after .memory ≡ loadedFrom (before .profile .kind) (before .memory .store)
   pub channels : (c : ℕ) → c < 32 → chan (after .channels) c ≡ record { on = false; latched = false; count = 0 }
   pub profile : after .profile ≡ before .profile
   pub words : after .measured ≡ record { words = replicate wordRoom (rawOf 0); fresh = record { raw = false; engineering = false } }

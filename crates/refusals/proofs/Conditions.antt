@@ -199,13 +199,13 @@ module _ (t : Sent) where
   unfolding commandTable.find commandTable.commandTable neededBy
   lengths-agree k h =
       at-code (λ c. checks.shorter (commandTable.find commandTable.commandTable c) s ≡ ltb (length s) (neededBy lengths c)) k tableCodes h
-      (refl and refl and refl and refl and refl and refl and refl and refl and refl and refl and refl and refl and refl and refl and refl and refl and refl and refl and refl and refl and none)
+      (refl and refl and refl and refl and refl and refl and refl and refl and refl and refl and refl and refl and refl and refl and refl and refl and refl and refl and refl and refl and refl and refl and refl and none)
 
   keys-agree : (k : ℕ) → isIn k tableCodes ≡ true → checks.keyWrong (commandTable.find commandTable.commandTable k) s ≡ keyWrong k (t at 4)
   unfolding isIn commandTable.find commandTable.commandTable keyWrong
   keys-agree k h =
       at-code (λ c. checks.keyWrong (commandTable.find commandTable.commandTable c) s ≡ keyWrong c (t at 4)) k tableCodes h
-      (sym (or-false (not (eqb (t at 4) 0xA6))) and refl and refl and refl and refl and refl and refl and refl and refl and refl and refl and refl and refl and refl and refl and refl and refl and refl and refl and refl and none)
+      (sym (or-false (not (eqb (t at 4) 0xA6))) and refl and refl and refl and refl and refl and refl and refl and refl and refl and refl and refl and refl and refl and refl and refl and refl and refl and refl and refl and refl and refl and refl and none)
 
   -- 0x84 behind its id, where that can be set: the value's bytes count from the sixth on
   long-enough : (type : ValueType) → 6 ≤ length s → ltb (length (drop 6 s)) (width type) ≡ valueShort (ReadWrite type) t

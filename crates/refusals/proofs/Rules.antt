@@ -26,7 +26,7 @@ use Rattle.state.specs.declared.parts.Profile.{Profile}
 use Rattle.grammar.specs.Grammar.{Read, fails, reads, times, end}
 use Rattle.sheet.specs.Form.{head, tickLine, Sheet, sheet, sheetIn}
 use Rattle.sheet.proofs.Behind.{went}
-use Rattle.refusals.specs.Rules.{InRange, KeepsAllRules, OfTheForm, BaseBoard}
+use Rattle.refusals.specs.Rules.{InRange, KeepsAllRules, OfTheForm, BaseBoard, BatteryBoard}
 
 -- ---- some channel is in a set that is not empty
 picked : (n : ℕ) (p : ℕ → Bool) → allBelow n (λ c. not (p c)) ≡ false → (c : ℕ) × (p c ≡ true)
@@ -180,3 +180,17 @@ read-form s w i e =
 -- ---- the distribution board is document 01's
 pub base-board : BaseBoard
 base-board = record { stid = refl; last-bid = refl; words = refl; places = refl; base-list = refl; enable-bits = refl; enable-key = refl; started = refl }
+
+pub battery-board : BatteryBoard
+battery-board =
+    record {
+      stid = λ _. refl;
+      last-bid = λ _. refl;
+      words = λ _. refl;
+      places = λ _. refl;
+      codes = λ _. refl;
+      enable-bits = λ _. refl;
+      enable-key = λ _. refl;
+      started = λ _. refl;
+      abf-placed = λ _. refl;
+    }

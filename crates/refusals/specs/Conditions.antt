@@ -82,6 +82,7 @@ lengths =
     ∷ (0x82 needs 6) ∷ (0x84 needs 6) ∷ (0x86 needs 6)
     ∷ (0x90 needs 5) ∷ (0x92 needs 5) ∷ (0x94 needs 7)
     ∷ (0x52 needs 4)
+    ∷ (0x44 needs 4) ∷ (0x60 needs 4) ∷ (0x62 needs 4)
     ∷ []
 
 unfoldable pub neededBy : List Need → ℕ → ℕ

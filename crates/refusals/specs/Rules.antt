@@ -1,12 +1,13 @@
 -- The rules of a profile, written out as document 01 gives them with the numbers of its kind of board, which is one that
 -- can be started; what a session sheet is made of, in the parts of the grammar of `sheet`: refusals 8 and 14 are told by
--- these; and that the distribution board is document 01's board. `(c : ℕ) × B` is some number c of which B holds.
--- Assumes nothing: these are definitions and the statement of a claim.
+-- these; and that the distribution board is document 01's board and the battery board that of document 02's K7.
+-- `(c : ℕ) × B` is some number c of which B holds. Assumes nothing: these are definitions and the statement of a claim.
 use Prim.Native.Nat.{ℕ, _+_, _-_, _^_, _≤_, _<_}
-use mathlib.Core.{Path._≡_, Bool.true, List.List, List.[], List._∷_, List._++_}
+use mathlib.Core.{Path._≡_, Bool.Bool, Bool.true, List.List, List.[], List._∷_, List._++_}
 use lib.{ListN.length, Signed._≤ℤ_}
 use Rattle.kinds.specs.Kinds.{boardOf, isServed}
-use Rattle.kinds.specs.declared.Kind.the-variants.{Distribution}
+use Rattle.kinds.specs.declared.Kind.{Kind}
+use Rattle.kinds.specs.declared.Kind.the-variants.{Distribution, Battery}
 use Rattle.value.specs.declared.ValueType.{ValueType}
 use Rattle.settings.specs.{Table.Range, Table.readWrite, Table.rowOf, Table.lowEnd, Table.highEnd, Values.settingOf}
 use Rattle.channels.specs.Sets.{has}
@@ -20,7 +21,7 @@ use Rattle.sheet.specs.Form.{Top, head, Tick, tickLine}
 -- No row has a type that has a NaN
 abbrev pub InRange : Store → Type 0
 InRange store =
-    (id : ℕ) (type : ValueType) (range : Range) (default : ℕ) → rowOf id ≡ readWrite type range default
+    (id : ℕ) (type : ValueType) (range : Range) (default : Kind → ℕ) → rowOf id ≡ readWrite type range default
     → (lowEnd type range ≤ℤ settingOf (store .settings) id) × (settingOf (store .settings) id ≤ℤ highEnd type range)
 
 -- a kind that can be started; BID 1 to the last of its kind; the fitted channels, at least one where such a board has a
@@ -64,3 +65,18 @@ pub record BaseBoard : Type 0 where
   pub enable-bits : boardOf Distribution .enableBits ≡ 0x111
   pub enable-key : boardOf Distribution .enableKey ≡ 0x111 + 0x11111111
   pub started : isServed Distribution ≡ true
+
+-- ---- the battery board of document 02: STID 0x12, BID 1 to 4, 39 words, no place for a channel; of the base list the
+-- codes that are about no channel and no reading of the other board, and behind them its own; one that can be started;
+-- the four defaults that Table 3-25 gives for other boards alone are 0; and its ABF as the profile says
+pub record BatteryBoard : Type 0 where
+  pub stid : (abf : Bool) → boardOf (Battery abf) .stid ≡ 0x12
+  pub last-bid : (abf : Bool) → boardOf (Battery abf) .lastBid ≡ 4
+  pub words : (abf : Bool) → boardOf (Battery abf) .words ≡ 39
+  pub places : (abf : Bool) → boardOf (Battery abf) .places ≡ 0
+  pub codes : (abf : Bool)
+      → boardOf (Battery abf) .codes ≡ 0xAA ∷ 0x02 ∷ 0x06 ∷ 0x30 ∷ 0x32 ∷ 0x82 ∷ 0x84 ∷ 0x86 ∷ 0x90 ∷ 0x92 ∷ 0x94 ∷ 0x44 ∷ 0x60 ∷ 0x62 ∷ []
+  pub enable-bits : (abf : Bool) → boardOf (Battery abf) .enableBits ≡ 0
+  pub enable-key : (abf : Bool) → boardOf (Battery abf) .enableKey ≡ 0
+  pub started : (abf : Bool) → isServed (Battery abf) ≡ true
+  pub abf-placed : (abf : Bool) → boardOf (Battery abf) .abfPlaced ≡ abf
