@@ -8,7 +8,7 @@ use Rattle.modes.specs.declared.Limits.{Limits}
 use Rattle.memory.specs.declared.Store.{Store}
 use Rattle.state.specs.{declared.parts.Board.Board, declared.parts.Profile.Profile}
 use Rattle.unit.specs.{declared.Machine.Machine, Runs.Sample, Runs.Reached}
-use Rattle.refusals.specs.{Conditions.ExactlyWhen, Refused.RefusedCommand, RefusedTicks.RefusedTick, Untouched.OtherRefusals, Rules.BaseBoard}
+use Rattle.refusals.specs.{Conditions.ExactlyWhen, Refused.RefusedCommand, RefusedTicks.RefusedTick, Untouched.OtherRefusals, Rules.BaseBoard, Rules.BatteryBoard}
 use Rattle.groups.specs.{Groups.Groups, Altered.Altered, Resets.ResetIsTold, Unfitted.Unfitted, Counts.Counts}
 use Rattle.changes.specs.{StepsOfChannels.StepsOfChannels, ChannelsAfter.ChannelsAfter, SettingsChange.SettingsChange}
 use Rattle.changes.specs.{ModeChange.ModeChange, CountsShown.CountsShown, SoundMachine.SoundMachine}
