@@ -20,6 +20,7 @@ use Rattle.channels.proofs.Sets.{has-none}
 use Rattle.channels.proofs.Laws.{cleared-each}
 use Rattle.watchdog.specs.Watchdog as dog
 use Rattle.watchdog.specs.declared.Event.the-variants.{NoEvent}
+use Rattle.kinds.specs.declared.Kind.the-variants.{Distribution}
 use Rattle.settings.specs.Table.{lies, rowOf, find, readWriteRows, readOnlyRows, parameterOf, column, defaultOf, clampOf, atLeast, atMost, lowOf, highOf}
 use Rattle.settings.specs.Values.{settingOf, defaultsOf, defaultN}
 use Rattle.watchdog.proofs.Laws.{disabled, early}
@@ -209,7 +210,7 @@ module _ (b : Board) (nominal : modeOf b ≡ Nominal) (kept : b .memory ≡ defa
   -- the mode stays
   phase-is : settled .phase ≡ olderOf (b .phase)
   unfolding trippedOf changedOf risenOf
-  phase-is = nominal-step (olderOf (b .phase)) (pos 20000) (limitsOf (b .memory)) (older-mode (b .phase) ∙ nominal) ∙ rw (ap limitsOf kept ∙ default-limits)
+  phase-is = nominal-step (olderOf (b .phase)) (pos 20000) (limitsOf (b .memory)) (older-mode (b .phase) ∙ nominal) ∙ rw (ap limitsOf kept ∙ default-limits Distribution)
 
   -- so the mode is nominal
   mode-is : modeOf settled ≡ Nominal

@@ -50,7 +50,7 @@ use Rattle.claims.proofs.Power.{numbers, times, input, small-of, in-tou
 
 -- ---- the defaults
 abbrev pub defaults : Memory
-defaults = withDefaults emptyStore
+defaults = withDefaults Distribution emptyStore
 
 -- linger, the emergency period and the thresholds by default
 abbrev default : Limits
@@ -97,7 +97,7 @@ module _ (b : Board) (kept : b .memory ≡ defaults) (rests : Rests (modeOf b) (
 
   -- the limits are the defaults
   own : limitsOf (b .memory) ≡ default
-  own = ap limitsOf kept ∙ default-limits
+  own = ap limitsOf kept ∙ default-limits Distribution
 
   -- the timer rests after the tick too
   settled-rests : Rests (modeOf settled) (settled .phase .age) (settled .timer)
@@ -113,7 +113,7 @@ module _ (b : Board) (kept : b .memory ≡ defaults) (rests : Rests (modeOf b) (
   nothing-happens : dog.watchedOf (settled .timer) (dog.secondsInTicks (timeoutOf (settled .memory))) ≡ NoEvent
   nothing-happens =
       let low : settled .timer ≤ 6000 = rests-low (modeOf settled) (settled .phase .age) (settled .timer) settled-rests in
-      ap (dog.watchedOf (settled .timer)) (ap (λ (x : Memory). dog.secondsInTicks (timeoutOf x)) settled-memory ∙ default-timeout)
+      ap (dog.watchedOf (settled .timer)) (ap (λ (x : Memory). dog.secondsInTicks (timeoutOf x)) settled-memory ∙ default-timeout Distribution)
       ∙ early (settled .timer) 30000 (omega arith) (omega arith) (omega arith)
 
   -- so the tick ends there

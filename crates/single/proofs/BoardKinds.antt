@@ -7,6 +7,7 @@ use Rattle.kinds.proofs.word_count.Reads as word-count
 use Rattle.kinds.proofs.places.Reads as places
 use Rattle.kinds.proofs.lists.Reads as lists
 use Rattle.kinds.proofs.is_served.Reads as is-served
+use Rattle.kinds.proofs.abf_placed.Reads as abf-placed
 
 pub single-stid : Single stid.Post (λ κ r s. r)
 single-stid κ a r r′ s s′ p q = p ∙ sym q
@@ -25,3 +26,6 @@ single-lists κ a r r′ s s′ p q = p ∙ sym q
 
 pub single-is-served : Single is-served.Post (λ κ r s. r)
 single-is-served κ a r r′ s s′ p q = p ∙ sym q
+
+pub single-abf-placed : Single abf-placed.Post (λ κ r s. r)
+single-abf-placed κ a r r′ s s′ p q = p ∙ sym q

@@ -22,6 +22,7 @@ pub mod Replies
 pub mod State
 pub mod Change
 pub mod Rounding
+pub mod Temperature
 pub mod Readings
 pub mod Answers
 pub mod Effects

@@ -8,6 +8,8 @@ use Rattle.readings.proofs.convert.Reads as convert
 use Rattle.readings.proofs.convert_all.Reads as convert-all
 use Rattle.readings.proofs.append_raw.Reads as append-raw
 use Rattle.readings.proofs.append_engineering.Reads as append-engineering
+use Rattle.readings.proofs.pack_temperature.Reads as pack-temperature
+use Rattle.readings.proofs.append_packs.Reads as append-packs
 
 pub single-none-measured : Single none-measured.Post (λ κ r s. r)
 single-none-measured κ a r r′ s s′ p q = p ∙ sym q
@@ -29,3 +31,9 @@ single-append-raw κ a r r′ s s′ p q = p ∙ sym q
 
 pub single-append-engineering : Single append-engineering.Post (λ κ r s. r)
 single-append-engineering κ a r r′ s s′ p q = p ∙ sym q
+
+pub single-pack-temperature : Single pack-temperature.Post (λ κ r s. r)
+single-pack-temperature κ a r r′ s s′ p q = p ∙ sym q
+
+pub single-append-packs : Single append-packs.Post (λ κ r s. r)
+single-append-packs κ a r r′ s s′ p q = p ∙ sym q
