@@ -108,13 +108,13 @@ curve-ways k = ap wayOf (past (take 9 (pack 1)) (drop 9 (pack 1)) 9 k (BAT-TEMP 
     last-two (suc (suc k)) = refl
 
 -- ---- the word that is told at a place
-pub told-at : (items : List Item) (raws : List Raw) (i : ℕ) (z : Item) (r : Raw) (w : ℕ) → i < length items → i < length raws
+at : (items : List Item) (raws : List Raw) (i : ℕ) (z : Item) (r : Raw) (w : ℕ) → i < length items → i < length raws
     → getD (toldBy items raws) i w ≡ wordBy (wayOf (getD items i z)) (getD raws i r)
 unfolding toldBy
-told-at [] raws i z r w h g = absurd (omega arith)
-told-at (item ∷ items) [] i z r w h g = absurd (omega arith)
-told-at (item ∷ items) (raw ∷ raws) zero z r w h g = refl
-told-at (item ∷ items) (raw ∷ raws) (suc i) z r w h g = told-at items raws i z r w (omega arith) (omega arith)
+at [] raws i z r w h g = absurd (omega arith)
+at (item ∷ items) [] i z r w h g = absurd (omega arith)
+at (item ∷ items) (raw ∷ raws) zero z r w h g = refl
+at (item ∷ items) (raw ∷ raws) (suc i) z r w h g = at items raws i z r w (omega arith) (omega arith)
 
 length-told : (items : List Item) (raws : List Raw) → length items ≤ length raws → length (toldBy items raws) ≡ length items
 unfolding toldBy
@@ -124,3 +124,6 @@ length-told (item ∷ items) (raw ∷ raws) h = ap suc (length-told items raws (
 
 pub length-packs-told : (raws : List Raw) → length raws ≡ 130 → length (toldBy packs raws) ≡ 39
 length-packs-told raws h = length-told packs raws (omega (arith, length-packs)) ∙ length-packs
+
+pub told-at : (raws : List Raw) (k : ℕ) (r : Raw) (w : ℕ) → length raws ≡ 130 → k < 39 → getD (toldBy packs raws) k w ≡ wordBy (wayAt k) (getD raws k r)
+told-at raws k r w l h = at packs raws k (BAT-TEMP 3 3 told ByCurve) r w (omega (arith, length-packs)) (omega arith)
