@@ -75,6 +75,7 @@ front-way (suc (suc (suc (suc zero)))) h = refl
 front-way (suc (suc (suc (suc (suc i))))) h = absurd (omega arith)
 
 same-ways : (p q : ℕ) (field : Field) → wayOf (getD (pack p) q (field told ByCurve)) ≡ packWay q
+unfolding packWay
 same-ways p q field =
     sym (List·getD-map wayOf (pack p) q (field told ByCurve)) ∙ List·getD-map wayOf (pack 1) q (BAT-TEMP 1 3 told ByCurve)
 
@@ -87,12 +88,14 @@ pack-way-at i h g =
 
 -- ---- the ways within a pack: its VIPD, its cells, and its last temperatures
 pub vipd-ways : (word : ℕ) → word < 3 → packWay word ≡ ByRow (vipRow word)
+unfolding packWay
 vipd-ways zero h = refl
 vipd-ways (suc zero) h = refl
 vipd-ways (suc (suc zero)) h = refl
 vipd-ways (suc (suc (suc word))) h = absurd (omega arith)
 
 pub cell-ways : (k : ℕ) → k < 4 → packWay (4 + k) ≡ ByRow VoltCell
+unfolding packWay
 cell-ways zero h = refl
 cell-ways (suc zero) h = refl
 cell-ways (suc (suc zero)) h = refl
@@ -100,6 +103,7 @@ cell-ways (suc (suc (suc zero))) h = refl
 cell-ways (suc (suc (suc (suc k)))) h = absurd (omega arith)
 
 pub curve-ways : (k : ℕ) → packWay (9 + k) ≡ ByCurve
+unfolding packWay
 curve-ways k = ap wayOf (past (take 9 (pack 1)) (drop 9 (pack 1)) 9 k (BAT-TEMP 1 3 told ByCurve) refl) ∙ last-two k
   where
     last-two : (k : ℕ) → wayOf (getD (drop 9 (pack 1)) k (BAT-TEMP 1 3 told ByCurve)) ≡ ByCurve

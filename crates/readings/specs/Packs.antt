@@ -72,5 +72,5 @@ toldBy (item ∷ items) (raw ∷ raws) = wordBy (wayOf item) raw ∷ toldBy item
 abbrev pub wayAt : ℕ → Way
 wayAt i = wayOf (getD packs i (BAT-TEMP 3 3 told ByCurve))
 
-abbrev pub packWay : ℕ → Way
+unfoldable pub packWay : ℕ → Way
 packWay word = wayOf (getD (pack 1) word (BAT-TEMP 1 3 told ByCurve))
