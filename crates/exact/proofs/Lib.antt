@@ -1,2 +1,3 @@
 pub mod Exact
+pub mod Line
 pub mod Words

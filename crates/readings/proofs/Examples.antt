@@ -1,13 +1,15 @@
--- Readings by Table 3-12, worked out: 0 and both sides of it, halves, and the ends of the word and of int16. Assumes
--- nothing.
+-- Readings by Table 3-12, worked out: 0 and both sides of it, halves, and the ends of the word and of int16; and what
+-- 0x62 tells of a battery board's words. Assumes nothing.
 use Prim.Native.Nat.{ℕ}
 use mathlib.Core.Path.{_≡_, refl}
-use mathlib.Core.List.{List, [], _∷_, map}
+use mathlib.Core.List.{List, [], _∷_, _++_, map}
 use lib.IntN.{ℤ, pos}
-use Rattle.wire.specs.Numbers.{signed}
+use Rattle.wire.specs.Numbers.{signed, pattern}
 use Rattle.rounding.specs.Rounding.{nearest, held}
+use Rattle.temperature.specs.Temperature.{coefficients, polynomial, lineAt, entryOf, temperatureOf}
 use Rattle.readings.specs.Readings.{rawOf}
 use Rattle.readings.specs.Table.{minus, numberOf, aboveTheLine, nearestUnits, engineeringOf}
+use Rattle.readings.specs.Packs.{packs, packTemperature, wordBy, toldBy}
 use Rattle.readings.specs.declared.table.Row.{Row}
 use Rattle.readings.specs.declared.table.Row.the-variants.{VoltBrdsup, PduTemp, PiuTemp, VipVolt, VipCurr, ChannelCurr, VipPowe, ChannelPowe, VoltCell, BatTemp1, VoltMppt, CurrMppt}
 
@@ -57,3 +59,22 @@ examples =
 pub as-worked-out : map found examples ≡ map stated examples
 unfolding engineeringOf nearestUnits aboveTheLine numberOf nearest held signed
 as-worked-out = refl
+
+-- ---- a battery board: the words in front of the packs, and the three packs, the last with words at their ends
+abbrev pub measuredWords : List ℕ
+measuredWords =
+    (2700 ∷ 2200 ∷ 16000 ∷ 0xFFF0 ∷ 0xFF00 ∷ 0xC001 ∷ [])
+    ++ (16000 ∷ 100 ∷ 50 ∷ 0x0001 ∷ 3012 ∷ 3013 ∷ 511 ∷ 513 ∷ 2049 ∷ 2000 ∷ 3000 ∷ [])
+    ++ (0xFFEC ∷ 0xFFFE ∷ 1 ∷ 0xFFFF ∷ 0 ∷ 0xFFFF ∷ 512 ∷ 3000 ∷ 1967 ∷ 55 ∷ 56 ∷ [])
+    ++ (0x8000 ∷ 0x7FFF ∷ 0x8000 ∷ 0 ∷ 2900 ∷ 2901 ∷ 2902 ∷ 2903 ∷ 0 ∷ 4095 ∷ 0xFFFF ∷ [])
+
+abbrev pub toldWords : List ℕ
+toldWords =
+    (3297 ∷ 25227 ∷ 15625 ∷ 65531 ∷ 65286 ∷ 0xC001 ∷ [])
+    ++ (15625 ∷ 31 ∷ 49 ∷ 0x0001 ∷ 3750 ∷ 3752 ∷ 65534 ∷ 2 ∷ 1500 ∷ 544 ∷ 45081 ∷ [])
+    ++ (65516 ∷ 65535 ∷ 1 ∷ 0xFFFF ∷ 64768 ∷ 32767 ∷ 0 ∷ 3732 ∷ 65498 ∷ 32767 ∷ 32691 ∷ [])
+    ++ (33536 ∷ 10000 ∷ 33536 ∷ 0 ∷ 3582 ∷ 3584 ∷ 3585 ∷ 3587 ∷ 32768 ∷ 32768 ∷ 32768 ∷ [])
+
+pub told-as-worked-out : toldBy packs (map rawOf measuredWords) ≡ toldWords
+unfolding toldBy packs wordBy packTemperature temperatureOf entryOf lineAt polynomial coefficients engineeringOf nearestUnits aboveTheLine numberOf nearest held signed pattern
+told-as-worked-out = refl

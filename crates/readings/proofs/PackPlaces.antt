@@ -75,6 +75,7 @@ front-way (suc (suc (suc (suc zero)))) h = refl
 front-way (suc (suc (suc (suc (suc i))))) h = absurd (omega arith)
 
 same-ways : (p q : ℕ) (field : Field) → wayOf (getD (pack p) q (field told ByCurve)) ≡ packWay q
+unfolding packWay
 same-ways p q field =
     sym (List·getD-map wayOf (pack p) q (field told ByCurve)) ∙ List·getD-map wayOf (pack 1) q (BAT-TEMP 1 3 told ByCurve)
 
@@ -87,12 +88,14 @@ pack-way-at i h g =
 
 -- ---- the ways within a pack: its VIPD, its cells, and its last temperatures
 pub vipd-ways : (word : ℕ) → word < 3 → packWay word ≡ ByRow (vipRow word)
+unfolding packWay
 vipd-ways zero h = refl
 vipd-ways (suc zero) h = refl
 vipd-ways (suc (suc zero)) h = refl
 vipd-ways (suc (suc (suc word))) h = absurd (omega arith)
 
 pub cell-ways : (k : ℕ) → k < 4 → packWay (4 + k) ≡ ByRow VoltCell
+unfolding packWay
 cell-ways zero h = refl
 cell-ways (suc zero) h = refl
 cell-ways (suc (suc zero)) h = refl
@@ -100,6 +103,7 @@ cell-ways (suc (suc (suc zero))) h = refl
 cell-ways (suc (suc (suc (suc k)))) h = absurd (omega arith)
 
 pub curve-ways : (k : ℕ) → packWay (9 + k) ≡ ByCurve
+unfolding packWay
 curve-ways k = ap wayOf (past (take 9 (pack 1)) (drop 9 (pack 1)) 9 k (BAT-TEMP 1 3 told ByCurve) refl) ∙ last-two k
   where
     last-two : (k : ℕ) → wayOf (getD (drop 9 (pack 1)) k (BAT-TEMP 1 3 told ByCurve)) ≡ ByCurve
@@ -108,13 +112,13 @@ curve-ways k = ap wayOf (past (take 9 (pack 1)) (drop 9 (pack 1)) 9 k (BAT-TEMP 
     last-two (suc (suc k)) = refl
 
 -- ---- the word that is told at a place
-pub told-at : (items : List Item) (raws : List Raw) (i : ℕ) (z : Item) (r : Raw) (w : ℕ) → i < length items → i < length raws
+at : (items : List Item) (raws : List Raw) (i : ℕ) (z : Item) (r : Raw) (w : ℕ) → i < length items → i < length raws
     → getD (toldBy items raws) i w ≡ wordBy (wayOf (getD items i z)) (getD raws i r)
 unfolding toldBy
-told-at [] raws i z r w h g = absurd (omega arith)
-told-at (item ∷ items) [] i z r w h g = absurd (omega arith)
-told-at (item ∷ items) (raw ∷ raws) zero z r w h g = refl
-told-at (item ∷ items) (raw ∷ raws) (suc i) z r w h g = told-at items raws i z r w (omega arith) (omega arith)
+at [] raws i z r w h g = absurd (omega arith)
+at (item ∷ items) [] i z r w h g = absurd (omega arith)
+at (item ∷ items) (raw ∷ raws) zero z r w h g = refl
+at (item ∷ items) (raw ∷ raws) (suc i) z r w h g = at items raws i z r w (omega arith) (omega arith)
 
 length-told : (items : List Item) (raws : List Raw) → length items ≤ length raws → length (toldBy items raws) ≡ length items
 unfolding toldBy
@@ -124,3 +128,6 @@ length-told (item ∷ items) (raw ∷ raws) h = ap suc (length-told items raws (
 
 pub length-packs-told : (raws : List Raw) → length raws ≡ 130 → length (toldBy packs raws) ≡ 39
 length-packs-told raws h = length-told packs raws (omega (arith, length-packs)) ∙ length-packs
+
+pub told-at : (raws : List Raw) (k : ℕ) (r : Raw) (w : ℕ) → length raws ≡ 130 → k < 39 → getD (toldBy packs raws) k w ≡ wordBy (wayAt k) (getD raws k r)
+told-at raws k r w l h = at packs raws k (BAT-TEMP 3 3 told ByCurve) r w (omega (arith, length-packs)) (omega arith)

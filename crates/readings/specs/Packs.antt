@@ -1,7 +1,8 @@
 -- The measured fields of 0x60 and of 0x62 (ICD pages 55 to 58; page 57's offset 12 of TEMP_MCU is a slip for 8), raw on
--- the one and engineering on the other: the same names in the same order, each word with the way in which 0x62 tells it.
--- A pack BPp is a BPD (Tables 3-16 and 3-17): of it `VIP-BP-INPUT p` is the VIPD, `STAT-BP p` the status, `VOLT-CELL p n`
--- VOLT_CELLn and `BAT-TEMP p n` BAT_TEMPn. `xs ++ ys` is xs and then ys. Assumes nothing: these are definitions.
+-- the one and engineering on the other: the same names in the same order, each word with the way in which 0x62 tells
+-- it. A pack is a BPD (Tables 3-16 and 3-17): of pack BPp `VIP-BP-INPUT p` is the VIPD, `STAT-BP p` the status,
+-- `VOLT-CELL p n` VOLT_CELLn and `BAT-TEMP p n` BAT_TEMPn. `xs ++ ys` is xs and then ys. Assumes nothing: these are
+-- definitions.
 use Prim.Native.Nat.{ℕ}
 use mathlib.Core.List.{List, [], _∷_, _++_, map}
 use lib.ListN.{getD}
@@ -71,5 +72,5 @@ toldBy (item ∷ items) (raw ∷ raws) = wordBy (wayOf item) raw ∷ toldBy item
 abbrev pub wayAt : ℕ → Way
 wayAt i = wayOf (getD packs i (BAT-TEMP 3 3 told ByCurve))
 
-abbrev pub packWay : ℕ → Way
+unfoldable pub packWay : ℕ → Way
 packWay word = wayOf (getD (pack 1) word (BAT-TEMP 1 3 told ByCurve))

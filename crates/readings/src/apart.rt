@@ -21,7 +21,7 @@ use wire::Reply;
 // A word as it was measured.
 pub struct Raw(u16);
 
-// A whole number of the unit that Table 3-12 gives the field.
+// A whole number of the unit of its field.
 pub struct Engineering(i16);
 
 // The raw readings before any words came: all 0.

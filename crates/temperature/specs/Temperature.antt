@@ -28,13 +28,16 @@ unfoldable pub polynomial : List ℤ → ℕ → ℤ
 polynomial [] x = pos 0
 polynomial (c ∷ cs) x = (c *ℤ pos (x ^ length cs)) +ℤ polynomial cs x
 
--- y times 10^24; the exact value in hundredths of a degree is this over 10^22
+-- y at the code x, times 10^24; on that scale a hundredth of a degree is 10^22
 unfoldable pub lineAt : ℕ → ℤ
 lineAt x = polynomial coefficients x
 
+abbrev pub hundredth : ℕ
+hundredth = 10 ^ 22
+
 -- ---- the table's entry for a code: the nearest hundredth, halves away from zero, held to the ends of int16
 unfoldable pub entryOf : ℕ → ℤ
-entryOf x = held (nearest (lineAt x) (10 ^ 22))
+entryOf x = held (nearest (lineAt x) hundredth)
 
 -- a code above 4095 uses entry 4095
 unfoldable pub temperatureOf : ℕ → ℤ

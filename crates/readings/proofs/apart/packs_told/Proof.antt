@@ -5,12 +5,10 @@ use native.Mathlib.Omega.{arith}
 use borrow.Author.Needs.{needs}
 use lib.ListN.{getD, length, replicate, length-replicate}
 use Rattle.readings.specs.declared.packs.Way.{Way}
-use Rattle.readings.specs.declared.packs.Way.the-variants.{ByCurve}
 use Rattle.readings.specs.Readings.{rawOf}
-use Rattle.readings.specs.Layout.{BAT-TEMP}
-use Rattle.readings.specs.Packs.{_told_, packs, wordBy, toldBy}
+use Rattle.readings.specs.Packs.{packs, wordBy, toldBy}
 use Rattle.readings.proofs.Filling.{Filled, begun, turn, ended}
-use Rattle.readings.proofs.PackPlaces.{length-packs, length-packs-told, told-at}
+use Rattle.readings.proofs.PackPlaces.{length-packs-told, told-at}
 use Rattle.readings.proofs.apart.packs_told.Statement.{statement}
 use Rattle.readings.proofs.apart.packs_told.Tie as tie
 
@@ -54,7 +52,7 @@ loop-again c =
     let s = c .before .before .before .before in
     let raws = s .before .args .t1 in
     let i = s .loop .i in
-    let at = told-at packs raws i (BAT-TEMP 3 3 told ByCurve) (rawOf 0) 0 (omega (arith, length-packs)) (omega (arith, s .loop .inv .0)) in
+    let at = told-at raws i (rawOf 0) 0 (s .loop .inv .0) (omega arith) in
     let e = c .told .ensures ∙ ap (λ (way : Way). wordBy way (getD raws i (rawOf 0))) (c .before .way-at .ensures) in
     (s .loop .inv .0, turn 39 (replicate 39 0) (toldBy packs raws) 0 (c .told .result) (s .loop .words) i (s .loop .inv .1) (omega arith) (e ∙ sym at))
 

@@ -16,6 +16,7 @@ returns : tie.Need-returns
 returns c = ap ByRow (c .vip-row .ensures) ∙ sym (vipd-ways (c .before .before .args .word) (omega arith))
 
 returns-2 : tie.Need-returns-2
+unfolding packWay
 returns-2 c = sym (ap packWay (c .if2 .taken))
 
 returns-3 : tie.Need-returns-3
@@ -25,6 +26,7 @@ returns-3 c =
     sym (ap packWay e ∙ cell-ways (word - 4) (omega arith))
 
 returns-4 : tie.Need-returns-4
+unfolding packWay
 returns-4 c = sym (ap packWay (c .if4 .taken))
 
 returns-5 : tie.Need-returns-5

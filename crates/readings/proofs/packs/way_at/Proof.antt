@@ -4,7 +4,7 @@ use native.Mathlib.Omega.{arith}
 use borrow.Author.Needs.{needs}
 use Rattle.readings.specs.declared.packs.Way.the-variants.{ByRow, ByCurve}
 use Rattle.readings.specs.Layout.{BAT-TEMP}
-use Rattle.readings.specs.Packs.{_told_, wayOf, wayAt}
+use Rattle.readings.specs.Packs.{_told_, wayOf, wayAt, packWay}
 use Rattle.readings.proofs.PackPlaces.{front-at, front-way, pack-way-at}
 use Rattle.readings.proofs.packs.way_at.Statement.{statement}
 use Rattle.readings.proofs.packs.way_at.Tie as tie
@@ -27,7 +27,7 @@ pack-way-requires c κs = search needs
 returns-3 : tie.Need-returns-3
 returns-3 c =
     let s = c .before .before .before in
-    c .pack-way .ensures ∙ sym (pack-way-at (s .args .i) (omega arith) (omega (arith, s .pre)))
+    c .pack-way .ensures ∙ ap packWay (omega arith) ∙ sym (pack-way-at (s .args .i) (omega arith) (omega (arith, s .pre)))
 
 pub way-at-spec : {M : Type 1} → statement M
 way-at-spec =
