@@ -1,6 +1,6 @@
--- How the temperature of a battery pack lies to the exact value, the fifth-degree line of Table 3-13. That value is told
--- on the scale of the line's whole numbers, on which `hundredth` is a hundredth of a degree; a comparison with a half is
--- told times two. Assumes nothing: this is what is claimed, and proofs/Line shows it.
+-- How the temperature of a battery pack lies to the exact value, the fifth-degree line of Table 3-13. That value is
+-- told on the scale of the line's whole numbers, on which `hundredth` is a hundredth of a degree; a comparison with a
+-- half is told times two. Assumes nothing: this is what is claimed, and proofs/Line shows it.
 use Prim.Native.Nat.{ℕ, _*_, _≤_, min}
 use mathlib.Core.Path.{_≡_}
 use mathlib.Core.Bool.{Bool, true, false}

@@ -4,7 +4,7 @@ ghost use Prim.Native.Nat.{_<_};
 ghost use Rattle.readings.specs.Layout.{vipRow, channelRow, rowAt};
 use crate::table::Row;
 
-// The row of a word of the input's block or of a voltage domain's: its VOLT, its CURR or its POWE.
+// The row of a word of the input's block, of a voltage domain's or of a pack's: its VOLT, its CURR or its POWE.
 pub fn vip_row(word: usize) -> Row
     ensures { λ r. ⌜ r ≡ vipRow word ⌝ }
 {
@@ -31,7 +31,7 @@ fn channel_row(word: usize) -> Row
 }
 
 // The row of the measured word at a place: two words, then blocks of three, of which the channels' begin at word 26.
-// argued: only `convert_all` calls it, for the places of its array
+// argued: `convert_all` calls it for the places of its array, and `way_at` for the first five
 pub fn row_at(i: usize) -> Row
     requires { ⌜ i < 122 ⌝ }
     ensures { λ r. ⌜ r ≡ rowAt i ⌝ }
