@@ -18,6 +18,7 @@ use Rattle.changes.proofs.SoundMachine.{sound-machine}
 use Rattle.changes.proofs.NewReadings.{new-readings}
 use Rattle.changes.proofs.ReadingsShown.{readings-shown}
 use Rattle.exact.proofs.Exact.{exact-reading, never-smaller}
+use Rattle.exact.proofs.Line.{exact-temperature}
 use Rattle.power.proofs.Theorem.{powered}
 use Rattle.power.proofs.Tight.{tight}
 use Rattle.claims.specs.Claims.{Claims}
@@ -55,6 +56,7 @@ claims =
       dark = dark;
       exact-reading = exact-reading;
       never-smaller = never-smaller;
+      exact-temperature = exact-temperature;
       power = power;
       power-of-one = power-of-one;
       power-needed = power-needed;

@@ -14,7 +14,7 @@ use Rattle.changes.specs.{StepsOfChannels.StepsOfChannels, ChannelsAfter.Channe
 use Rattle.changes.specs.{ModeChange.ModeChange, CountsShown.CountsShown, SoundMachine.SoundMachine}
 use Rattle.changes.specs.{NewReadings.NewReadings, ReadingsShown.ReadingsShown}
 use Rattle.readings.specs.{declared.apart.Raw.Raw, declared.table.Row.Row}
-use Rattle.exact.specs.Exact.{ExactReading, NeverSmaller}
+use Rattle.exact.specs.{Exact.ExactReading, Exact.NeverSmaller, Line.ExactTemperature}
 use Rattle.power.specs.{Claim.Claim, Tight.Tight}
 use Rattle.claims.specs.{Boundary.BoundaryTable, Dark.Dark, Power.Power, PowerOfOne.PowerOfOne, PowerNeeded.PowerNeeded}
 use Rattle.claims.specs.{PowerReal.PowerReal, Standing.Standing, Wrong.AllCaught, Wrong.AllBreak}
@@ -44,9 +44,10 @@ pub record Claims : Type 0 where
   pub new-readings : (m : Machine) (i : Sample) → NewReadings m i
   pub readings-shown : (m : Machine) (i : Sample) → ReadingsShown m i
   pub dark : Dark
-  -- engineering readings and the exact values of Table 3-12
+  -- engineering readings and the exact values of Tables 3-12 and 3-13
   pub exact-reading : (row : Row) (raw : Raw) → ExactReading row raw
   pub never-smaller : (row : Row) (a b : Raw) → NeverSmaller row a b
+  pub exact-temperature : (code : ℕ) → ExactTemperature code
   -- demand 3: how long a force-enabled channel is off, and on
   pub power : Power
   pub power-of-one : PowerOfOne

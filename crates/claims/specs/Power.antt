@@ -1,5 +1,6 @@
 -- Demand 3, power. Take a machine that was started from a profile that keeps the rules and then used in any way, and
--- from there a stretch of calls. Let the board have a force-enabled channel, and let none of these be latched when the
+-- from there a stretch of calls. Let the board have a force-enabled channel (so the claim is about boards with channels,
+-- and says nothing of a battery board, which fits none), and let none of these be latched when the
 -- stretch begins; let no tick of the stretch reset the machine, alter a setting, or report an overcurrent of such a
 -- channel. Then, whatever the rails and the commands: a force-enabled channel is never off for longer than 50 ticks, or
 -- than the emergency period where that is more; whenever it comes on in the stretch it is on for at least linger + 1

@@ -3,6 +3,7 @@ use mathlib.Core.Path.{sym, _∙_}
 use denote.Ref.{now}
 use Rattle.single.specs.Single.{Single}
 use Rattle.state.proofs.distribution.Reads as distribution
+use Rattle.state.proofs.battery.Reads as battery
 use Rattle.state.proofs.read.Reads as read
 use Rattle.state.proofs.with_form.Reads as with-form
 use Rattle.state.proofs.unstarted.Reads as unstarted
@@ -12,6 +13,9 @@ use Rattle.state.proofs.command_reset.Reads as command-reset
 
 pub single-distribution : Single distribution.Post (λ κ r s. r)
 single-distribution κ a r r′ s s′ p q = p ∙ sym q
+
+pub single-battery : Single battery.Post (λ κ r s. r)
+single-battery κ a r r′ s s′ p q = p ∙ sym q
 
 pub held-read : Single read.Post (λ κ r s. now (s .1 .0))
 held-read κ a r r′ s s′ p q = p ∙ sym q

@@ -1,12 +1,13 @@
--- A profile of a distribution board; and a board with one part changed and all others as they were, which there is no
--- shorter way to write. Assumes nothing: these are definitions.
+-- A profile of a distribution board and of a battery board; and a board with one part changed and all others as they
+-- were, which there is no shorter way to write. Assumes nothing: these are definitions.
 use Prim.Native.Nat.{ℕ}
+use mathlib.Core.Bool.{Bool}
 use mathlib.Core.List.{List}
 use lib.ListN.{take}
 use Rattle.wire.specs.{declared.reply.Reply.Reply, declared.forms.Form.Form}
 use Rattle.channels.specs.declared.Channels.{Channels}
 use Rattle.kinds.specs.{Kinds.boardOf, declared.Kind.Kind}
-use Rattle.kinds.specs.declared.Kind.the-variants.{Distribution}
+use Rattle.kinds.specs.declared.Kind.the-variants.{Distribution, Battery}
 use Rattle.modes.specs.{declared.ModeAge.ModeAge, declared.Mode.Mode}
 use Rattle.readings.specs.{Readings.rawWords, Readings.engineeringWords, Layout.layout, Layout.convertedBy, Packs.packs, Packs.toldBy}
 use Rattle.memory.specs.declared.Memory.{Memory}
@@ -17,6 +18,10 @@ use Rattle.state.specs.declared.parts.Cause.the-variants.{PowerOn, Watch
 
 abbrev pub distributionBoard : ℕ → ℕ → ℕ → Profile
 distributionBoard bid fitted forced = record { fitted = fitted; forced = forced; bid = bid; kind = Distribution }
+
+-- and of a battery board, which fits no channel, with whether its ABF is placed
+abbrev pub batteryBoard : ℕ → Bool → Profile
+batteryBoard bid abf = record { fitted = 0; forced = 0; bid = bid; kind = Battery abf }
 
 -- how many measured words a board has, and those of the room that count, as they were measured
 abbrev pub wordCount : Board → ℕ

@@ -8,6 +8,7 @@ pub use parts::Fresh;
 pub use parts::Measured;
 pub use parts::Profile;
 pub use parts::Resets;
+pub use parts::battery;
 pub use parts::distribution;
 pub use parts::read;
 pub use parts::with_form;

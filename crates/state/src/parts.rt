@@ -2,7 +2,7 @@
 ghost use mathlib.Core.Path.{_≡_};
 ghost use lib.ListN.{length};
 ghost use Rattle.wire.specs.Replies.{found};
-ghost use Rattle.state.specs.Parts.{distributionBoard, withForm};
+ghost use Rattle.state.specs.Parts.{distributionBoard, batteryBoard, withForm};
 use channels::Channels;
 use kinds::Kind;
 use memory::Memory;
@@ -67,6 +67,19 @@ pub fn distribution(bid: u8, fitted: u32, forced: u32) -> Profile
     Profile {
         fitted,
         forced,
+        bid,
+        kind,
+    }
+}
+
+// The profile of a battery board, which fits no channel, with whether its ABF is placed.
+pub fn battery(bid: u8, abf: bool) -> Profile
+    ensures { λ r. ⌜ r ≡ batteryBoard bid abf ⌝ }
+{
+    let kind = Kind::Battery { abf };
+    Profile {
+        fitted: 0,
+        forced: 0,
         bid,
         kind,
     }
