@@ -4,8 +4,9 @@
 mod common;
 
 use common::*;
-use second::board::{Answer, Board, Event, WORDS};
+use second::board::{Answer, Board, Event};
 use second::mode::Mode;
+use second::model::WORDS;
 use second::readings::{self, Conversion};
 
 const RAW: u8 = 0x50;

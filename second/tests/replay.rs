@@ -1,5 +1,6 @@
 //! The replay script.
 
+use second::model::Model;
 use second::replay::{Replay, LONGEST_LINE};
 use second::settings::Settings;
 
@@ -38,7 +39,11 @@ impl Script {
 
 /// The digits of the defaults as they would be stored.
 fn defaults() -> String {
-    Settings::defaults().bytes().iter().map(|byte| format!("{byte:02X}")).collect()
+    Settings::defaults(Model::Distribution)
+        .bytes()
+        .iter()
+        .map(|byte| format!("{byte:02X}"))
+        .collect()
 }
 
 #[test]
@@ -76,7 +81,7 @@ const BAD: [&str; 48] = [
     "W 0000 0000",
     "W 0002 0000",
     "W 0001 00",
-    "W 0101 -",
+    "W 0201 -",
     "W 0000",
     "W 0000 ",
     "W 1 0000",
@@ -117,9 +122,12 @@ fn lines_not_of_a_form_are_bad() {
     assert_eq!(script.say(&format!("T 3A98 00000000 {digits}")), "bad");
     assert_eq!(script.say(&format!("L 0000 {}", "0".repeat(1_202))), "bad");
     assert_ne!(script.say(&format!("T 3A98 00000000 {}", &digits[..600])), "bad");
-    let longest = format!("L 0000 {}", "0".repeat(1_200));
+    assert_eq!(script.say(&format!("L 0000 {}", "0".repeat(1_200))), "refused 10 -");
+    assert_eq!(script.say(&format!("W 0201 {}", "0".repeat(4 * 0x201))), "bad");
+    let longest = format!("W 0200 {}", "0".repeat(4 * 0x200));
     assert_eq!(longest.len(), LONGEST_LINE);
-    assert_eq!(script.say(&longest), "refused 10 -");
+    assert_eq!(script.say(&longest), "ok");
+    assert_eq!(script.say("T 3A98 00000000 -"), "refused 9");
 }
 
 #[test]
@@ -250,7 +258,7 @@ fn the_state_line() {
     let expected = format!("R 00 0000 0000 0000 0000 0000 - {} {zeros} {words} -", defaults());
     assert_eq!(script.say("S"), expected);
     script.say("T 3A98 00000000 11079401A70000");
-    let checksum = format!("{:04X}", Settings::defaults().checksum());
+    let checksum = format!("{:04X}", Settings::defaults(Model::Distribution).checksum());
     let expected = format!(
         "R 00 0000 0000 0000 0001 {checksum} 0001 {} {zeros} {words} 1107950180",
         defaults()

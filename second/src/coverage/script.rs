@@ -192,7 +192,7 @@ pub struct Watched {
 impl Watched {
     /// Runs one line and counts what it reached.
     pub fn line(&mut self, line: &[u8], coverage: &mut Coverage) {
-        let mut bytes: Bytes = [0; 600];
+        let mut bytes: Bytes = [0; 1024];
         let before = self.replay.clone();
         let parsed = parse(line, &mut bytes);
         self.printed.clear();
@@ -245,7 +245,7 @@ impl Coverage {
         after: &Replay,
         printed: &[u8],
     ) {
-        if let Line::Start { bid, fitted, forced, save_count } = *line {
+        if let Line::Start { bid, fitted, forced, save_count, .. } = *line {
             let stored = save_count.zip(bytes.first_chunk());
             return self.see_start(bid, fitted, forced, stored);
         }

@@ -3,6 +3,7 @@
 
 use second::board::{Answer, Board, Event, Profile, Tick, Told};
 use second::mode::Mode;
+use second::model::Model;
 use second::settings::{Settings, SIZE};
 
 /// Above every threshold of the defaults.
@@ -17,12 +18,12 @@ pub const FORCED: u32 = 0x0001_0001;
 
 /// The profile of most tests.
 pub fn profile() -> Profile<'static> {
-    Profile { bid: 1, fitted: FITTED, forced: FORCED, stored: None }
+    Profile::distribution(1, FITTED, FORCED)
 }
 
 /// A board in the first tick of startup.
 pub fn started(fitted: u32, forced: u32) -> Board {
-    Board::start(&Profile { bid: 1, fitted, forced, stored: None }).unwrap()
+    Board::start(&Profile::distribution(1, fitted, forced)).unwrap()
 }
 
 /// A tick with all that it may bring.
@@ -139,5 +140,5 @@ pub fn emergency() -> Board {
 
 /// The defaults as they would be stored.
 pub fn stored_defaults() -> [u8; SIZE] {
-    *Settings::defaults().bytes()
+    *Settings::defaults(Model::Distribution).bytes()
 }

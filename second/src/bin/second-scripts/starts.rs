@@ -3,6 +3,7 @@
 use crate::author::{hex, Author};
 use second::coverage::value_classes;
 use second::mode::Mode;
+use second::model::Model;
 use second::settings::{self, Settings, ROWS};
 
 /// A board with some channels of each kind in both halves.
@@ -46,7 +47,7 @@ pub fn stored_start(profile: &str, save_count: u16, stored: &[u8]) -> String {
 
 /// The defaults with some values changed.
 pub fn with(values: &[(u16, i64)]) -> Vec<u8> {
-    let mut bytes = Settings::defaults().bytes().to_vec();
+    let mut bytes = Settings::defaults(Model::Distribution).bytes().to_vec();
     for (id, value) in values {
         put(&mut bytes, *id, *value);
     }
