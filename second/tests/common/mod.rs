@@ -77,7 +77,7 @@ pub fn send(board: &mut Board, command: &[u8]) -> Answer {
 
 /// A command with a right header.
 pub fn command(board: &Board, code: u8, rest: &[u8]) -> Vec<u8> {
-    let mut bytes = vec![0x11, 0x07, code, board.bid()];
+    let mut bytes = vec![board.model().stid(), 0x07, code, board.bid()];
     bytes.extend_from_slice(rest);
     bytes
 }
@@ -109,7 +109,11 @@ pub fn get_word(board: &mut Board, id: u16) -> u16 {
 
 /// A board that has just come into the mode.
 pub fn in_mode(mode: Mode, fitted: u32, forced: u32) -> Board {
-    let mut board = started(fitted, forced);
+    brought_to(mode, started(fitted, forced))
+}
+
+/// A new board brought into the mode.
+pub fn brought_to(mode: Mode, mut board: Board) -> Board {
     match mode {
         Mode::Startup => {}
         Mode::Nominal => ticks(&mut board, HIGH, 50),
