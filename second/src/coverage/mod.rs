@@ -3,6 +3,7 @@
 //! The watcher stands outside: it looks at a board before and after a line and
 //! at what was printed, so that the machine itself carries no trace of it.
 
+mod battery;
 mod channels;
 mod modes;
 mod parameters;
@@ -31,6 +32,9 @@ pub const BATTERY_CODES: [u8; 14] =
 
 /// The letters of the modes.
 const MODES: [char; 4] = ['U', 'N', 'F', 'E'];
+
+/// Those in which commands are carried out.
+const LIT: [char; 3] = ['N', 'F', 'E'];
 
 /// The letter of one mode.
 fn letter(mode: Mode) -> char {

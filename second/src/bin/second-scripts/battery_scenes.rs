@@ -124,6 +124,7 @@ fn starts(author: &mut Author) {
     ] {
         author.say(&stored_start(profile, count, bytes));
     }
+    author.say(&format!("V 12 01 00000000 00000000 0 - 0001 {}", hex(&stored)));
     author.show();
 }
 
@@ -448,6 +449,7 @@ fn text(author: &mut Author) {
         text_scenes::some(author);
         author.reach(Mode::Startup);
         text_scenes::some(author);
+        text_scenes::switch(author, Form::Ascii);
     }
 }
 
@@ -541,8 +543,11 @@ fn emergency(author: &mut Author) {
     author.give(0x60, &[]);
     author.give(0x62, &[]);
     commands::status(author);
-    author.say(NOT_PLACED);
-    author.reach(Mode::Emergency);
+    while author.mode() == Mode::Safety {
+        author.tick(14_001, 0, None);
+    }
+    author.show();
+    never_spoken_to(author);
     author.give(0x44, &[]);
     author.give(0x62, &[]);
     author.give(0xAA, &[0xA6]);
@@ -550,6 +555,23 @@ fn emergency(author: &mut Author) {
     author.say(DISTRIBUTION);
     author.reach(Mode::Emergency);
     strangers(author);
+}
+
+/// Into every mode without a transfer, with words that nothing has told.
+fn never_spoken_to(author: &mut Author) {
+    for rail in [12_400, -1] {
+        author.say(NOT_PLACED);
+        author.startup_at(rail);
+        lend_all(author);
+        author.tick(rail, 0, None);
+        author.say("R 0006");
+        author.say("F 0006");
+    }
+    while author.mode() == Mode::Safety {
+        author.tick(-1, u32::MAX, None);
+    }
+    author.say("R 0006");
+    author.say("F 0006");
 }
 
 /// A board of one model takes the place of one of the other: nothing but lent words

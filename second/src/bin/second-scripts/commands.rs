@@ -196,7 +196,7 @@ pub fn all_in(author: &mut Author, mode: Mode, with_reset: bool) {
         }
         author.reach(mode);
         let mut bytes = author.command(code, &[]);
-        bytes[0] = 0x12;
+        bytes[0] ^= 3;
         author.send(&bytes);
     }
 }
