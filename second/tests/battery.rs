@@ -371,6 +371,8 @@ fn the_entries_that_are_known() {
         (56, 32_691),
         (2000, 544),
         (3000, -20_455),
+        (3158, -32_729),
+        (3159, -32_768),
         (4095, -32_768),
         (4096, -32_768),
         (65_535, -32_768),
@@ -378,6 +380,7 @@ fn the_entries_that_are_known() {
     for (code, reading) in known {
         assert_eq!(temperature(code), reading, "{code}");
     }
+    assert!(temperature(2114) > 0 && temperature(2115) < 0);
 }
 
 #[test]
