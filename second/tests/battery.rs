@@ -688,6 +688,20 @@ fn the_four_can_be_set_and_each_way_back_leads_to_0() {
 }
 
 #[test]
+fn settings_of_temperatures_have_no_effect() {
+    let mut plain = battery_in(Mode::Nominal);
+    let mut set_otherwise = plain.clone();
+    for id in 0x300C..=0x3029 {
+        set(&mut set_otherwise, id, 1_000);
+    }
+    for board in [&mut plain, &mut set_otherwise] {
+        bring(board, &telling(0x0700), None);
+        give(board, ENGINEERING, &[]);
+    }
+    assert_eq!(plain.waiting_reply(), set_otherwise.waiting_reply());
+}
+
+#[test]
 fn read_only_values() {
     let mut board = brought_to(Mode::Nominal, Board::start(&Profile::battery(3, true)).unwrap());
     assert_eq!(get(&mut board, 0x2800), [0x12]);

@@ -8,7 +8,7 @@ use crate::board::Board;
 use crate::model::Model;
 use crate::readings::{battery_word, BatteryWord};
 use crate::replay::{Latest, Replay};
-use crate::settings::SIZE;
+use crate::settings::{Settings, SIZE};
 use crate::text::Form;
 
 const ANSWERS: [char; 7] = ['0', '2', '3', '4', '5', '6', '7'];
@@ -264,7 +264,7 @@ impl Coverage {
         let placed = if abf { "placed" } else { "not placed" };
         self.hit(format_args!("battery profile ABF {placed}"));
         if let Some((count, bytes)) = stored {
-            let sound = crate::settings::Settings::from_store(bytes).is_some();
+            let sound = Settings::from_store(bytes).is_some();
             let stored = if sound { "stored" } else { "stored out of range" };
             self.hit(format_args!("battery profile {stored}"));
             self.hit_if_any(format_args!("battery profile save count {count:04X}"));

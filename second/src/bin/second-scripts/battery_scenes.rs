@@ -347,6 +347,7 @@ fn settings(author: &mut Author) {
     author.give(0x84, &[0x01, 0x10, 0x55]);
     author.give(0x92, &[0xA7]);
     author.give(0x82, &[0x05, 0x60]);
+    calibrations(author);
     author.give(0x90, &[0xA7]);
     author.show();
     if author.is_brief() {
@@ -359,6 +360,16 @@ fn settings(author: &mut Author) {
     author.reach(Mode::Nominal);
     commands::status(author);
     commands::all_read_only(author);
+}
+
+/// The settings of temperatures, which no rule names: 0x62 tells the same with them.
+fn calibrations(author: &mut Author) {
+    let ids = [0x3010, 0x300C, 0x301A].into_iter().chain(0x300D..=0x3029);
+    for id in ids.take(if author.is_brief() { 3 } else { usize::MAX }) {
+        author.set(id, 1_000);
+    }
+    lend_telling(author, 2);
+    author.give(0x62, &[]);
 }
 
 /// A board without an ABF that starts from a store, into safety.
