@@ -2,15 +2,13 @@
 
 use crate::channels::Channels;
 use crate::mode::{Limits, Mode, ModeAge};
+use crate::model::{Model, WORDS};
 use crate::reply::Reply;
 use crate::settings::{Settings, SIZE};
 use crate::text::{self, Form};
 
-pub const STID: u8 = 0x11;
+/// The same for every model.
 pub const IVID: u8 = 0x07;
-
-/// Measured words that a tick brings, if it brings any.
-pub const WORDS: usize = 122;
 
 pub const TICKS_PER_SECOND: u64 = 100;
 
@@ -22,11 +20,26 @@ pub const LINGER_SECONDS: u16 = 60;
 /// What a board is built as.
 #[derive(Clone, Copy, Debug)]
 pub struct Profile<'a> {
+    pub model: Model,
     pub bid: u8,
     pub fitted: u32,
     pub forced: u32,
+    /// Whether the ABF is placed; only a battery board has one.
+    pub abf: bool,
     /// Save count and read/write values, lowest id first.
     pub stored: Option<(u16, &'a [u8; SIZE])>,
+}
+
+impl Profile<'_> {
+    /// A distribution board with nothing stored.
+    pub const fn distribution(bid: u8, fitted: u32, forced: u32) -> Profile<'static> {
+        Profile { model: Model::Distribution, bid, fitted, forced, abf: false, stored: None }
+    }
+
+    /// A battery board with nothing stored.
+    pub const fn battery(bid: u8, abf: bool) -> Profile<'static> {
+        Profile { model: Model::Battery, bid, fitted: 0, forced: 0, abf, stored: None }
+    }
 }
 
 /// Why a profile is refused with 8.
@@ -35,6 +48,8 @@ pub enum ProfileFault {
     Bid,
     NothingFitted,
     ForcedNotFitted,
+    /// A battery board has no channels.
+    ChannelsFitted,
     StoredOutOfRange,
 }
 
@@ -112,7 +127,9 @@ pub struct WrongWordCount;
 
 #[derive(Clone, Debug)]
 pub struct Board {
+    pub(crate) model: Model,
     pub(crate) bid: u8,
+    pub(crate) abf: bool,
     pub(crate) channels: Channels,
     pub(crate) mode: ModeAge,
     pub(crate) timer: u64,
@@ -121,10 +138,11 @@ pub struct Board {
     pub(crate) store: Option<Store>,
     pub(crate) cause: Cause,
     pub(crate) resets: ResetCounts,
+    /// As many from the first on as the model has; the others stay 0.
     pub(crate) words: [u16; WORDS],
-    /// Whether words came that no accepted 0x50 has told since.
+    /// Whether words came that no accepted 0x50, or 0x60, has told since.
     pub(crate) raw_is_new: bool,
-    /// The same of 0x52.
+    /// The same of 0x52, or 0x62.
     pub(crate) engineering_is_new: bool,
     pub(crate) reply: Reply,
     /// Whether the reply that waits was made in the latest tick.
@@ -137,11 +155,13 @@ impl Board {
     pub fn start(profile: &Profile) -> Result<Board, ProfileFault> {
         let store = check(profile)?;
         let mut board = Board {
+            model: profile.model,
             bid: profile.bid,
+            abf: profile.abf,
             channels: Channels::new(profile.fitted, profile.forced),
             mode: ModeAge::new(Mode::Startup),
             timer: 0,
-            settings: Settings::defaults(),
+            settings: Settings::defaults(profile.model),
             shown: Shown::default(),
             store,
             cause: Cause::PowerOn,
@@ -159,7 +179,7 @@ impl Board {
 
     /// One tick of 10 ms. The steps work one after the other on one state.
     pub fn tick(&mut self, tick: &Tick) -> Result<Told, WrongWordCount> {
-        if !tick.words.is_empty() && tick.words.len() != WORDS {
+        if !tick.words.is_empty() && tick.words.len() != self.model.words() {
             return Err(WrongWordCount);
         }
         self.replied = false;
@@ -176,7 +196,7 @@ impl Board {
         self.mode.rise();
         self.timer = self.timer.saturating_add(1);
         if !words.is_empty() {
-            self.words.copy_from_slice(words);
+            self.words[..words.len()].copy_from_slice(words);
             self.raw_is_new = true;
             self.engineering_is_new = true;
         }
@@ -261,7 +281,7 @@ impl Board {
 
     /// The defaults, with nothing to show as saved.
     pub(crate) fn take_defaults(&mut self) {
-        self.settings = Settings::defaults();
+        self.settings = Settings::defaults(self.model);
         self.shown = Shown::default();
     }
 
@@ -298,6 +318,16 @@ impl Board {
     /// The bytes of the reply that waits, none of them where none does.
     pub fn waiting_reply(&self) -> &[u8] {
         self.reply.bytes()
+    }
+
+    /// What the board is.
+    pub fn model(&self) -> Model {
+        self.model
+    }
+
+    /// Whether the ABF is placed, as the profile says.
+    pub fn abf(&self) -> bool {
+        self.abf
     }
 
     /// The number of the board.
@@ -346,8 +376,8 @@ impl Board {
     }
 
     /// The measured words, as they last came.
-    pub fn words(&self) -> &[u16; WORDS] {
-        &self.words
+    pub fn words(&self) -> &[u16] {
+        &self.words[..self.model.words()]
     }
 
     /// The form of the text line.
@@ -358,21 +388,28 @@ impl Board {
 
 /// Looks a profile over and hands back its store.
 fn check(profile: &Profile) -> Result<Option<Store>, ProfileFault> {
-    if profile.bid < 1 || profile.bid > 8 {
+    if profile.bid < 1 || profile.bid > profile.model.highest_bid() {
         return Err(ProfileFault::Bid);
     }
-    if profile.fitted == 0 {
-        return Err(ProfileFault::NothingFitted);
-    }
-    if profile.forced & !profile.fitted != 0 {
-        return Err(ProfileFault::ForcedNotFitted);
-    }
+    check_channels(profile)?;
     match profile.stored {
         Some((save_count, bytes)) => match Settings::from_store(bytes) {
             Some(settings) => Ok(Some(Store { save_count, settings })),
             None => Err(ProfileFault::StoredOutOfRange),
         },
         None => Ok(None),
+    }
+}
+
+/// Looks the channels of a profile over.
+fn check_channels(profile: &Profile) -> Result<(), ProfileFault> {
+    match profile.model {
+        Model::Distribution if profile.fitted == 0 => Err(ProfileFault::NothingFitted),
+        Model::Distribution if profile.forced & !profile.fitted != 0 => {
+            Err(ProfileFault::ForcedNotFitted)
+        }
+        Model::Battery if profile.fitted | profile.forced != 0 => Err(ProfileFault::ChannelsFitted),
+        Model::Distribution | Model::Battery => Ok(()),
     }
 }
 
@@ -399,8 +436,7 @@ mod tests {
 
     /// A board that has just left startup for nominal.
     fn nominal() -> Board {
-        let profile = Profile { bid: 1, fitted: 3, forced: 1, stored: None };
-        let mut board = Board::start(&profile).unwrap();
+        let mut board = Board::start(&Profile::distribution(1, 3, 1)).unwrap();
         for _ in 0..50 {
             run(&mut board, HIGH, None);
         }

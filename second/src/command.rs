@@ -1,9 +1,10 @@
 //! Command transfers: the checks in their order, the effects, the replies.
 
-use crate::board::{Answer, Board, Cause, Store, IVID, STID};
+use crate::board::{Answer, Board, Cause, Store, IVID};
 use crate::board::{EMERGENCY_HIGH, EMERGENCY_LOW, EMERGENCY_PERIOD_SECONDS, LINGER_SECONDS};
 use crate::channels::CHANNELS;
 use crate::mode::Mode;
+use crate::model::{Model, BATTERY_WORDS};
 use crate::readings;
 use crate::reply::{HEAD, LONGEST};
 use crate::settings::{self, Kind};
@@ -23,6 +24,10 @@ const HOUSEKEEPING_CHANNELS_AT: usize = 16;
 const LATER_WORDS_AT: usize = 24;
 /// The words that stand before the channel sets in the housekeeping replies.
 const EARLY_WORDS: usize = 5;
+
+/// Where the two bytes of 0x44 stand, and what they are where the ABF is placed.
+const ABF_AT: usize = 6;
+const ABF_PLACED: u8 = 0xAB;
 
 /// How an accepted command ends.
 enum Done {
@@ -46,7 +51,7 @@ impl Board {
             return Answer::InStartup;
         }
         let code = command[2];
-        if command[0] != STID || command[1] != IVID || command[3] != self.bid {
+        if command[0] != self.model.stid() || command[1] != IVID || command[3] != self.bid {
             return self.refuse(code, Answer::WrongBoard);
         }
         self.timer = 0;
@@ -67,13 +72,13 @@ impl Board {
 
     /// Completes the reply with its head; it waits from now on.
     fn reply_with(&mut self, code: u8, stat: u8, length: usize) {
-        self.reply.finish([STID, IVID, code | 1, self.bid, stat], length);
+        self.reply.finish([self.model.stid(), IVID, code | 1, self.bid, stat], length);
         self.replied = true;
     }
 
     /// Checks 4 to 7, then the effect; tells how the command ends.
     fn carry_out(&mut self, code: u8, command: &[u8], rail: i16) -> Result<Done, Answer> {
-        need(command, needed(code).ok_or(Answer::UnknownCode)?)?;
+        need(command, needed(self.model, code).ok_or(Answer::UnknownCode)?)?;
         match code {
             0xAA => self.system_reset(command[4]),
             0x04 => self.cancel(),
@@ -82,8 +87,11 @@ impl Board {
             0x30 => self.switch_to_nominal(rail),
             0x32 => self.switch_to_safety(),
             0x42 => self.overcurrent_state(),
+            0x44 => self.abf_state(),
             0x50 => self.raw_readings(),
             0x52 => self.engineering_readings(),
+            0x60 => self.raw_packs(),
+            0x62 => self.engineering_packs(),
             0x82 => self.get_parameter(id_of(command)),
             0x84 => self.set_parameter(id_of(command), command),
             0x86 => self.reset_parameter(id_of(command)),
@@ -187,6 +195,13 @@ impl Board {
         self.reply.put_channels(at + 4, self.channels.latched());
     }
 
+    /// 0x44
+    fn abf_state(&mut self) -> Result<Done, Answer> {
+        let state = if self.abf { ABF_PLACED } else { 0x00 };
+        self.reply.put(ABF_AT, &[state, state]);
+        Ok(Done::Reply(ABF_AT + 2))
+    }
+
     /// 0x50
     fn raw_readings(&mut self) -> Result<Done, Answer> {
         let new = self.raw_is_new;
@@ -215,6 +230,34 @@ impl Board {
         Ok(if new { Done::Reply(LONGEST) } else { Done::Stale(LONGEST) })
     }
 
+    /// 0x60
+    fn raw_packs(&mut self) -> Result<Done, Answer> {
+        let new = std::mem::take(&mut self.raw_is_new);
+        self.packs(new, |_, raw| raw.to_le_bytes())
+    }
+
+    /// 0x62
+    fn engineering_packs(&mut self) -> Result<Done, Answer> {
+        let new = std::mem::take(&mut self.engineering_is_new);
+        self.packs(new, |place, raw| match readings::battery_engineering(place, raw) {
+            Some(reading) => reading.to_le_bytes(),
+            None => raw.to_le_bytes(),
+        })
+    }
+
+    /// The layout that both share: word behind word.
+    fn packs(
+        &mut self,
+        new: bool,
+        bytes_of: impl Fn(usize, u16) -> [u8; 2],
+    ) -> Result<Done, Answer> {
+        for (place, raw) in self.words[..BATTERY_WORDS].iter().enumerate() {
+            self.reply.put(WORDS_AT + 2 * place, &bytes_of(place, *raw));
+        }
+        let length = WORDS_AT + 2 * BATTERY_WORDS;
+        Ok(if new { Done::Reply(length) } else { Done::Stale(length) })
+    }
+
     /// 0x82
     fn get_parameter(&mut self, id: u16) -> Result<Done, Answer> {
         if let Some(place) = settings::find(id) {
@@ -237,7 +280,7 @@ impl Board {
     /// 0x86
     fn reset_parameter(&mut self, id: u16) -> Result<Done, Answer> {
         let place = settings::find(id).ok_or(Answer::Invalid)?;
-        self.settings.reset(&place);
+        self.settings.reset(&place, self.model);
         self.parameter_reply(id, &place)
     }
 
@@ -259,7 +302,7 @@ impl Board {
     /// Read-only values that no rule names read 0.
     fn read_only_value(&self, id: u16) -> u32 {
         match id {
-            0x2800 => u32::from(STID),
+            0x2800 => u32::from(self.model.stid()),
             0x2801 => u32::from(IVID),
             0x2802 => u32::from(self.bid),
             0x4801 => u32::from(self.shown.save_count),
@@ -312,14 +355,35 @@ impl Board {
 /// Where the id ends and the value of 0x84 begins.
 const ID_END: usize = 6;
 
-/// The bytes a command needs, none for a code that the board does not know. For
-/// 0x84 it is the id alone: how long the value is hangs on the id.
-fn needed(code: u8) -> Option<usize> {
+/// The bytes a command needs, none for a code that boards of the model do not
+/// know. For 0x84 it is the id alone: how long the value is hangs on the id.
+fn needed(model: Model, code: u8) -> Option<usize> {
     match code {
-        0x02 | 0x04 | 0x06 | 0x30 | 0x32 | 0x42 | 0x50 | 0x52 => Some(4),
-        0xAA | 0x16 | 0x18 | 0x90 | 0x92 => Some(5),
-        0x10 | 0x12 | 0x14 | 0x82 | 0x84 | 0x86 => Some(6),
+        0x02 | 0x06 | 0x30 | 0x32 => Some(4),
+        0xAA | 0x90 | 0x92 => Some(5),
+        0x82 | 0x84 | 0x86 => Some(6),
         0x94 => Some(7),
+        _ => match model {
+            Model::Distribution => needed_on_distribution(code),
+            Model::Battery => needed_on_battery(code),
+        },
+    }
+}
+
+/// The same for the codes that a distribution board has for itself.
+fn needed_on_distribution(code: u8) -> Option<usize> {
+    match code {
+        0x04 | 0x42 | 0x50 | 0x52 => Some(4),
+        0x16 | 0x18 => Some(5),
+        0x10 | 0x12 | 0x14 => Some(6),
+        _ => None,
+    }
+}
+
+/// The same for the codes that a battery board has for itself.
+fn needed_on_battery(code: u8) -> Option<usize> {
+    match code {
+        0x44 | 0x60 | 0x62 => Some(4),
         _ => None,
     }
 }

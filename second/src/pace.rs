@@ -4,9 +4,10 @@
 //! The ticks of every kind are made and run at the same place, so that only
 //! what the board does with them sets one kind apart from another.
 
-use crate::board::{Board, Profile, Tick, Told, IVID, STID, WORDS};
+use crate::board::{Board, Profile, Tick, Told, IVID};
 use crate::channels::CHANNELS;
 use crate::hex;
+use crate::model::{Model, WORDS};
 
 /// The longest line that asks for a run, its LF included.
 pub const LONGEST_LINE: usize = 3 + MOST_DIGITS;
@@ -163,7 +164,7 @@ struct Course {
 impl Course {
     /// A board that has just left startup, with nothing in the digest yet.
     fn new() -> Course {
-        let profile = Profile { bid: BID, fitted: FITTED, forced: FORCED, stored: None };
+        let profile = Profile::distribution(BID, FITTED, FORCED);
         let mut board = Board::start(&profile).expect("the profile breaks no rule");
         for _ in 0..WAKING {
             let plain = Tick { rail: RAIL, overcurrent: 0, words: &[], command: None };
@@ -250,7 +251,7 @@ fn transfer(kind: Kind, drawn: u16, room: &mut [u8; MOST_TRANSFER]) -> Option<&[
         Kind::Group => (8, 0x14, [low, high, low, high]),
         Kind::Plain | Kind::Overcurrent | Kind::Words | Kind::NoTick => return None,
     };
-    *room = [STID, IVID, code, BID, a, b, c, d];
+    *room = [Model::Distribution.stid(), IVID, code, BID, a, b, c, d];
     Some(&room[..length])
 }
 
@@ -441,7 +442,7 @@ mod tests {
         let mut expected: [u16; WORDS] = std::array::from_fn(|place| place as u16);
         expected[16_838 % 122] = 16_838;
         expected[5_758 % 122] = 5_758;
-        assert_eq!((course.board.words(), course.board.raw_is_new), (&expected, true));
+        assert_eq!((course.board.words(), course.board.raw_is_new), (&expected[..], true));
         assert_eq!(after(b'p', 2).board.words(), &[0; WORDS]);
     }
 

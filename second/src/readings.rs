@@ -1,9 +1,10 @@
 //! Engineering readings: Table 3-12, row by row, and the row that each measured
 //! word goes by. Rows that no reply has yet are there too, so that the table is
-//! whole; BAT_TEMP2 and BAT_TEMP3 are not, since the table has no numbers for them.
+//! whole; BAT_TEMP2 and BAT_TEMP3 go by Table 3-13 instead, worked out beforehand.
 //!
 //! A raw word is a `u16` as it came, an engineering reading an `i16` in the unit
-//! of its field; `engineering` is the only way from one to the other.
+//! of its field; `engineering` on a distribution board and `battery_engineering`
+//! on a battery board are the only ways from one to the other.
 
 use crate::settings::Kind;
 
@@ -43,11 +44,11 @@ pub const VIP_INPUT_AND_VD: [Conversion; 3] = [VIP_VOLT, vip(3_125, 10_240), vip
 /// VIP_CH: the same units.
 pub const VIP_CH: [Conversion; 3] = [VIP_VOLT, vip(3_125, 20_480), vip(3_125, 6_400)];
 
-/// VOLT_CELLx, in millivolts. No reply has it yet.
+/// VOLT_CELLx, in millivolts.
 pub const VOLT_CELL: Conversion =
     Conversion { raw: Kind::Uint16, bias: -512, pre_mul: 3, pos_div: 2 };
 
-/// In hundredths of a degree. No reply has it yet.
+/// In hundredths of a degree.
 pub const BAT_TEMP1: Conversion =
     Conversion { raw: Kind::Uint16, bias: -1_969, pre_mul: 75, pos_div: 4 };
 
@@ -62,7 +63,7 @@ pub const CURR_MPPT: Conversion =
 const FIRST_OF_INPUT: usize = 2;
 const FIRST_OF_CHANNELS: usize = 26;
 
-/// The row that a measured word goes by, found by its place among them.
+/// The row that a measured word of a distribution board goes by, found by its place.
 pub const fn row(place: usize) -> Conversion {
     match place {
         0 => VOLT_BRDSUP,
@@ -72,7 +73,108 @@ pub const fn row(place: usize) -> Conversion {
     }
 }
 
-/// What a measured word is worth in the unit of its field.
+/// What a measured word of a battery board is, found by its place among them.
+#[derive(Clone, Copy, Debug, PartialEq, Eq)]
+pub enum BatteryWord {
+    /// A word that goes by a row of Table 3-12.
+    Measured(Conversion),
+    /// BAT_TEMP2 or BAT_TEMP3, in hundredths of a degree.
+    PackTemperature,
+    /// STAT_BU or STAT_BP, which is told as it came.
+    Status,
+}
+
+const STAT_BU_PLACE: usize = 5;
+const FIRST_OF_PACKS: usize = 6;
+const WORDS_OF_A_PACK: usize = 11;
+
+/// The words before the packs, then those of each pack.
+pub const fn battery_word(place: usize) -> BatteryWord {
+    match place {
+        0 => BatteryWord::Measured(VOLT_BRDSUP),
+        1 => BatteryWord::Measured(PDU_TEMP),
+        FIRST_OF_INPUT..STAT_BU_PLACE => {
+            BatteryWord::Measured(VIP_INPUT_AND_VD[place - FIRST_OF_INPUT])
+        }
+        STAT_BU_PLACE => BatteryWord::Status,
+        _ => pack_word((place - FIRST_OF_PACKS) % WORDS_OF_A_PACK),
+    }
+}
+
+/// The words of a pack, as Table 3-16 has them.
+const fn pack_word(place: usize) -> BatteryWord {
+    match place {
+        0..3 => BatteryWord::Measured(VIP_INPUT_AND_VD[place]),
+        3 => BatteryWord::Status,
+        4..8 => BatteryWord::Measured(VOLT_CELL),
+        8 => BatteryWord::Measured(BAT_TEMP1),
+        _ => BatteryWord::PackTemperature,
+    }
+}
+
+/// What a measured word of a battery board is worth in the unit of its field, none
+/// for a status word.
+pub fn battery_engineering(place: usize, raw: u16) -> Option<i16> {
+    match battery_word(place) {
+        BatteryWord::Measured(row) => Some(row.engineering(raw)),
+        BatteryWord::PackTemperature => Some(pack_temperature(raw)),
+        BatteryWord::Status => None,
+    }
+}
+
+/// The codes that the sensor of a pack gives.
+pub const PACK_CODES: usize = 4_096;
+
+/// The fifth-degree line of Table 3-13 from its highest power on, in parts of 10^24.
+const FIFTH_DEGREE: [i128; 6] = [
+    -27_639_336_690,
+    21_730_661_079 * 10i128.pow(4),
+    -68_793_650_476 * 10i128.pow(7),
+    10_990_992_164 * 10i128.pow(11),
+    -92_772_286_526 * 10i128.pow(13),
+    37_552_963_972 * 10i128.pow(16),
+];
+
+/// How many of these parts a hundredth of a degree has.
+const HUNDREDTH: i128 = 10i128.pow(22);
+
+/// Every code's temperature, worked out before the program runs.
+static PACK_TEMPERATURES: [i16; PACK_CODES] = pack_temperatures();
+
+/// The temperatures of all codes.
+const fn pack_temperatures() -> [i16; PACK_CODES] {
+    let mut table = [0; PACK_CODES];
+    let mut code = 0;
+    while code < PACK_CODES {
+        table[code] = on_the_line(code as i128);
+        code += 1;
+    }
+    table
+}
+
+/// The line at one code to the nearest hundredth, halves away from zero, held to
+/// the ends of int16 only then.
+const fn on_the_line(code: i128) -> i16 {
+    let mut exact = 0;
+    let mut power = 0;
+    while power < FIFTH_DEGREE.len() {
+        exact = exact * code + FIFTH_DEGREE[power];
+        power += 1;
+    }
+    let size = (2 * exact.abs() + HUNDREDTH) / (2 * HUNDREDTH);
+    match size * exact.signum() {
+        nearest if nearest > i16::MAX as i128 => i16::MAX,
+        nearest if nearest < i16::MIN as i128 => i16::MIN,
+        nearest => nearest as i16,
+    }
+}
+
+/// The temperature of a pack; codes past the last one have its temperature.
+pub fn pack_temperature(raw: u16) -> i16 {
+    PACK_TEMPERATURES[usize::from(raw).min(PACK_CODES - 1)]
+}
+
+/// What a measured word of a distribution board is worth in the unit of its field.
 pub fn engineering(place: usize, raw: u16) -> i16 {
     row(place).engineering(raw)
 }

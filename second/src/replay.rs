@@ -2,13 +2,14 @@
 
 use crate::board::{Board, Event, Profile, Tick};
 use crate::hex;
+use crate::model::Model;
 use crate::settings::SIZE;
 use crate::text::{self, Form, Read, Refusal};
 
-/// The longest line that can be of a form is a text line with all its bytes.
-pub const LONGEST_LINE: usize = 7 + 2 * MOST_RECEIVED;
+/// The longest line that can be of a form is one with all the words that can be lent.
+pub const LONGEST_LINE: usize = 7 + 4 * MOST_WORDS;
 
-const MOST_WORDS: usize = 0x100;
+const MOST_WORDS: usize = 0x200;
 const MOST_COMMAND: usize = 300;
 const MOST_READ: usize = 0x200;
 const MOST_SCRATCH: usize = 0x200;
@@ -22,7 +23,7 @@ const UNTOUCHED: u8 = 0xEE;
 /// that it was parsed into.
 #[derive(Clone, Copy, Debug, PartialEq, Eq)]
 pub enum Line {
-    Start { bid: u8, fitted: u32, forced: u32, save_count: Option<u16> },
+    Start { model: Model, bid: u8, fitted: u32, forced: u32, abf: bool, save_count: Option<u16> },
     Words { count: usize },
     Tick { rail: i16, overcurrent: u32, command: Option<usize> },
     Read { length: usize },
@@ -32,7 +33,7 @@ pub enum Line {
 }
 
 /// Room for the byte string of a line.
-pub type Bytes = [u8; MOST_RECEIVED];
+pub type Bytes = [u8; 2 * MOST_WORDS];
 
 /// The line, or none where it is not of a form.
 pub fn parse(line: &[u8], bytes: &mut Bytes) -> Option<Line> {
@@ -41,6 +42,8 @@ pub fn parse(line: &[u8], bytes: &mut Bytes) -> Option<Line> {
     let parsed = match letter {
         b"B" => parse_start(&mut fields, None),
         b"P" => parse_start(&mut fields, Some(bytes)),
+        b"Q" => parse_start_of(&mut fields, None),
+        b"V" => parse_start_of(&mut fields, Some(bytes)),
         b"W" => parse_words(&mut fields, bytes),
         b"T" => parse_tick(&mut fields, bytes),
         b"R" => Some(Line::Read { length: size(fields.next()?, MOST_READ)? }),
@@ -60,20 +63,54 @@ fn parse_start<'a>(
     fields: &mut impl Iterator<Item = &'a [u8]>,
     stored: Option<&mut Bytes>,
 ) -> Option<Line> {
+    let (bid, fitted, forced) = parse_profile(fields)?;
+    let save_count = parse_stored(fields, stored)?;
+    Some(Line::Start { model: Model::Distribution, bid, fitted, forced, abf: false, save_count })
+}
+
+/// The fields of `Q`, and with room for stored values those of `V`.
+fn parse_start_of<'a>(
+    fields: &mut impl Iterator<Item = &'a [u8]>,
+    stored: Option<&mut Bytes>,
+) -> Option<Line> {
+    let model = Model::of_stid(hex::number(fields.next()?, 2)? as u8)?;
+    let (bid, fitted, forced) = parse_profile(fields)?;
+    let abf = parse_options(fields.next()?)?;
+    if fields.next()? != b"R" {
+        return None;
+    }
+    let save_count = parse_stored(fields, stored)?;
+    Some(Line::Start { model, bid, fitted, forced, abf, save_count })
+}
+
+/// BID, fitted set and forced set.
+fn parse_profile<'a>(fields: &mut impl Iterator<Item = &'a [u8]>) -> Option<(u8, u32, u32)> {
     let bid = hex::number(fields.next()?, 2)? as u8;
     let fitted = hex::number(fields.next()?, 8)?;
     let forced = hex::number(fields.next()?, 8)?;
-    let save_count = match stored {
-        Some(bytes) => {
-            let save_count = hex::number(fields.next()?, 4)? as u16;
-            if hex::decode_joined(fields.next()?, bytes)? != SIZE {
-                return None;
-            }
-            Some(save_count)
-        }
-        None => None,
+    Some((bid, fitted, forced))
+}
+
+/// Whether the option digit places the ABF. Its other bit is of no board yet.
+fn parse_options(digit: &[u8]) -> Option<bool> {
+    match digit {
+        b"0" | b"2" => Some(false),
+        b"1" | b"3" => Some(true),
+        _ => None,
+    }
+}
+
+/// The save count of stored values that go where there is room for them; where
+/// there is none, the line has no such fields.
+fn parse_stored<'a>(
+    fields: &mut impl Iterator<Item = &'a [u8]>,
+    stored: Option<&mut Bytes>,
+) -> Option<Option<u16>> {
+    let Some(bytes) = stored else {
+        return Some(None);
     };
-    Some(Line::Start { bid, fitted, forced, save_count })
+    let save_count = hex::number(fields.next()?, 4)? as u16;
+    (hex::decode_joined(fields.next()?, bytes)? == SIZE).then_some(Some(save_count))
 }
 
 /// The fields of `W`.
@@ -98,7 +135,7 @@ fn parse_tick<'a>(fields: &mut impl Iterator<Item = &'a [u8]>, bytes: &mut Bytes
 /// The fields of `L`.
 fn parse_text<'a>(fields: &mut impl Iterator<Item = &'a [u8]>, bytes: &mut Bytes) -> Option<Line> {
     let scratch = size(fields.next()?, MOST_SCRATCH)?;
-    let received = byte_string(fields.next()?, bytes)?;
+    let received = byte_string(fields.next()?, &mut bytes[..MOST_RECEIVED])?;
     Some(Line::Text { scratch, received })
 }
 
@@ -166,7 +203,7 @@ impl Replay {
 
     /// Takes one line and appends the one it prints, without its LF.
     pub fn line(&mut self, line: &[u8], out: &mut Vec<u8>) {
-        let mut bytes = [0; MOST_RECEIVED];
+        let mut bytes = [0; 2 * MOST_WORDS];
         match parse(line, &mut bytes) {
             Some(parsed) => self.run(&parsed, &bytes, out),
             None => bad(out),
@@ -175,9 +212,9 @@ impl Replay {
 
     /// Takes one line of a form and appends the one it prints, without its LF.
     pub fn run(&mut self, line: &Line, bytes: &Bytes, out: &mut Vec<u8>) {
-        if let Line::Start { bid, fitted, forced, save_count } = *line {
+        if let Line::Start { model, bid, fitted, forced, abf, save_count } = *line {
             let stored = save_count.zip(bytes.first_chunk());
-            return self.start(&Profile { bid, fitted, forced, stored }, out);
+            return self.start(&Profile { model, bid, fitted, forced, abf, stored }, out);
         }
         let Some(board) = &mut self.board else {
             return bad(out);
@@ -204,7 +241,7 @@ impl Replay {
         }
     }
 
-    /// `B` and `P`.
+    /// `B`, `P`, `Q` and `V`.
     fn start(&mut self, profile: &Profile, out: &mut Vec<u8>) {
         match Board::start(profile) {
             Ok(board) => {

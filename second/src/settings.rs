@@ -4,6 +4,7 @@
 //! to the highest: this one layout serves a get, the checksum and the store.
 
 use crate::crc;
+use crate::model::Model;
 
 /// The wire types that some parameter or measured word has.
 #[derive(Clone, Copy, Debug, PartialEq, Eq)]
@@ -60,6 +61,8 @@ impl Kind {
 const WATCHDOG_TIMEOUT: u16 = 0x4000;
 const SAFETY_LOW: u16 = 0x4042;
 const SAFETY_HIGH: u16 = 0x4043;
+/// From here on the defaults are of channels.
+const FIRST_OF_CHANNELS: u16 = 0x6002;
 
 /// Neighbouring read/write ids that share type, default and range.
 #[derive(Clone, Copy, Debug)]
@@ -86,6 +89,15 @@ impl Row {
     /// The same row with a highest value.
     const fn up_to(self, high: i64) -> Row {
         Row { high, ..self }
+    }
+
+    /// The default on boards of a model. What Table 3-25 gives for boards with
+    /// channels alone is not given for a battery board, so that it is 0 there.
+    pub const fn default_of(&self, model: Model) -> i64 {
+        match model {
+            Model::Battery if self.first >= FIRST_OF_CHANNELS => 0,
+            Model::Distribution | Model::Battery => self.default,
+        }
     }
 
     /// How many ids the row has.
@@ -194,17 +206,18 @@ const WATCHDOG_AT: usize = offset_of(WATCHDOG_TIMEOUT);
 const SAFETY_LOW_AT: usize = offset_of(SAFETY_LOW);
 const SAFETY_HIGH_AT: usize = offset_of(SAFETY_HIGH);
 
-const DEFAULTS: [u8; SIZE] = defaults();
+const DISTRIBUTION_DEFAULTS: [u8; SIZE] = defaults(Model::Distribution);
+const BATTERY_DEFAULTS: [u8; SIZE] = defaults(Model::Battery);
 
-/// The bytes of all defaults.
-const fn defaults() -> [u8; SIZE] {
+/// The bytes of all defaults of a model.
+const fn defaults(model: Model) -> [u8; SIZE] {
     let mut bytes = [0; SIZE];
     let mut offset = 0;
     let mut i = 0;
     while i < ROWS.len() {
         let mut left = ROWS[i].count();
         while left > 0 {
-            put(&mut bytes, offset, ROWS[i].kind.size(), ROWS[i].default);
+            put(&mut bytes, offset, ROWS[i].kind.size(), ROWS[i].default_of(model));
             offset += ROWS[i].kind.size();
             left -= 1;
         }
@@ -231,8 +244,11 @@ pub struct Settings {
 
 impl Settings {
     /// The values of a board that has nothing stored.
-    pub const fn defaults() -> Settings {
-        Settings { bytes: DEFAULTS }
+    pub const fn defaults(model: Model) -> Settings {
+        match model {
+            Model::Distribution => Settings { bytes: DISTRIBUTION_DEFAULTS },
+            Model::Battery => Settings { bytes: BATTERY_DEFAULTS },
+        }
     }
 
     /// Stored values as they come with a profile, or none if one is out of its range.
@@ -273,9 +289,9 @@ impl Settings {
         put(&mut self.bytes, place.offset, row.kind.size(), value);
     }
 
-    /// Puts one value back to its default.
-    pub fn reset(&mut self, place: &Place) {
-        put(&mut self.bytes, place.offset, place.row.kind.size(), place.row.default);
+    /// Puts one value back to its default on boards of a model.
+    pub fn reset(&mut self, place: &Place, model: Model) {
+        put(&mut self.bytes, place.offset, place.row.kind.size(), place.row.default_of(model));
     }
 
     /// The checksum over all values.

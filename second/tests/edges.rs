@@ -3,8 +3,9 @@
 mod common;
 
 use common::*;
-use second::board::{Answer, Board, Cause, Event, Profile, ProfileFault, Tick, WORDS};
+use second::board::{Answer, Board, Cause, Event, Profile, ProfileFault, Tick};
 use second::mode::Mode;
+use second::model::{Model, WORDS};
 use second::settings::{self, Settings};
 use second::text::{self, Form, Read, Refusal};
 
@@ -175,7 +176,7 @@ fn the_checksum_goes_by_id_from_the_lowest() {
     assert_eq!(bytes[21..24], [1, 0x12, 3]);
     assert_eq!(bytes[24..26], [200, 0]);
     assert_eq!(bytes[264..], [0x22, 0x12, 0x11, 0x11]);
-    assert_eq!(Settings::defaults().checksum(), 0xBB0E);
+    assert_eq!(Settings::defaults(Model::Distribution).checksum(), 0xBB0E);
 }
 
 #[test]
@@ -236,7 +237,7 @@ fn any_stored_save_count_will_do() {
             Board::start(&Profile { stored: Some((save_count, &stored_defaults())), ..profile() })
                 .unwrap();
         assert_eq!(board.shown().save_count, save_count);
-        assert_eq!(board.shown().checksum, Settings::defaults().checksum());
+        assert_eq!(board.shown().checksum, Settings::defaults(Model::Distribution).checksum());
     }
 }
 
@@ -244,8 +245,7 @@ fn any_stored_save_count_will_do() {
 
 #[test]
 fn profiles_that_break_a_rule() {
-    let of =
-        |bid, fitted, forced| Board::start(&Profile { bid, fitted, forced, stored: None }).err();
+    let of = |bid, fitted, forced| Board::start(&Profile::distribution(bid, fitted, forced)).err();
     assert_eq!(of(0, 1, 1), Some(ProfileFault::Bid));
     assert_eq!(of(1, 1, 1), None);
     assert_eq!(of(8, 1, 0), None);
@@ -686,7 +686,7 @@ fn command_92_with_nothing_stored_gives_defaults_and_shows_0() {
     let mut board = nominal();
     set(&mut board, 0x4001, 9);
     assert_eq!(give(&mut board, 0x92, &[0xA7]), Answer::Accepted);
-    assert_eq!(board.settings(), &Settings::defaults());
+    assert_eq!(board.settings(), &Settings::defaults(Model::Distribution));
     assert_eq!((board.shown().save_count, board.shown().checksum), (0, 0));
 }
 
@@ -694,14 +694,14 @@ fn command_92_with_nothing_stored_gives_defaults_and_shows_0() {
 fn command_94_with_checksum_0_shows_the_real_checksum() {
     let mut board = nominal();
     assert_eq!(give(&mut board, 0x94, &[0xA7, 0, 0]), Answer::Accepted);
-    assert_eq!(board.shown().checksum, Settings::defaults().checksum());
+    assert_eq!(board.shown().checksum, Settings::defaults(Model::Distribution).checksum());
     assert_eq!(board.shown().save_count, 1);
 }
 
 #[test]
 fn command_94_takes_0_or_the_right_checksum() {
     let mut board = nominal();
-    let [low, high] = Settings::defaults().checksum().to_le_bytes();
+    let [low, high] = Settings::defaults(Model::Distribution).checksum().to_le_bytes();
     assert_eq!(give(&mut board, 0x94, &[0xA7, low, high]), Answer::Accepted);
     assert_eq!(give(&mut board, 0x94, &[0xA7, high, low]), Answer::Invalid);
     assert_eq!(give(&mut board, 0x94, &[0xA7, low ^ 1, high]), Answer::Invalid);

@@ -4,6 +4,7 @@ mod common;
 
 use common::*;
 use second::board::{Answer, Board};
+use second::model::Model;
 use second::settings::{self, Kind, Settings, SIZE};
 
 /// Type, default and range by plain ranges, apart from the library's rows.
@@ -169,10 +170,11 @@ fn a_set_touches_no_other_value() {
         let mut changed = *board.settings().bytes();
         let place = settings::find(id).unwrap();
         let range = place.offset..place.offset + kind.size();
-        changed[range.clone()].copy_from_slice(&Settings::defaults().bytes()[range]);
-        assert_eq!(&changed, Settings::defaults().bytes(), "{id:04X}");
+        changed[range.clone()]
+            .copy_from_slice(&Settings::defaults(Model::Distribution).bytes()[range]);
+        assert_eq!(&changed, Settings::defaults(Model::Distribution).bytes(), "{id:04X}");
         give(&mut board, 0x86, &id.to_le_bytes());
-        assert_eq!(board.settings(), &Settings::defaults());
+        assert_eq!(board.settings(), &Settings::defaults(Model::Distribution));
     }
 }
 

@@ -1,17 +1,18 @@
-//! 0x52: every raw word through every row of Table 3-12, those that no reply has
+//! 0x52: every raw word through every row of Table 3-12, those that it does not have
 //! among them, and NEW counted by itself.
 
 mod common;
 
 use common::*;
-use second::board::{Answer, Board, Event, WORDS};
+use second::board::{Answer, Board, Event};
 use second::mode::Mode;
+use second::model::WORDS;
 use second::readings::{self, Conversion};
 
 const RAW: u8 = 0x50;
 const ENGINEERING: u8 = 0x52;
 
-/// Where a field lies that no reply has.
+/// Where a field lies that 0x52 does not have.
 const NOWHERE: usize = usize::MAX;
 
 /// A field of the reply as the page has it: its row's figures, written out once more.
@@ -69,7 +70,7 @@ fn fields() -> Vec<Field> {
     fields
 }
 
-/// The rows that no reply has: the program's, and the page's written out once more.
+/// The rows that 0x52 does not have: the program's, and the page's written out once more.
 fn rows_apart() -> [(Conversion, Field); 5] {
     let field =
         |bias, pre_mul, pos_div| Field { at: NOWHERE, signed: false, bias, pre_mul, pos_div };
@@ -123,7 +124,7 @@ fn every_raw_word_at_every_place_of_the_reply() {
 }
 
 #[test]
-fn every_raw_word_through_every_row_that_no_reply_has() {
+fn every_raw_word_through_every_row_that_0x52_does_not_have() {
     for (row, field) in rows_apart() {
         for raw in 0..=u16::MAX {
             let reading = row.engineering(raw);
@@ -160,7 +161,7 @@ fn each_place_has_the_row_of_its_field() {
 }
 
 #[test]
-fn each_row_that_no_reply_has_is_the_page_s() {
+fn each_row_that_0x52_does_not_have_is_the_page_s() {
     for (row, field) in rows_apart() {
         same_figures(row, &field);
     }
@@ -388,7 +389,7 @@ const CURR_MPPT: &Known = &[
 ];
 
 #[test]
-fn corners_of_each_row_that_no_reply_has() {
+fn corners_of_each_row_that_0x52_does_not_have() {
     let corners = [PIU_TEMP, VOLT_CELL, BAT_TEMP1, VOLT_MPPT, CURR_MPPT];
     for ((row, field), known) in rows_apart().into_iter().zip(corners) {
         for (raw, reading) in known {

@@ -1,5 +1,6 @@
 //! The replay script.
 
+use second::model::Model;
 use second::replay::{Replay, LONGEST_LINE};
 use second::settings::Settings;
 
@@ -23,6 +24,16 @@ impl Script {
         script
     }
 
+    /// A battery board in nominal, its ABF placed.
+    fn battery() -> Script {
+        let mut script = Script::new();
+        assert_eq!(script.say("Q 12 01 00000000 00000000 1 R"), "ok");
+        for _ in 0..50 {
+            script.say("T 3A98 00000000 -");
+        }
+        script
+    }
+
     /// What a line prints.
     fn say(&mut self, line: &str) -> String {
         let mut out = Vec::new();
@@ -38,7 +49,12 @@ impl Script {
 
 /// The digits of the defaults as they would be stored.
 fn defaults() -> String {
-    Settings::defaults().bytes().iter().map(|byte| format!("{byte:02X}")).collect()
+    defaults_of(Model::Distribution)
+}
+
+/// The same for boards of a model.
+fn defaults_of(model: Model) -> String {
+    Settings::defaults(model).bytes().iter().map(|byte| format!("{byte:02X}")).collect()
 }
 
 #[test]
@@ -76,7 +92,7 @@ const BAD: [&str; 48] = [
     "W 0000 0000",
     "W 0002 0000",
     "W 0001 00",
-    "W 0101 -",
+    "W 0201 -",
     "W 0000",
     "W 0000 ",
     "W 1 0000",
@@ -117,9 +133,12 @@ fn lines_not_of_a_form_are_bad() {
     assert_eq!(script.say(&format!("T 3A98 00000000 {digits}")), "bad");
     assert_eq!(script.say(&format!("L 0000 {}", "0".repeat(1_202))), "bad");
     assert_ne!(script.say(&format!("T 3A98 00000000 {}", &digits[..600])), "bad");
-    let longest = format!("L 0000 {}", "0".repeat(1_200));
+    assert_eq!(script.say(&format!("L 0000 {}", "0".repeat(1_200))), "refused 10 -");
+    assert_eq!(script.say(&format!("W 0201 {}", "0".repeat(4 * 0x201))), "bad");
+    let longest = format!("W 0200 {}", "0".repeat(4 * 0x200));
     assert_eq!(longest.len(), LONGEST_LINE);
-    assert_eq!(script.say(&longest), "refused 10 -");
+    assert_eq!(script.say(&longest), "ok");
+    assert_eq!(script.say("T 3A98 00000000 -"), "refused 9");
 }
 
 #[test]
@@ -250,7 +269,7 @@ fn the_state_line() {
     let expected = format!("R 00 0000 0000 0000 0000 0000 - {} {zeros} {words} -", defaults());
     assert_eq!(script.say("S"), expected);
     script.say("T 3A98 00000000 11079401A70000");
-    let checksum = format!("{:04X}", Settings::defaults().checksum());
+    let checksum = format!("{:04X}", Settings::defaults(Model::Distribution).checksum());
     let expected = format!(
         "R 00 0000 0000 0000 0001 {checksum} 0001 {} {zeros} {words} 1107950180",
         defaults()
@@ -267,4 +286,153 @@ fn stored_settings_out_of_range_are_refused() {
     assert_eq!(script.say("S"), before);
     let stored = defaults().replacen("C800", "B80B", 1);
     assert_eq!(script.say(&format!("P 01 00000001 00000000 0001 {stored}")), "ok");
+}
+
+#[test]
+fn starts_of_either_board() {
+    let mut script = Script::new();
+    for line in [
+        "Q 12 00 00000000 00000000 1 R",
+        "Q 12 05 00000000 00000000 1 R",
+        "Q 12 01 00000001 00000000 1 R",
+        "Q 12 01 00000000 80000000 1 R",
+        "Q 12 01 00000001 00000001 1 R",
+        "Q 11 01 00000000 00000000 1 R",
+        "Q 11 01 00000001 00000002 1 R",
+        "Q 11 09 00000001 00000001 1 R",
+    ] {
+        assert_eq!(script.say(line), "refused 8", "{line}");
+        assert_eq!(script.say("S"), "bad", "no board is there yet");
+    }
+    for (line, digits) in [
+        ("Q 12 01 00000000 00000000 0 R", 39 * 4),
+        ("Q 12 04 00000000 00000000 1 R", 39 * 4),
+        ("Q 12 02 00000000 00000000 2 R", 39 * 4),
+        ("Q 12 03 00000000 00000000 3 R", 39 * 4),
+        ("Q 11 01 00000001 00000000 0 R", 122 * 4),
+        ("Q 11 08 FFFFFFFF 0f0f0F0F 3 R", 122 * 4),
+        ("B 08 FFFFFFFF 0f0f0F0F", 122 * 4),
+    ] {
+        assert_eq!(script.say(line), "ok", "{line}");
+        assert_eq!(script.field(10).len(), digits, "{line}");
+    }
+}
+
+/// Nearly of the forms of `Q` and `V`, or of a board or a form that has not come.
+const NO_START: [&str; 30] = [
+    "Q",
+    "V",
+    "Q 12 01 00000000 00000000 1",
+    "Q 12 01 00000000 00000000 1 ",
+    "Q 12 01 00000000 00000000 1 R ",
+    "Q 12 01 00000000 00000000 1 R 0000",
+    "Q 12 01 00000000 00000000 1 -",
+    "Q 12 01 00000000 00000000 1 r",
+    "Q 12 01 00000000 00000000 1 A",
+    "Q 12 01 00000000 00000000 1 RR",
+    "Q 12 01 00000000 00000000 4 R",
+    "Q 12 01 00000000 00000000 A R",
+    "Q 12 01 00000000 00000000 - R",
+    "Q 12 01 00000000 00000000 01 R",
+    "Q 12 01 00000000 00000000  R",
+    "Q 12 01 00000000 00000000 R",
+    "Q 12 01 0000000 00000000 1 R",
+    "Q 12 01 00000000 000000000 1 R",
+    "Q 12 1 00000000 00000000 1 R",
+    "Q 12 0G 00000000 00000000 1 R",
+    "Q 012 01 00000000 00000000 1 R",
+    "Q 2 01 00000000 00000000 1 R",
+    "Q 1A 01 00000001 00000000 1 R",
+    "Q 10 01 00000000 00000000 1 R",
+    "Q 13 01 00000000 00000000 1 R",
+    "Q 00 01 00000000 00000000 1 R",
+    "Q FF 01 00000000 00000000 1 R",
+    "q 12 01 00000000 00000000 1 R",
+    "V 12 01 00000000 00000000 1 R",
+    "V 12 01 00000000 00000000 1 R 0000 00",
+];
+
+#[test]
+fn starts_not_of_a_form_are_bad_and_leave_the_board() {
+    let mut script = Script::battery();
+    let before = script.say("S");
+    for line in NO_START {
+        assert_eq!(script.say(line), "bad", "{line}");
+    }
+    let stored = defaults_of(Model::Battery);
+    for line in [
+        format!("V 1A 01 00000001 00000000 1 R 0001 {stored}"),
+        format!("V 12 01 00000000 00000000 1 - 0001 {stored}"),
+        format!("V 12 01 00000000 00000000 4 R 0001 {stored}"),
+        format!("V 12 01 00000000 00000000 1 R 001 {stored}"),
+        format!("V 12 01 00000000 00000000 1 R 0001 {stored} "),
+        format!("V 12 01 00000000 00000000 1 R 0001 {stored}00"),
+        format!("V 12 01 00000000 00000000 1 R 0001 {}", &stored[2..]),
+        format!("V 12 01 00000000 00000000 0001 {stored}"),
+    ] {
+        assert_eq!(script.say(&line), "bad", "{line}");
+    }
+    assert_eq!(script.say("S"), before);
+}
+
+#[test]
+fn stored_starts_of_either_board() {
+    let mut script = Script::new();
+    for model in [Model::Distribution, Model::Battery] {
+        let stored = defaults_of(model).replacen("C800", "b80B", 1);
+        let head = match model {
+            Model::Distribution => "V 11 08 00000003 00000001 2",
+            Model::Battery => "V 12 04 00000000 00000000 1",
+        };
+        assert_eq!(script.say(&format!("{head} R aBcD {stored}")), "ok");
+        assert_eq!((script.field(5), script.field(7)), ("ABCD".into(), "ABCD".into()));
+        assert_eq!(script.field(8), stored.to_uppercase());
+        let before = script.say("S");
+        let outside = stored.replacen("b80B", "B90B", 1);
+        assert_eq!(script.say(&format!("{head} R 0001 {outside}")), "refused 8");
+        assert_eq!(script.say("S"), before);
+    }
+    let stored = defaults_of(Model::Battery);
+    for head in ["V 12 05 00000000 00000000 1", "V 12 01 00000001 00000000 1"] {
+        assert_eq!(script.say(&format!("{head} R 0001 {stored}")), "refused 8");
+    }
+}
+
+#[test]
+fn words_on_a_battery_board() {
+    let mut script = Script::battery();
+    for count in [1, 38, 40, 121, 122, 123, 256, 257, 511, 512] {
+        assert_eq!(script.say(&format!("W {count:04X} {}", "1234".repeat(count))), "ok");
+        assert_eq!(script.say("T 3A98 00000000 12076001"), "refused 9");
+        assert!(script.say("T 3A98 00000000 -").starts_with("N "));
+    }
+    assert_eq!(script.field(10), "0000".repeat(39));
+    assert_eq!(script.say(&format!("W 0027 {}", "1234".repeat(39))), "ok");
+    let told = script.say("T 3A98 00000000 12076001");
+    assert!(told.ends_with(&format!(" 0 120761018000{}", "3412".repeat(39))), "{told}");
+    assert_eq!(script.field(10), "1234".repeat(39));
+    // Lent words wait for a tick line, whatever board is started meanwhile.
+    assert_eq!(script.say(&format!("W 007A {}", "5678".repeat(122))), "ok");
+    assert_eq!(script.say("B 01 00000001 00000000"), "ok");
+    assert!(script.say("T 3A98 00000000 -").starts_with("U "));
+    assert_eq!(script.field(10), "5678".repeat(122));
+    assert_eq!(script.say(&format!("W 007A {}", "5678".repeat(122))), "ok");
+    assert_eq!(script.say("Q 12 01 00000000 00000000 0 R"), "ok");
+    assert_eq!(script.say("T 3A98 00000000 -"), "refused 9");
+}
+
+#[test]
+fn the_state_line_of_a_battery_board() {
+    let mut script = Script::battery();
+    let (counts, words) = ("0".repeat(128), "0".repeat(156));
+    let defaults = defaults_of(Model::Battery);
+    let expected = format!("R 00 0000 0000 0000 0000 0000 - {defaults} {counts} {words} -");
+    assert_eq!(script.say("S"), expected);
+    assert_eq!(
+        script.say("T 3A98 FFFFFFFF 12074401"),
+        "N 0000000000000001 0000000000000000 00000000 00000000 - 0 120745018000ABAB"
+    );
+    assert_eq!(script.field(11), "120745018000ABAB");
+    assert_eq!(script.say("R 0009"), "120745018000ABABFF");
+    assert_eq!(script.say("F 0015"), "written 0015 3C7273703E120745018000ABAB3C2F7273703E0D0A");
 }

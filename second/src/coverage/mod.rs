@@ -3,6 +3,7 @@
 //! The watcher stands outside: it looks at a board before and after a line and
 //! at what was printed, so that the machine itself carries no trace of it.
 
+mod battery;
 mod channels;
 mod modes;
 mod parameters;
@@ -19,14 +20,21 @@ pub use modes::rails;
 pub use parameters::{needed, value_classes, STRANGERS};
 pub use script::Watched;
 
-/// The commands that the board knows.
+/// The commands that a distribution board knows.
 pub const CODES: [u8; 20] = [
     0xAA, 0x02, 0x04, 0x06, 0x10, 0x12, 0x14, 0x16, 0x18, 0x30, 0x32, 0x42, 0x50, 0x52, 0x82, 0x84,
     0x86, 0x90, 0x92, 0x94,
 ];
 
+/// The commands that a battery board knows.
+pub const BATTERY_CODES: [u8; 14] =
+    [0xAA, 0x02, 0x06, 0x30, 0x32, 0x44, 0x60, 0x62, 0x82, 0x84, 0x86, 0x90, 0x92, 0x94];
+
 /// The letters of the modes.
 const MODES: [char; 4] = ['U', 'N', 'F', 'E'];
+
+/// Those in which commands are carried out.
+const LIT: [char; 3] = ['N', 'F', 'E'];
 
 /// The letter of one mode.
 fn letter(mode: Mode) -> char {

@@ -53,27 +53,13 @@ pub fn value_classes(row: &Row) -> Vec<(&'static str, i64)> {
 
 /// Adds the cells of parameters, stored values and profiles.
 pub fn universe(coverage: &mut Coverage) {
+    for cell in of_each_id() {
+        coverage.add(cell);
+    }
     for row in &ROWS {
-        for id in row.first..=row.last {
-            for verb in ["get", "set", "reset"] {
-                coverage.add(format!("parameter {verb} {id:04X} 0"));
-            }
-        }
         for (class, _) in value_classes(row) {
             coverage.add(format!("value {:04X} {class}", row.first));
             coverage.add(format!("stored {:04X} {class}", row.first));
-        }
-    }
-    for row in &READ_ONLY {
-        for id in row.first..=row.last {
-            coverage.add(format!("parameter get {id:04X} 0"));
-            coverage.add(format!("parameter set {id:04X} 7"));
-            coverage.add(format!("parameter reset {id:04X} 7"));
-        }
-    }
-    for id in STRANGERS {
-        for verb in ["get", "set", "reset"] {
-            coverage.add(format!("parameter {verb} {id:04X} 7"));
         }
     }
     for kind in [Kind::Int8, Kind::Uint8, Kind::Int16, Kind::Uint16, Kind::Uint32] {
@@ -89,20 +75,42 @@ pub fn universe(coverage: &mut Coverage) {
     }
 }
 
+/// The cells of a get, set and reset of each id.
+pub fn of_each_id() -> Vec<String> {
+    let mut cells = Vec::new();
+    for id in ROWS.iter().flat_map(|row| row.first..=row.last) {
+        cells.extend(["get", "set", "reset"].map(|verb| format!("parameter {verb} {id:04X} 0")));
+    }
+    for id in READ_ONLY.iter().flat_map(|row| row.first..=row.last) {
+        cells.push(format!("parameter get {id:04X} 0"));
+        cells.extend(["set", "reset"].map(|verb| format!("parameter {verb} {id:04X} 7")));
+    }
+    for id in STRANGERS {
+        cells.extend(["get", "set", "reset"].map(|verb| format!("parameter {verb} {id:04X} 7")));
+    }
+    cells
+}
+
 impl Coverage {
     /// Counts a get, set or reset of one.
     pub fn see_parameter(&mut self, tick: &Ticked, command: &[u8]) {
-        let Some(verb) = tick.code().and_then(verb) else { return };
-        if command.len() < 6 || matches!(tick.answer, '1' | '2' | '3') {
-            return;
-        }
-        let id = u16::from_le_bytes([command[4], command[5]]);
-        if tick.answer != '5' {
-            self.hit_if_any(format_args!("parameter {verb} {id:04X} {}", tick.answer));
-        }
+        let Some(id) = self.see_parameter_of("", tick, command) else { return };
         if let (0x84, Some(place)) = (command[2], settings::find(id)) {
             self.see_value(&place.row, &command[6..], tick.answer);
         }
+    }
+
+    /// The same in cells of a board whose names begin so; tells the id of the command.
+    pub fn see_parameter_of(&mut self, of: &str, tick: &Ticked, command: &[u8]) -> Option<u16> {
+        let verb = tick.code().and_then(verb)?;
+        if command.len() < 6 || matches!(tick.answer, '1' | '2' | '3') {
+            return None;
+        }
+        let id = u16::from_le_bytes([command[4], command[5]]);
+        if tick.answer != '5' {
+            self.hit_if_any(format_args!("{of}parameter {verb} {id:04X} {}", tick.answer));
+        }
+        Some(id)
     }
 
     /// Counts the value of a set.

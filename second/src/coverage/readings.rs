@@ -1,15 +1,17 @@
-//! 0x50 and 0x52: what was new to each, and what 0x52 made of the words.
+//! 0x50 and 0x52, 0x60 and 0x62: what was new to each, and what 0x52 made of the
+//! words.
 
+use super::battery::is_battery;
 use super::script::Ticked;
-use super::Coverage;
+use super::{Coverage, LIT};
 use crate::board::Board;
-use crate::readings::row;
+use crate::readings::{row, Conversion};
 
-/// The codes that tell the measured words.
+/// The codes that tell the measured words, raw and in engineering units.
 const TELLING: [u8; 2] = [0x50, 0x52];
 
-/// The modes in which they are told.
-const LIT: [char; 3] = ['N', 'F', 'E'];
+/// The same on a battery board.
+const BATTERY_TELLING: [u8; 2] = [0x60, 0x62];
 
 /// The fields of the reply, those of one row and one block together.
 const FIELDS: [&str; 11] = [
@@ -27,10 +29,10 @@ const FIELDS: [&str; 11] = [
 ];
 
 /// Raw words at the ends of both types.
-const WORDS: [u16; 5] = [0x0000, 0x0001, 0x7FFF, 0x8000, 0xFFFF];
+pub const WORDS: [u16; 5] = [0x0000, 0x0001, 0x7FFF, 0x8000, 0xFFFF];
 
 /// How an exact value lies to the reading.
-const RESULTS: [&str; 9] = [
+pub const RESULTS: [&str; 9] = [
     "whole",
     "above zero, told lower",
     "above zero, told higher",
@@ -60,9 +62,8 @@ fn field(place: usize) -> &'static str {
     }
 }
 
-/// Which of the results a raw word has at its place.
-fn result(place: usize, raw: u16) -> &'static str {
-    let row = row(place);
+/// Which of the results a raw word has by its row.
+pub fn result(row: &Conversion, raw: u16) -> &'static str {
     let dividend = (row.raw.decode(&raw.to_le_bytes()) + row.bias) * row.pre_mul;
     let rest = dividend.rem_euclid(row.pos_div);
     let at = match dividend {
@@ -78,7 +79,7 @@ fn result(place: usize, raw: u16) -> &'static str {
 
 /// Adds the cells of both commands and of the readings.
 pub fn universe(coverage: &mut Coverage) {
-    for code in TELLING {
+    for code in TELLING.into_iter().chain(BATTERY_TELLING) {
         for mode in LIT {
             for (own, other) in [(true, true), (true, false), (false, true), (false, false)] {
                 coverage.add(told_cell(code, mode, own, other));
@@ -105,18 +106,20 @@ fn told_cell(code: u8, mode: char, own: bool, other: bool) -> String {
 
 /// Whether words are new to a code before it is carried out.
 fn is_new_to(code: u8, tick: &Ticked) -> bool {
-    tick.brought_words || untold(tick.before)[usize::from(code == TELLING[1])]
+    let engineering = code == TELLING[1] || code == BATTERY_TELLING[1];
+    tick.brought_words || untold(tick.before)[usize::from(engineering)]
 }
 
-/// Whether words wait for 0x50 and for 0x52.
+/// Whether words wait for 0x50 and for 0x52, or for 0x60 and for 0x62.
 pub fn untold(board: &Board) -> [bool; 2] {
     [board.raw_is_new, board.engineering_is_new]
 }
 
 impl Coverage {
-    /// Counts a transfer of 0x50 or 0x52 that got past startup.
+    /// Counts a transfer of the codes that tell words, if it got past startup.
     pub fn see_readings(&mut self, tick: &Ticked) {
-        let [first, second] = TELLING;
+        let battery = is_battery(tick.before);
+        let [first, second] = if battery { BATTERY_TELLING } else { TELLING };
         for (code, other) in [(first, second), (second, first)] {
             if tick.code() != Some(code) {
                 continue;
@@ -132,7 +135,9 @@ impl Coverage {
                 self.hit(format_args!("housekeeping {code:02X} {letter} refused with new words"));
             }
         }
-        if tick.accepted(second) {
+        if tick.accepted(second) && battery {
+            self.see_packs(tick.after.words());
+        } else if tick.accepted(second) {
             self.see_words(tick.after.words());
         }
     }
@@ -141,7 +146,7 @@ impl Coverage {
     fn see_words(&mut self, words: &[u16]) {
         for (place, raw) in words.iter().enumerate() {
             let field = field(place);
-            self.hit(format_args!("reading {field} {}", result(place, *raw)));
+            self.hit(format_args!("reading {field} {}", result(&row(place), *raw)));
             self.hit_if_any(format_args!("reading {field} of {raw:04X}"));
         }
     }

@@ -1,17 +1,21 @@
 //! What a replay script reaches: lines, starts, commands, events.
 
+use super::battery::{self, is_battery};
 use super::{channels, letter, modes, parameters, readings, text, Coverage, CODES, MODES};
 use crate::board::Board;
 use crate::mode::Mode;
+use crate::model::Model;
 use crate::replay::{bad, parse, Bytes, Line, Replay};
 use crate::text::Form;
 
 const ANSWERS: [char; 7] = ['0', '2', '3', '4', '5', '6', '7'];
 
 /// The lines of a script and what each may print.
-const LINES: [(char, &[&str]); 8] = [
+const LINES: [(char, &[&str]); 10] = [
     ('B', &["ok", "refused", "bad"]),
     ('P', &["ok", "refused", "bad"]),
+    ('Q', &["ok", "refused", "bad"]),
+    ('V', &["ok", "refused", "bad"]),
     ('W', &["ok", "bad", "before a board"]),
     ('T', &["ok", "refused", "bad", "before a board"]),
     ('R', &["ok", "bad", "before a board"]),
@@ -79,6 +83,11 @@ pub fn universe(coverage: &mut Coverage) {
     for what in ["empty", "unended", "over the limit", "of no letter"] {
         coverage.add(format!("line {what}"));
     }
+    for letter in ['Q', 'V'] {
+        for fault in ["of a board that has not come", "of a form that has not come"] {
+            coverage.add(format!("line {letter} {fault}"));
+        }
+    }
     command_universe(coverage);
     event_universe(coverage);
     save_universe(coverage);
@@ -93,6 +102,7 @@ pub fn universe(coverage: &mut Coverage) {
     modes::universe(coverage);
     channels::universe(coverage);
     text::universe(coverage);
+    battery::universe(coverage);
 }
 
 /// Adds the cells of commands by code, length and header.
@@ -192,7 +202,7 @@ pub struct Watched {
 impl Watched {
     /// Runs one line and counts what it reached.
     pub fn line(&mut self, line: &[u8], coverage: &mut Coverage) {
-        let mut bytes: Bytes = [0; 600];
+        let mut bytes: Bytes = [0; 1024];
         let before = self.replay.clone();
         let parsed = parse(line, &mut bytes);
         self.printed.clear();
@@ -224,7 +234,7 @@ impl Coverage {
         let Some(letter) = line.first() else {
             return self.hit(format_args!("line empty"));
         };
-        if !b"BPWTRLFS".contains(letter) {
+        if !b"BPQVWTRLFS".contains(letter) {
             return self.hit(format_args!("line of no letter"));
         }
         let result = match printed {
@@ -234,6 +244,27 @@ impl Coverage {
             _ => "ok",
         };
         self.hit(format_args!("line {} {result}", char::from(*letter)));
+        if b"QV".contains(letter) && result == "bad" {
+            self.see_not_come(line);
+        }
+    }
+
+    /// A start of a board, or with a form, that has not come; all else is of the form.
+    fn see_not_come(&mut self, line: &[u8]) {
+        let mut fields: Vec<&[u8]> = line.split(|byte| *byte == b' ').collect();
+        let (stid, form) = (fields.get(1).copied(), fields.get(6).copied());
+        for (field, found, others, fault) in [
+            (1, stid == Some(b"1A"), &b"12"[..], "of a board that has not come"),
+            (6, form == Some(b"-"), &b"R"[..], "of a form that has not come"),
+        ] {
+            if found {
+                fields[field] = others;
+                let mut bytes: Bytes = [0; 1024];
+                if parse(&fields.join(&b' '), &mut bytes).is_some() {
+                    self.hit(format_args!("line {} {fault}", char::from(line[0])));
+                }
+            }
+        }
     }
 
     /// Counts what a line of a form did with the board it found.
@@ -245,29 +276,42 @@ impl Coverage {
         after: &Replay,
         printed: &[u8],
     ) {
-        if let Line::Start { bid, fitted, forced, save_count } = *line {
+        if let Line::Start { model, bid, fitted, forced, abf, save_count } = *line {
             let stored = save_count.zip(bytes.first_chunk());
-            return self.see_start(bid, fitted, forced, stored);
+            return match model {
+                Model::Distribution => self.see_start(bid, fitted, forced, stored),
+                Model::Battery => self.see_battery_start(bid, fitted, forced, abf, stored),
+            };
         }
         let (Some(board), Some(board_after)) = (before.board(), after.board()) else { return };
         match *line {
             Line::Start { .. } | Line::Words { .. } | Line::Show => {}
             Line::Tick { rail, overcurrent, command } => {
-                self.see_word_count(before.lent().len());
-                if let Some((event, answer)) = event_and_answer(printed) {
-                    self.see_tick(&Ticked {
-                        before: board,
-                        after: board_after,
-                        rail,
-                        overcurrent,
-                        brought_words: !before.lent().is_empty(),
-                        command: command.map(|length| &bytes[..length]),
-                        mode: mode_found(board, rail),
-                        answer,
-                        event,
-                    });
+                let lent = before.lent().len();
+                match board.model() {
+                    Model::Distribution => self.see_word_count(lent),
+                    Model::Battery => self.see_battery_word_count(lent),
+                }
+                let Some((event, answer)) = event_and_answer(printed) else { return };
+                let tick = Ticked {
+                    before: board,
+                    after: board_after,
+                    rail,
+                    overcurrent,
+                    brought_words: lent != 0,
+                    command: command.map(|length| &bytes[..length]),
+                    mode: mode_found(board, rail),
+                    answer,
+                    event,
+                };
+                match board.model() {
+                    Model::Distribution => self.see_tick(&tick),
+                    Model::Battery => self.see_battery_tick(&tick),
                 }
             }
+            Line::Read { .. } if is_battery(board) => self.see_battery_read(board),
+            Line::Text { .. } if is_battery(board) => self.see_battery_text(board, printed),
+            Line::Frame { .. } if is_battery(board) => self.see_battery_frame(board, before),
             Line::Read { length } => self.see_read(board, length),
             Line::Text { scratch, received } => {
                 self.see_text(board, &bytes[..received], scratch, printed)
@@ -278,6 +322,7 @@ impl Coverage {
 
     /// Counts how many words were lent to a tick.
     fn see_word_count(&mut self, count: usize) {
+        self.hit_if_any(format_args!("words {count} on a distribution board"));
         match count {
             0 | 1 | 121 | 122 | 123 | 256 => self.hit(format_args!("words {count}")),
             _ => self.hit(format_args!("words other")),
@@ -331,6 +376,7 @@ impl Coverage {
             '3' => self.see_header(tick, command),
             _ => self.see_good_header(tick, command),
         }
+        self.see_stranger(tick);
         self.see_readings(tick);
     }
 

@@ -79,7 +79,7 @@ pub fn universe(coverage: &mut Coverage) {
 }
 
 /// The name of a form.
-fn name(form: Form) -> &'static str {
+pub fn name(form: Form) -> &'static str {
     match form {
         Form::Raw => "raw",
         Form::Ascii => "ascii",

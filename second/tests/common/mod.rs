@@ -3,6 +3,7 @@
 
 use second::board::{Answer, Board, Event, Profile, Tick, Told};
 use second::mode::Mode;
+use second::model::Model;
 use second::settings::{Settings, SIZE};
 
 /// Above every threshold of the defaults.
@@ -17,12 +18,12 @@ pub const FORCED: u32 = 0x0001_0001;
 
 /// The profile of most tests.
 pub fn profile() -> Profile<'static> {
-    Profile { bid: 1, fitted: FITTED, forced: FORCED, stored: None }
+    Profile::distribution(1, FITTED, FORCED)
 }
 
 /// A board in the first tick of startup.
 pub fn started(fitted: u32, forced: u32) -> Board {
-    Board::start(&Profile { bid: 1, fitted, forced, stored: None }).unwrap()
+    Board::start(&Profile::distribution(1, fitted, forced)).unwrap()
 }
 
 /// A tick with all that it may bring.
@@ -76,7 +77,7 @@ pub fn send(board: &mut Board, command: &[u8]) -> Answer {
 
 /// A command with a right header.
 pub fn command(board: &Board, code: u8, rest: &[u8]) -> Vec<u8> {
-    let mut bytes = vec![0x11, 0x07, code, board.bid()];
+    let mut bytes = vec![board.model().stid(), 0x07, code, board.bid()];
     bytes.extend_from_slice(rest);
     bytes
 }
@@ -108,7 +109,11 @@ pub fn get_word(board: &mut Board, id: u16) -> u16 {
 
 /// A board that has just come into the mode.
 pub fn in_mode(mode: Mode, fitted: u32, forced: u32) -> Board {
-    let mut board = started(fitted, forced);
+    brought_to(mode, started(fitted, forced))
+}
+
+/// A new board brought into the mode.
+pub fn brought_to(mode: Mode, mut board: Board) -> Board {
     match mode {
         Mode::Startup => {}
         Mode::Nominal => ticks(&mut board, HIGH, 50),
@@ -139,5 +144,5 @@ pub fn emergency() -> Board {
 
 /// The defaults as they would be stored.
 pub fn stored_defaults() -> [u8; SIZE] {
-    *Settings::defaults().bytes()
+    *Settings::defaults(Model::Distribution).bytes()
 }

@@ -156,7 +156,7 @@ impl Author {
 
     /// The bytes of a command with a right header.
     pub fn command(&self, code: u8, rest: &[u8]) -> Vec<u8> {
-        let mut bytes = vec![0x11, 0x07, code, self.board().bid()];
+        let mut bytes = vec![self.board().model().stid(), 0x07, code, self.board().bid()];
         bytes.extend_from_slice(rest);
         bytes
     }

@@ -3,8 +3,9 @@
 use crate::author::Author;
 use crate::rng::Rng;
 use second::board::Board;
-use second::coverage::{needed, CODES, STRANGERS};
+use second::coverage::{needed, BATTERY_CODES, CODES, STRANGERS};
 use second::mode::Mode;
+use second::model::Model;
 use second::settings::{self, Kind, Row, READ_ONLY, ROWS};
 
 /// The settings that move the mode or bite; the random author sets them with care.
@@ -12,7 +13,7 @@ const LIVE: [u16; 3] = [0x4000, 0x4042, 0x4043];
 
 /// A full command that is accepted wherever its mode allows it.
 fn good(board: &Board, code: u8, rng: &mut Rng) -> Vec<u8> {
-    let mut bytes = vec![0x11, 0x07, code, board.bid()];
+    let mut bytes = vec![board.model().stid(), 0x07, code, board.bid()];
     match code {
         0xAA => bytes.push(0xA6),
         0x10 | 0x12 | 0x14 => bytes.extend_from_slice(&rng.channels().to_le_bytes()),
@@ -112,12 +113,20 @@ fn invalid(board: &Board, code: u8, rng: &mut Rng) -> Vec<u8> {
     bytes
 }
 
+/// The codes that the board knows.
+fn known(board: &Board) -> &'static [u8] {
+    match board.model() {
+        Model::Distribution => &CODES,
+        Model::Battery => &BATTERY_CODES,
+    }
+}
+
 /// A command of any kind for the state the board is in.
 pub fn any(board: &Board, rng: &mut Rng) -> Vec<u8> {
     let code = match rng.below(12) {
         0 => rng.byte(),
-        1 => rng.pick(&CODES) | 1,
-        _ => rng.pick(&CODES),
+        1 => rng.pick(known(board)) | 1,
+        _ => rng.pick(known(board)),
     };
     let mut bytes = if rng.once_in(4) { invalid(board, code, rng) } else { good(board, code, rng) };
     match rng.below(10) {
@@ -174,26 +183,9 @@ pub fn random_harmless(author: &mut Author) {
 /// Every code in one mode: each length, each wrong header byte, wrong keys and
 /// the like, and codes that the board does not know.
 pub fn all_in(author: &mut Author, mode: Mode, with_reset: bool) {
-    for code in CODES {
-        if code == 0xAA && !with_reset {
-            continue;
-        }
-        every_length(author, mode, code);
-        for (at, value) in [(0, 0x00), (1, 0x00), (3, 0x00), (0, 0x1A), (1, 0x06), (3, 0x09)] {
-            if author.skips() {
-                continue;
-            }
-            author.reach(mode);
-            let (board, rng) = author.board_and_rng();
-            let mut bytes = good(board, code, rng);
-            bytes[at] = value;
-            author.send(&bytes);
-        }
-        for _ in 0..if author.is_brief() { 1 } else { 3 } {
-            author.reach(mode);
-            let (board, rng) = author.board_and_rng();
-            let bytes = invalid(board, code, rng);
-            author.send(&bytes);
+    for code in known(author.board()) {
+        if *code != 0xAA || with_reset {
+            one_in(author, mode, *code);
         }
     }
     for code in [0x03, 0x53, 0xAB, 0x95, 0xFF, 0x00, 0x40, 0x54, 0xA0, 0xC4, 0xFE] {
@@ -204,7 +196,28 @@ pub fn all_in(author: &mut Author, mode: Mode, with_reset: bool) {
         }
         author.reach(mode);
         let mut bytes = author.command(code, &[]);
-        bytes[0] = 0x12;
+        bytes[0] ^= 3;
+        author.send(&bytes);
+    }
+}
+
+/// One code in one mode: each length, each wrong header byte, wrong keys and the like.
+fn one_in(author: &mut Author, mode: Mode, code: u8) {
+    every_length(author, mode, code);
+    for (at, value) in [(0, 0x00), (1, 0x00), (3, 0x00), (0, 0x1A), (1, 0x06), (3, 0x09)] {
+        if author.skips() {
+            continue;
+        }
+        author.reach(mode);
+        let (board, rng) = author.board_and_rng();
+        let mut bytes = good(board, code, rng);
+        bytes[at] = value;
+        author.send(&bytes);
+    }
+    for _ in 0..if author.is_brief() { 1 } else { 3 } {
+        author.reach(mode);
+        let (board, rng) = author.board_and_rng();
+        let bytes = invalid(board, code, rng);
         author.send(&bytes);
     }
 }
@@ -217,14 +230,19 @@ fn every_length(author: &mut Author, mode: Mode, code: u8) {
             continue;
         }
         author.reach(mode);
-        let (board, rng) = author.board_and_rng();
-        let mut bytes = good(board, code, rng);
-        while bytes.len() < length {
-            bytes.push(author.rng.byte());
-        }
-        bytes.truncate(length);
-        author.send(&bytes);
+        sized(author, code, length);
     }
+}
+
+/// A good command cut or padded to a length.
+pub fn sized(author: &mut Author, code: u8, length: usize) {
+    let (board, rng) = author.board_and_rng();
+    let mut bytes = good(board, code, rng);
+    while bytes.len() < length {
+        bytes.push(rng.byte());
+    }
+    bytes.truncate(length);
+    author.send(&bytes);
 }
 
 /// Good commands with many bytes behind them, up to all that a transfer may have.
@@ -328,7 +346,10 @@ pub fn saves(author: &mut Author) {
         let code = rng.pick(&[0x84, 0x84, 0x86, 0x90, 0x92, 0x94, 0x94, 0x94, 0x82]);
         let bytes = match (code, rng.below(3)) {
             (0x94, 0) => invalid(board, code, rng),
-            (0x82, _) => vec![0x11, 7, 0x82, board.bid(), 0x01 + (board.timer() & 1) as u8, 0x48],
+            (0x82, _) => {
+                let id = 0x01 + (board.timer() & 1) as u8;
+                vec![board.model().stid(), 7, 0x82, board.bid(), id, 0x48]
+            }
             _ => good(board, code, rng),
         };
         author.send(&bytes);

@@ -2,12 +2,13 @@
 
 use crate::author::{hex, Author};
 use crate::rng::Rng;
-use crate::starts::{stored_start, with};
+use crate::starts::{stored_start, with, with_of};
+use second::model::Model;
 
 /// Lines of each form, the limits among them.
 fn whole(rng: &mut Rng) -> String {
     let bytes = |count: usize| "5A".repeat(count);
-    match rng.below(12) {
+    match rng.below(16) {
         0 => "B 01 0000000F 00000001".to_string(),
         1 => stored_start("02 0000000F 00000001", 7, &with(&[])),
         2 => "W 0000 -".to_string(),
@@ -19,6 +20,13 @@ fn whole(rng: &mut Rng) -> String {
         8 => format!("L 0200 {}", bytes(600)),
         9 => "L 0000 -".to_string(),
         10 => "F 0400".to_string(),
+        11 => "Q 12 01 00000000 00000000 1 R".to_string(),
+        12 => "Q 11 03 0000000F 00000001 2 R".to_string(),
+        13 => {
+            let stored = hex(&with_of(Model::Battery, &[]));
+            format!("V 12 04 00000000 00000000 0 R 0007 {stored}")
+        }
+        14 => format!("W 0200 {}", bytes(1024)),
         _ => "S".to_string(),
     }
 }
@@ -155,7 +163,7 @@ fn long() -> Vec<String> {
     for count in [599, 600, 601, 700] {
         lines.push(format!("L 0000 {}", "3C".repeat(count)));
     }
-    for count in [255, 256, 257] {
+    for count in [255, 256, 257, 511, 512, 513] {
         lines.push(format!("W {count:04X} {}", "ABCD".repeat(count)));
     }
     lines

@@ -1,6 +1,7 @@
 //! A seeded generator of replay scripts and session sheets.
 
 mod author;
+mod battery_scenes;
 mod carry_scenes;
 mod channel_scenes;
 mod commands;
@@ -18,13 +19,15 @@ mod text_scenes;
 
 use author::{Author, Wish};
 use second::mode::Mode;
+use second::model::Model;
 use std::io::{self, Write};
 use std::path::Path;
 use std::process::ExitCode;
 
 const USAGE: &str = "usage: second-scripts replay SEED LINES   a mixed script of about LINES lines
        second-scripts KIND SEED           one thing gone through: codes, parameters, text,
-                                          board, watchdog, damage, stores, ranges, carries;
+                                          board, watchdog, damage, stores, ranges, carries,
+                                          battery;
                                           or one long stretch: lingers, period, counts,
                                           emergency, timeouts, resets, bites
        second-scripts KIND SEED brief     the same by samples
@@ -84,7 +87,7 @@ fn mixed(wish: Wish, lines: usize) -> io::Result<()> {
     if author.rng.once_in(4) {
         author.show();
     }
-    starts::start(&mut author);
+    starts::any(&mut author);
     author.reach(Mode::Nominal);
     while author.lines() < lines {
         scene(&mut author);
@@ -102,8 +105,9 @@ fn mixed(wish: Wish, lines: usize) -> io::Result<()> {
 
 /// One scene drawn by lot.
 fn scene(author: &mut Author) {
-    match author.rng.below(41) {
+    match author.rng.below(44) {
         0..=7 => commands::random(author),
+        8..=11 if author.board().model() == Model::Battery => battery_scenes::packs(author),
         8..=11 => channel_scenes::channels(author),
         12..=14 => channel_scenes::overcurrents(author),
         15..=17 => data_scenes::words(author),
@@ -117,7 +121,8 @@ fn scene(author: &mut Author) {
         35..=37 => damage::random(author),
         38 => mode_scenes::out_of_startup(author),
         39 => commands::status(author),
-        _ => starts::start(author),
+        40..=41 => battery_scenes::strangers(author),
+        _ => starts::any(author),
     }
 }
 
@@ -133,6 +138,7 @@ fn go_through(kind: &str, author: &mut Author) -> Option<()> {
         "stores" => store_scenes::all(author),
         "ranges" => starts::stored_ends(author),
         "carries" => carry_scenes::all(author),
+        "battery" => battery_scenes::all(author),
         "lingers" => stretches::lingers(author),
         "period" => stretches::period(author),
         "emergency" => emergency_scenes::all(author),

@@ -2,7 +2,7 @@
 
 use crate::author::Author;
 use crate::commands;
-use crate::data_scenes::{lend, TELLING};
+use crate::data_scenes::{lend_all, telling};
 use crate::text_scenes;
 use second::mode::Mode;
 use second::text::Form;
@@ -59,7 +59,7 @@ fn one_bite(author: &mut Author, last: usize) {
     author.give(if last % 2 == 0 { 0x32 } else { 0x06 }, &[]);
     run_timer(author, 64);
     if last < 2 {
-        lend(author, 122);
+        lend_all(author);
         author.idle();
     }
     if last == 2 {
@@ -73,7 +73,7 @@ fn one_bite(author: &mut Author, last: usize) {
     author.show();
     if last < 2 {
         author.reach(Mode::Nominal);
-        for code in TELLING {
+        for code in telling(author) {
             author.give(code, &[]);
         }
     }
@@ -83,7 +83,7 @@ fn one_bite(author: &mut Author, last: usize) {
 fn before_the_bite(author: &mut Author, last: usize) {
     if last < 2 {
         text_scenes::switch(author, Form::Ascii);
-        lend(author, 122);
+        lend_all(author);
     }
     let rail = author.steady();
     match last {
@@ -112,7 +112,7 @@ fn bite(author: &mut Author, timeout: u64) {
         text_scenes::switch(author, Form::Ascii);
     }
     if author.rng.once_in(2) {
-        lend(author, 122);
+        lend_all(author);
     }
     let (rail, tripped) = (author.steady(), author.rng.channels());
     match author.rng.below(5) {
@@ -145,7 +145,7 @@ pub fn reset(author: &mut Author) {
     let (rail, tripped) = (author.steady(), author.rng.channels());
     author.tick(rail, tripped, None);
     text_scenes::switch(author, Form::Ascii);
-    lend(author, 122);
+    lend_all(author);
     let command = author.command(0xAA, &[0xA6]);
     author.tick(rail, u32::MAX, Some(&command));
     author.say("F 0020");

@@ -3,6 +3,7 @@
 use crate::author::{hex, Author};
 use second::coverage::value_classes;
 use second::mode::Mode;
+use second::model::Model;
 use second::settings::{self, Settings, ROWS};
 
 /// A board with some channels of each kind in both halves.
@@ -27,7 +28,12 @@ pub fn start(author: &mut Author) {
 
 /// Stored values in range, some moved off their defaults.
 fn stored(author: &mut Author) -> Vec<u8> {
-    let mut bytes = with(&[]);
+    stored_of(author, Model::Distribution)
+}
+
+/// The same for a board of a model.
+fn stored_of(author: &mut Author, model: Model) -> Vec<u8> {
+    let mut bytes = Settings::defaults(model).bytes().to_vec();
     for _ in 0..author.rng.below(8) {
         let row = &ROWS[author.rng.below(ROWS.len())];
         let id = author.rng.between(i64::from(row.first), i64::from(row.last)) as u16;
@@ -39,6 +45,74 @@ fn stored(author: &mut Author) -> Vec<u8> {
     bytes
 }
 
+/// A start of either board in any of its lines, at times behind one that is refused
+/// or not of a form.
+pub fn any(author: &mut Author) {
+    if author.rng.once_in(3) {
+        let line = author.rng.pick(&NO_START);
+        author.say(line);
+    }
+    match author.rng.below(5) {
+        0..=1 => battery(author),
+        2 => distribution_by_stid(author),
+        _ => start(author),
+    }
+}
+
+/// Starts that are refused or not of a form, or of what has not come.
+const NO_START: [&str; 22] = [
+    "Q 12 00 00000000 00000000 0 R",
+    "Q 12 05 00000000 00000000 1 R",
+    "Q 12 08 00000000 00000000 2 R",
+    "Q 12 FF 00000000 00000000 3 R",
+    "Q 12 01 00000001 00000000 1 R",
+    "Q 12 04 FFFFFFFF 00000001 0 R",
+    "Q 12 02 00000000 80000000 0 R",
+    "Q 11 00 00000001 00000000 0 R",
+    "Q 11 09 00000001 00000000 1 R",
+    "Q 11 01 00000000 00000000 2 R",
+    "Q 11 01 00000001 00000003 3 R",
+    "Q 1A 01 00000001 00000000 0 R",
+    "Q 1A 01 00000001 00000000 2 R",
+    "Q 10 01 00000000 00000000 0 R",
+    "Q 13 01 00000000 00000000 0 R",
+    "Q 12 01 00000000 00000000 0 -",
+    "Q 11 01 00000001 00000000 0 -",
+    "Q 12 01 00000000 00000000 4 R",
+    "Q 12 01 00000000 00000000 0 A",
+    "Q 12 01 00000000 00000000 0",
+    "Q 12 01 00000000 00000000 00 R",
+    "V 12 01 00000000 00000000 0 R",
+];
+
+/// A battery board with each option, at times with something stored.
+fn battery(author: &mut Author) {
+    let (bid, option) = (author.rng.between(1, 4), author.rng.below(4));
+    start_by_stid(author, &format!("12 {bid:02X} 00000000 00000000 {option}"));
+}
+
+/// A distribution board by the line that names its STID.
+fn distribution_by_stid(author: &mut Author) {
+    let rng = &mut author.rng;
+    let fitted = (rng.next() | rng.next()) as u32 | 0x0001_0001;
+    let forced = (rng.next() & rng.next()) as u32 & fitted;
+    let (bid, option) = (rng.between(1, 8), rng.below(4));
+    start_by_stid(author, &format!("11 {bid:02X} {fitted:08X} {forced:08X} {option}"));
+}
+
+/// A start of a profile that names its STID, with or without a store.
+fn start_by_stid(author: &mut Author, profile: &str) {
+    if author.rng.once_in(2) {
+        author.say(&format!("Q {profile} R"));
+        return;
+    }
+    let model = if profile.starts_with("12") { Model::Battery } else { Model::Distribution };
+    let count = author.rng.pick(&[0u16, 1, 0x00FF, 0xFFFE, 0xFFFF]);
+    let stored = stored_of(author, model);
+    author.say(&format!("V {profile} R {count:04X} {}", hex(&stored)));
+    author.show();
+}
+
 /// The line that starts from a profile with stored values.
 pub fn stored_start(profile: &str, save_count: u16, stored: &[u8]) -> String {
     format!("P {profile} {save_count:04X} {}", hex(stored))
@@ -46,7 +120,12 @@ pub fn stored_start(profile: &str, save_count: u16, stored: &[u8]) -> String {
 
 /// The defaults with some values changed.
 pub fn with(values: &[(u16, i64)]) -> Vec<u8> {
-    let mut bytes = Settings::defaults().bytes().to_vec();
+    with_of(Model::Distribution, values)
+}
+
+/// The same for a board of a model.
+pub fn with_of(model: Model, values: &[(u16, i64)]) -> Vec<u8> {
+    let mut bytes = Settings::defaults(model).bytes().to_vec();
     for (id, value) in values {
         put(&mut bytes, *id, *value);
     }

@@ -172,7 +172,8 @@ fn frame(author: &mut Author) {
 /// Some of each in both forms, short enough for every mode. It ends in the ASCII form.
 pub fn some(author: &mut Author) {
     for form in [Form::Raw, Form::Ascii] {
-        let text = spaced(&[0x11, 0x07, 0x02, author.board().bid()], &mut author.rng);
+        let noop = author.command(0x02, &[]);
+        let text = spaced(&noop, &mut author.rng);
         for scratch in [0, 3, 4, 6] {
             receive(author, scratch, &framed(&text));
         }
