@@ -1,12 +1,12 @@
 -- Demand 3, power. Take a machine that was started from a profile that keeps the rules and then used in any way, and
--- from there a stretch of calls. Let the board have a force-enabled channel (so the claim is about boards with channels,
--- and says nothing of a battery board, which fits none), and let none of these be latched when the
--- stretch begins; let no tick of the stretch reset the machine, alter a setting, or report an overcurrent of such a
--- channel. Then, whatever the rails and the commands: a force-enabled channel is never off for longer than 50 ticks, or
--- than the emergency period where that is more; whenever it comes on in the stretch it is on for at least linger + 1
--- ticks, unless the stretch ends before; and all of them come on and go off together. On and off mean at a tick's end.
--- A call of the stretch is a tick, a tick that refusal 9 turns away and that does not happen, or a read of the text
--- line. Assumes nothing: this is the claim.
+-- from there a stretch of calls. Let the board have a force-enabled channel (so the claim is about boards with
+-- channels, and says nothing of a battery board, which fits none), and let none of these be latched when the stretch
+-- begins; let no tick of the stretch reset the machine, alter a setting, or report an overcurrent of such a channel.
+-- Then, whatever the rails and the commands: a force-enabled channel is never off for longer than 50 ticks, or than the
+-- emergency period where that is more; whenever it comes on in the stretch it is on for at least linger + 1 ticks,
+-- unless the stretch ends before; and all of them come on and go off together. On and off mean at a tick's end. A call
+-- of the stretch is a tick, a tick that refusal 9 turns away and that does not happen, or a read of the text line.
+-- Assumes nothing: this is the claim.
 use mathlib.Core.{Path._≡_, Bool.Bool, Bool.true, Bool.false, List.List}
 use Prim.Native.Nat.{ℕ, _<_}
 use Rattle.modes.specs.declared.Limits.{Limits}
