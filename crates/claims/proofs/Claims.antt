@@ -29,6 +29,7 @@ use Rattle.claims.proofs.PowerNeeded.{power-needed}
 use Rattle.claims.proofs.PowerReal.{power-real}
 use Rattle.claims.proofs.Standing.{standing}
 use Rattle.claims.proofs.Wrong.{all-caught, all-break}
+use Rattle.claims.proofs.OnBoardsWithChannels.{on-boards-with-channels}
 
 pub claims : Claims
 claims =
@@ -61,6 +62,7 @@ claims =
       power-of-one = power-of-one;
       power-needed = power-needed;
       power-real = power-real;
+      on-boards-with-channels = on-boards-with-channels;
       standing = standing;
       small-machine = powered;
       tight = tight;

@@ -4,6 +4,7 @@ pub mod CommandStep
 pub mod Profiles
 pub mod PowerCommand
 pub mod PowerTick
+pub mod OnBoardsWithChannels
 pub mod Standing
 pub mod Power
 pub mod PowerReal

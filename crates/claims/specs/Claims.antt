@@ -17,7 +17,7 @@ use Rattle.readings.specs.{declared.apart.Raw.Raw, declared.table.Row.Row}
 use Rattle.exact.specs.{Exact.ExactReading, Exact.NeverSmaller, Line.ExactTemperature}
 use Rattle.power.specs.{Claim.Claim, Tight.Tight}
 use Rattle.claims.specs.{Boundary.BoundaryTable, Dark.Dark, Power.Power, PowerOfOne.PowerOfOne, PowerNeeded.PowerNeeded}
-use Rattle.claims.specs.{PowerReal.PowerReal, Standing.Standing, Wrong.AllCaught, Wrong.AllBreak}
+use Rattle.claims.specs.{PowerReal.PowerReal, OnBoardsWithChannels.OnBoardsWithChannels, Standing.Standing, Wrong.AllCaught, Wrong.AllBreak}
 
 pub record Claims : Type 0 where
   -- document 01's boundary table
@@ -48,11 +48,12 @@ pub record Claims : Type 0 where
   pub exact-reading : (row : Row) (raw : Raw) → ExactReading row raw
   pub never-smaller : (row : Row) (a b : Raw) → NeverSmaller row a b
   pub exact-temperature : (code : ℕ) → ExactTemperature code
-  -- demand 3: how long a force-enabled channel is off, and on
+  -- demand 3: how long a force-enabled channel is off, and on, on boards that have one
   pub power : Power
   pub power-of-one : PowerOfOne
   pub power-needed : PowerNeeded
   pub power-real : PowerReal
+  pub on-boards-with-channels : OnBoardsWithChannels
   pub standing : Standing
   pub small-machine : Claim
   pub tight : Tight

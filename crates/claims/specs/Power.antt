@@ -64,7 +64,8 @@ AtTicks Met m (line received room) = Unit {0}
 abbrev pub EachTick : (Machine → Sample → Type 0) → Machine → List Call → Type 0
 EachTick Met m calls = Stretch afterCall (AtTicks Met) m calls
 
--- the board has at least one force-enabled channel
+-- the board has at least one force-enabled channel, so it is one with channels; `OnBoardsWithChannels` has that as a
+-- claim
 pub record AtLeastOne (m : Machine) : Type 0 where
   pub one : ℕ
   pub is : ForceEnabled one m

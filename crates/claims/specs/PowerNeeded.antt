@@ -1,6 +1,7 @@
 -- The premises of demand 3 that are needed: without any one of them the demand is false. For each a run that meets all
 -- the other premises, and on which the demand fails. Two premises are not needed, as `PowerOfOne` shows: that the
--- settings stay, and that the board has a force-enabled channel. Assumes nothing: this is the claim.
+-- settings stay, and that the board has a force-enabled channel: on one that has none, a battery board for one, the
+-- demand is said of no channel. Assumes nothing: this is the claim.
 use mathlib.Core.{Path._≡_, Bool.false, List.List}
 use Prim.Native.Nat.{ℕ}
 use Rattle.channels.specs.Sets.{has}

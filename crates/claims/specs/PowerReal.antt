@@ -32,7 +32,7 @@ abbrev pub expected : List Bool
 expected = turns 50 6001 60000 6001
 
 pub record PowerReal : Type 0 where
-  -- the two numbers, on every board
+  -- the two numbers, on every board, also on one without channels
   pub numbers : (m : Machine) → (mostOff (limits m .period) ≡ 60000) × (leastOn (limits m .linger) ≡ 6001)
   -- the stretch
   pub reached : Reached started

@@ -1,5 +1,5 @@
 -- A force-enabled channel of a machine that can be reached is on exactly in nominal and safety, where it is not
--- latched; in startup and emergency it is off. Assumes nothing: this is the claim.
+-- latched; in startup and emergency it is off. A battery board has no such channel. Assumes nothing: this is the claim.
 use mathlib.Core.{Path._≡_, Bool.not, Bool._&&_}
 use Prim.Native.Nat.{ℕ}
 use Rattle.channels.specs.Sets.{has}

@@ -1,7 +1,8 @@
 -- Document 01's effects, command by command, in its order, and behind 0x50 those of document 02's 0x52, 0x44, 0x60 and
--- 0x62, of which the last three are a battery board's. Where a command knows a 6 or a 7 of its own, its function answers that too; the step takes an effect only where no check applies, so
--- there those rows are not reached. `code` is the command's code, from which the reply's is made; the last argument is
--- the board as the command finds it. Assumes nothing: these are definitions.
+-- 0x62, of which the last three are a battery board's. Where a command knows a 6 or a 7 of its own, its function
+-- answers that too; the step takes an effect only where no check applies, so there those rows are not reached. `code`
+-- is the command's code, from which the reply's is made; the last argument is the board as the command finds it.
+-- Assumes nothing: these are definitions.
 use Prim.Native.Nat.{ℕ}
 use mathlib.Core.Bool.{Bool, true, false, cond, not}
 use lib.IntN.{ℤ}
@@ -106,14 +107,16 @@ engineeringHousekeepingOf code b =
 unfoldable pub abfOf : ℕ → Board → Commanded
 abfOf code b = acceptedWith (replyOf (abfReply (headerOf (b .profile)) code new (boardOf (b .profile .kind) .abfPlaced))) b
 
--- ---- 0x60: the words that count, in the battery board's layout, and NEW as on 0x50
+-- ---- 0x60: the words that count, in the battery board's layout, and NEW by the memory that 0x50, which no board has
+-- beside it, goes by
 unfoldable pub batteryHousekeepingOf : ℕ → Board → Commanded
 batteryHousekeepingOf code b =
     acceptedWith
     (replyOf (batteryReply (headerOf (b .profile)) code (newWhere (b .measured .fresh .raw)) (wordsOf b)))
     (withMeasured (seen (b .measured)) b)
 
--- ---- 0x62: the same layout, each measured word in the way of its field, and NEW as on 0x52
+-- ---- 0x62: the same layout, each measured word in the way of its field, and NEW by the memory that 0x52, which no
+-- board has beside it, goes by
 unfoldable pub engineeringBatteryHousekeepingOf : ℕ → Board → Commanded
 engineeringBatteryHousekeepingOf code b =
     acceptedWith

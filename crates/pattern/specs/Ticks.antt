@@ -24,7 +24,7 @@ kindOf run turn = cond (ltb turn waking) 112 (cond (eqb run 109) (mixedOf (turn 
 abbrev pub namedOf : ℕ → ℕ → ℕ
 namedOf kind r = cond (eqb kind 99) (r * 65537) 0
 
--- a transfer to this board: the head with a code, and what is behind it
+-- a transfer to the distribution board: the head with a code, and what is behind it
 abbrev to : ℕ → List ℕ → List ℕ
 to code behind = boardOf Distribution .stid ∷ 0x07 ∷ code ∷ 0x01 ∷ behind
 
@@ -67,7 +67,7 @@ unfoldable pub numbersFrom : ℕ → ℕ → List ℕ
 numbersFrom i zero = []
 numbersFrom i (suc n) = i ∷ numbersFrom (i + 1) n
 
--- how many words the board has
+-- how many words the distribution board has
 abbrev pub wordCount : ℕ
 wordCount = boardOf Distribution .words
 

@@ -1,7 +1,8 @@
 -- The measured fields of 0x50 and of 0x52 (ICD pages 47 to 53), raw on the one and engineering on the other: the same
 -- names in the same order, each word with the row of Table 3-12 by which it is converted. The channel words, which
 -- stand behind VIP_INPUT, are not measured. `VIP-VD d` is VIP_VDd and `VIP-CH c` VIP_CHc; `xs ++ ys` is xs and then ys.
--- Assumes nothing: these are definitions.
+-- The names of the battery board's fields stand here too; `Packs` has their order. Names are for the reader: what
+-- counts is the order and the row. Assumes nothing: these are definitions.
 use Prim.Native.Nat.{ℕ, zero, suc}
 use mathlib.Core.List.{List, [], _∷_, _++_}
 use lib.ListN.{getD}

@@ -1,7 +1,9 @@
 -- The measured fields of 0x60 and of 0x62 (ICD pages 55 to 58; page 57's offset 12 of TEMP_MCU is a slip for 8), raw on
 -- the one and engineering on the other: the same names in the same order, each word with the way in which 0x62 tells
 -- it. A pack is a BPD (Tables 3-16 and 3-17): of pack BPp `VIP-BP-INPUT p` is the VIPD, `STAT-BP p` the status,
--- `VOLT-CELL p n` VOLT_CELLn and `BAT-TEMP p n` BAT_TEMPn. `xs ++ ys` is xs and then ys. Assumes nothing: these are
+-- `VOLT-CELL p n` VOLT_CELLn and `BAT-TEMP p n` BAT_TEMPn. TEMP_MCU goes by the row of the PDU, as Table 3-12 has none
+-- for the PBU, and VIP_BP_INPUT by the rows of VIP_INPUT. STAT_BU and STAT_BP, whose bits Table 3-18 names, are
+-- measured words; STAT_BU is not made of the others. `xs ++ ys` is xs and then ys. Assumes nothing: these are
 -- definitions.
 use Prim.Native.Nat.{ℕ}
 use mathlib.Core.List.{List, [], _∷_, _++_, map}

@@ -1,5 +1,6 @@
 -- Two kinds of reading: a raw one is a word as it was measured, an engineering one a whole number of its field's unit.
--- Here are the words that either has on the wire, and the raw readings that words are from the moment they come in.
+-- From raw to engineering lead Table 3-12 and, for the temperature of a pack, Table 3-13; a status word goes out as it
+-- is. Here are the words that either has on the wire, and the raw readings that words are from the moment they come in.
 -- `record { 0 = x }` is a reading of x, and `r .0` what r is a reading of. Assumes nothing: these are definitions.
 use Prim.Native.Nat.{ℕ}
 use mathlib.Core.List.{List, _++_, map}

@@ -27,12 +27,12 @@ minus n = negℤ (pos n)
 
 abbrev pub lineOf : Row → Line
 lineOf VoltBrdsup = Bias pos 0 PreMul 1000 PosDiv 819 Unit millivolt
-lineOf PduTemp = Bias minus 1168 PreMul 220 PosDiv 9 Unit hundredth-of-a-degree
+lineOf PduTemp = Bias minus 1168 PreMul 220 PosDiv 9 Unit hundredth-of-a-degree  -- of a battery board too
 lineOf PiuTemp = Bias minus 868 PreMul 26400 PosDiv 819 Unit hundredth-of-a-degree
 lineOf VipVolt = Bias pos 0 PreMul 125 PosDiv 128 Unit millivolt
-lineOf VipCurr = Bias pos 0 PreMul 3125 PosDiv 10240 Unit milliampere  -- of VIP_INPUT, VIP_OUTPUT and VIP_VDx
+lineOf VipCurr = Bias pos 0 PreMul 3125 PosDiv 10240 Unit milliampere  -- of VIP_INPUT, VIP_OUTPUT and VIP_VDx; of a battery board VIP_BP_INPUT too
 lineOf ChannelCurr = Bias pos 0 PreMul 3125 PosDiv 20480 Unit milliampere  -- of VIP_CH
-lineOf VipPowe = Bias pos 0 PreMul 3125 PosDiv 3200 Unit hundredth-of-a-watt  -- of VIP_INPUT, VIP_OUTPUT and VIP_VDx
+lineOf VipPowe = Bias pos 0 PreMul 3125 PosDiv 3200 Unit hundredth-of-a-watt  -- of the same
 lineOf ChannelPowe = Bias pos 0 PreMul 3125 PosDiv 6400 Unit hundredth-of-a-watt  -- of VIP_CH
 lineOf VoltCell = Bias minus 512 PreMul 3 PosDiv 2 Unit millivolt
 lineOf BatTemp1 = Bias minus 1969 PreMul 75 PosDiv 4 Unit hundredth-of-a-degree

@@ -14,8 +14,8 @@ use Rattle.laws.proofs.Cases.{cases, both}
 use Rattle.laws.proofs.Lists.{lt-or-le}
 use Rattle.kinds.specs.Kinds.{boardOf, isServed}
 use Rattle.value.specs.declared.ValueType.{ValueType}
-use Rattle.settings.specs.Table.{Range, Entry, readWrite, readOnly, missing, rowOf, parameterIn, parameterOf, lowEnd, highEnd, lowOf, highOf, insideOf}
-use Rattle.settings.specs.Values.{settingOf, inRangeOf}
+use Rattle.settings.specs.Table.{Range, Entry, readWrite, readOnly, missing, rowOf, find, lies, readWriteRows, readOnlyRows, column, parameterIn, parameterOf, lowEnd, highEnd, lowOf, highOf, insideOf, atLeast, atMost, clampOf, defaultOf}
+use Rattle.settings.specs.Values.{settingOf, inRangeOf, defaultN, defaultsOf}
 use Rattle.settings.specs.declared.Parameter.{Parameter}
 use Rattle.settings.proofs.Laws.{in-range-each, each-in-range}
 use Rattle.channels.specs.Sets.{has, allBelow, isWithin}
@@ -179,9 +179,11 @@ read-form s w i e =
 
 -- ---- the distribution board is document 01's
 pub base-board : BaseBoard
-base-board = record { stid = refl; last-bid = refl; words = refl; places = refl; base-list = refl; enable-bits = refl; enable-key = refl; started = refl }
+unfolding defaultsOf defaultN defaultOf clampOf atMost atLeast lowOf highOf rowOf find lies readWriteRows readOnlyRows column
+base-board = record { stid = refl; last-bid = refl; words = refl; places = refl; base-list = refl; enable-bits = refl; enable-key = refl; defaults = refl; started = refl }
 
 pub battery-board : BatteryBoard
+unfolding defaultsOf defaultN defaultOf clampOf atMost atLeast lowOf highOf rowOf find lies readWriteRows readOnlyRows column
 battery-board =
     record {
       stid = λ _. refl;
@@ -189,8 +191,7 @@ battery-board =
       words = λ _. refl;
       places = λ _. refl;
       codes = λ _. refl;
-      enable-bits = λ _. refl;
-      enable-key = λ _. refl;
+      defaults = λ _. refl;
       started = λ _. refl;
       abf-placed = λ _. refl;
     }

@@ -55,6 +55,6 @@ abfByte placed = cond placed 0xAB 0x00
 unfoldable pub abfReply : Header → ℕ → ℕ → Bool → List ℕ
 abfReply board code stat placed = laidOut (head board code stat ++ reserved ++ (1 bytes abfByte placed) ∷ (1 bytes abfByte placed) ∷ [])
 
--- 0x60 and 0x62 (pages 55 to 58): the measured words
+-- 0x60 and 0x62 (pages 55 to 58; page 57 has 12 for the 8 of TEMP_MCU, and CC for RC): the measured words
 unfoldable pub batteryReply : Header → ℕ → ℕ → List ℕ → List ℕ
 batteryReply board code stat words = laidOut (head board code stat ++ reserved ++ wordFields words)

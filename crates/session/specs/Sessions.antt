@@ -29,7 +29,7 @@ unfoldable pub linesFrom : ℕ → Machine → List Tick → List ℕ
 linesFrom n m [] = []
 linesFrom n m (t ∷ ts) = lineOf n (tickOn m t) ++ linesFrom (n + 1) (tickOn m t .machine) ts
 
--- nothing is stored
+-- a sheet's board is a distribution board, and nothing is stored
 abbrev pub profileIn : Top → Profile
 profileIn top = distributionBoard (top .bid) (top .fitted) (top .forced)
 

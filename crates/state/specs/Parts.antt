@@ -1,5 +1,6 @@
--- A profile of a distribution board and of a battery board; and a board with one part changed and all others as they
--- were, which there is no shorter way to write. Assumes nothing: these are definitions.
+-- A profile of a distribution board and of a battery board; the measured words of a board as its replies tell them; and
+-- a board with one part changed and all others as they were, which there is no shorter way to write. Assumes nothing:
+-- these are definitions.
 use Prim.Native.Nat.{ℕ}
 use mathlib.Core.Bool.{Bool}
 use mathlib.Core.List.{List}

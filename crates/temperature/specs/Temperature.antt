@@ -1,7 +1,7 @@
 -- The temperature of a battery pack at a raw code, in hundredths of a degree: the fifth-degree line of Table 3-13 (ICD
--- page 23) to the nearest whole number, halves away from zero, held to the ends of int16. `pos n` is the integer n, and
--- an underscore in a number only parts its digits. Assumes nothing: these are definitions.
-use Prim.Native.Nat.{ℕ, _^_, min}
+-- page 23) to the nearest whole number, halves away from zero, held to the ends of int16. `pos n` is the integer n.
+-- Assumes nothing: these are definitions.
+use Prim.Native.Nat.{ℕ, _*_, _^_, min}
 use mathlib.Core.List.{List, [], _∷_}
 use lib.IntN.{ℤ, pos, negℤ, _+ℤ_, _*ℤ_}
 use lib.ListN.{length}
@@ -16,11 +16,11 @@ minus n = negℤ (pos n)
 unfoldable pub coefficients : List ℤ
 coefficients =
     minus 27639336690
-    ∷ pos 21730661079_0000
-    ∷ minus 68793650476_0000000
-    ∷ pos 10990992164_00000000000
-    ∷ minus 92772286526_0000000000000
-    ∷ pos 37552963972_0000000000000000
+    ∷ pos (21730661079 * 10 ^ 4)
+    ∷ minus (68793650476 * 10 ^ 7)
+    ∷ pos (10990992164 * 10 ^ 11)
+    ∷ minus (92772286526 * 10 ^ 13)
+    ∷ pos (37552963972 * 10 ^ 16)
     ∷ []
 
 -- each coefficient times that power of x which is as high as there are coefficients behind it
