@@ -16,7 +16,7 @@ use Rattle.handling.specs.{declared.Bench.Bench, declared.Ran.Ran}
 
 -- nothing was started, and no words were lent
 unfoldable pub emptyBench : Bench
-emptyBench = record { machine = noMachine; lent = replicate 256 0; «lent_count» = 0; started = false }
+emptyBench = record { machine = noMachine; lent = replicate 512 0; «lent_count» = 0; started = false }
 
 -- a bench and a page
 pub data Shown : Type 0 where

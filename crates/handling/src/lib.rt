@@ -17,7 +17,7 @@ use unit::Machine;
 // A machine on the bench, once one was started, and the words for its next tick.
 pub struct Bench {
     pub machine: Machine,
-    pub lent: [u16; 256],
+    pub lent: [u16; 512],
     pub lent_count: usize,
     pub started: bool,
 }
@@ -34,7 +34,7 @@ pub fn none() -> Bench
 {
     Bench {
         machine: unit::unstarted(),
-        lent: [0u16; 256],
+        lent: [0u16; 512],
         lent_count: 0,
         started: false,
     }
@@ -66,7 +66,7 @@ pub fn started(mut bench: Bench, start: Start, image: &[u8], out: &mut [u8]) -> 
 
 // The bench with words for its next tick.
 pub fn lent(mut bench: Bench, bytes: &[u8], count: usize, out: &mut [u8]) -> Ran
-    ensures { λ r. ⌜ left r (now (out .exit)) ≡ printed (now (out .entry)) (withLent (wordsOf 256 (now (bytes .entry))) count bench) okText ⌝ }
+    ensures { λ r. ⌜ left r (now (out .exit)) ≡ printed (now (out .entry)) (withLent (wordsOf 512 (now (bytes .entry))) count bench) okText ⌝ }
 {
     let ws = lent_words(bytes);
     bench.lent = ws;

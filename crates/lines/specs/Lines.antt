@@ -94,7 +94,7 @@ boardFrom (Which.Board kind) profile = profileOf kind profile
 unfoldable pub boardIn : List ℕ → Named
 boardIn line = boardFrom (kindIn line) (drop 3 line)
 
--- ---- W COUNT WORDS: at most 256 words of two bytes
+-- ---- W COUNT WORDS: at most 512 words of two bytes
 
 abbrev pub lendFrom : Field → Count → Asked
 lendFrom Field.Bad string = Asked.Bad
@@ -102,7 +102,7 @@ lendFrom (Field.Number n) Count.Bad = Asked.Bad
 lendFrom (Field.Number n) (Count.Bytes bytes) = cond (eqb bytes (2 * n)) (Asked.Lend n) Asked.Bad
 
 unfoldable pub lendIn : List ℕ → Count → Asked
-lendIn line string = cond (spaceAt 6 line) (lendFrom (sizeOf 256 line) string) Asked.Bad
+lendIn line string = cond (spaceAt 6 line) (lendFrom (sizeOf 512 line) string) Asked.Bad
 
 -- ---- T rrrr oooooooo CMD
 

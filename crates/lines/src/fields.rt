@@ -177,12 +177,12 @@ fn lend_from(size: Field, string: Count) -> Asked
     Asked::Lend { count }
 }
 
-// At most 256 words for the next tick.
+// At most 512 words for the next tick.
 pub fn lend(line: &[u8], end: Tail) -> Asked
     ensures { λ r. ⌜ r ≡ lendIn (now (line .entry)) (stringLength end) ⌝ }
 {
     if is_at(line, 6, 32) {
-        return lend_from(size(line, 256), string_length(end));
+        return lend_from(size(line, 512), string_length(end));
     }
     Asked::Bad
 }
