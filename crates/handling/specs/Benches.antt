@@ -4,9 +4,10 @@ use Prim.Native.Nat.{ℕ}
 use mathlib.Core.{Bool.false, List.List}
 use lib.ListN.{length, replicate}
 use Rattle.reading.specs.Lines.{lineHeld}
-use Rattle.state.specs.{Parts.distributionBoard, declared.parts.Profile.Profile}
+use Rattle.state.specs.declared.parts.Profile.{Profile}
 use Rattle.unit.specs.{Machine.noMachine, Machine.heardOf}
 use Rattle.unit.specs.{declared.Begun.Begun, declared.Told.Told, declared.Heard.Heard}
+use Rattle.lines.specs.declared.Start.{Start}
 use Rattle.script.specs.Printing.{Page, page, typed}
 use Rattle.showing.specs.Showing.{tickedLine}
 use Rattle.looking.specs.Looking.{answerLine}
@@ -15,7 +16,7 @@ use Rattle.handling.specs.{declared.Bench.Bench, declared.Ran.Ran}
 
 -- nothing was started, and no words were lent
 unfoldable pub emptyBench : Bench
-emptyBench = record { machine = noMachine; lent = replicate 256 0; «lent_count» = 0; started = false }
+emptyBench = record { machine = noMachine; lent = replicate 512 0; «lent_count» = 0; started = false }
 
 -- a bench and a page
 pub data Shown : Type 0 where
@@ -31,8 +32,9 @@ printed held b text = shown b (typed (page held 0) text)
 
 -- ---- starting
 
-abbrev pub profileOf : ℕ → ℕ → ℕ → Profile
-profileOf bid fitted forced = distributionBoard bid fitted forced
+-- what a board is started as: the first three numbers of its line, and its kind
+abbrev pub profileOf : Start → Profile
+profileOf start = record { fitted = start .fitted; forced = start .forced; bid = start .bid; kind = start .kind }
 
 unfoldable pub startedOf : List ℕ → Bench → Begun → Shown
 startedOf held bench s =

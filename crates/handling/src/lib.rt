@@ -7,15 +7,17 @@ ghost use Rattle.script.specs.Reading.{wordsOf};
 ghost use Rattle.speaking.specs.Speaking.{blank};
 ghost use Rattle.starting.specs.Starts.{okText, storeOf};
 ghost use Rattle.handling.specs.Benches.{emptyBench, left, printed, startedOf, withLent, tickedOf, receivedOf, profileOf};
+use lines::Start;
 use script::printing::text;
 use script::reading::lent_part;
 use script::reading::lent_words;
+use state::Profile;
 use unit::Machine;
 
 // A machine on the bench, once one was started, and the words for its next tick.
 pub struct Bench {
     pub machine: Machine,
-    pub lent: [u16; 256],
+    pub lent: [u16; 512],
     pub lent_count: usize,
     pub started: bool,
 }
@@ -32,27 +34,24 @@ pub fn none() -> Bench
 {
     Bench {
         machine: unit::unstarted(),
-        lent: [0u16; 256],
+        lent: [0u16; 512],
         lent_count: 0,
         started: false,
     }
 }
 
 // Starts a machine, if its profile and its stored settings keep the rules.
-pub fn started(
-    mut bench: Bench,
-    bid: u8,
-    fitted: u32,
-    forced: u32,
-    stored: bool,
-    save_count: u16,
-    image: &[u8],
-    out: &mut [u8],
-) -> Ran
-    ensures { λ r. ⌜ left r (now (out .exit)) ≡ startedOf (now (out .entry)) bench (begunOf (bench .machine) (profileOf bid fitted forced) (storeOf stored (now (image .entry)) «save_count»)) ⌝ }
+pub fn started(mut bench: Bench, start: Start, image: &[u8], out: &mut [u8]) -> Ran
+    ensures { λ r. ⌜ left r (now (out .exit)) ≡ startedOf (now (out .entry)) bench (begunOf (bench .machine) (profileOf start) (storeOf (start .stored) (now (image .entry)) (start .«save_count»))) ⌝ }
 {
-    let profile = state::distribution(bid, fitted, forced);
-    let store = starting::store_of(stored, image, save_count);
+    let kind = start.kind;
+    let profile = Profile {
+        fitted: start.fitted,
+        forced: start.forced,
+        bid: start.bid,
+        kind,
+    };
+    let store = starting::store_of(start.stored, image, start.save_count);
     let s = unit::start(bench.machine, profile, store);
     let next = s.machine;
     let answer = s.answer;
@@ -67,7 +66,7 @@ pub fn started(
 
 // The bench with words for its next tick.
 pub fn lent(mut bench: Bench, bytes: &[u8], count: usize, out: &mut [u8]) -> Ran
-    ensures { λ r. ⌜ left r (now (out .exit)) ≡ printed (now (out .entry)) (withLent (wordsOf 256 (now (bytes .entry))) count bench) okText ⌝ }
+    ensures { λ r. ⌜ left r (now (out .exit)) ≡ printed (now (out .entry)) (withLent (wordsOf 512 (now (bytes .entry))) count bench) okText ⌝ }
 {
     let ws = lent_words(bytes);
     bench.lent = ws;

@@ -6,7 +6,9 @@ use mathlib.Core.{Bool.Bool, Bool.true, Bool.false, Bool.cond, Bool._&&_, List.L
 use lib.{Dec.eqb, Dec.leb, ListN.getD, ListN.drop}
 use Rattle.script.specs.{Reading.fieldOf, Reading.sound, declared.reading.Field.Field, declared.reading.Count.Count}
 use Rattle.lines.specs.{Tails.tailOf, Tails.stringLength, Tails.sentBy, declared.tails.Tail.Tail, declared.tails.Sent.Sent}
-use Rattle.lines.specs.{declared.fields.Named.Named, declared.Asked.Asked, declared.Look.Look}
+use Rattle.kinds.specs.{Kinds.boardOf, declared.Kind.Kind}
+use Rattle.kinds.specs.declared.Kind.the-variants.{Distribution, Battery}
+use Rattle.lines.specs.{declared.boards.Which.Which, declared.fields.Named.Named, declared.Asked.Asked, declared.Look.Look}
 
 -- ---- fields
 
@@ -30,34 +32,69 @@ limited most Field.Bad = Field.Bad
 unfoldable pub sizeOf : ℕ → List ℕ → Field
 sizeOf most line = cond (spaceAt 1 line) (limited most (numberAt 2 4 line)) Field.Bad
 
--- ---- B bb ffffffff gggggggg
+-- ---- B bb ffffffff gggggggg: a distribution board
 
-abbrev pub profileFrom : Field → Field → Field → Named
-profileFrom Field.Bad second third = Named.Bad
-profileFrom (Field.Number bid) Field.Bad third = Named.Bad
-profileFrom (Field.Number bid) (Field.Number fitted) Field.Bad = Named.Bad
-profileFrom (Field.Number bid) (Field.Number fitted) (Field.Number forced) = Named.Profile (bid % 256) fitted forced
+abbrev pub profileFrom : Kind → Field → Field → Field → Named
+profileFrom kind Field.Bad second third = Named.Bad
+profileFrom kind (Field.Number bid) Field.Bad third = Named.Bad
+profileFrom kind (Field.Number bid) (Field.Number fitted) Field.Bad = Named.Bad
+profileFrom kind (Field.Number bid) (Field.Number fitted) (Field.Number forced) = Named.Profile (bid % 256) fitted forced kind
 
-unfoldable pub profileOf : List ℕ → Named
-profileOf line = cond (separated 1 4 13 line) (profileFrom (numberAt 2 2 line) (numberAt 5 8 line) (numberAt 14 8 line)) Named.Bad
+unfoldable pub profileOf : Kind → List ℕ → Named
+profileOf kind line = cond (separated 1 4 13 line) (profileFrom kind (numberAt 2 2 line) (numberAt 5 8 line) (numberAt 14 8 line)) Named.Bad
 
 abbrev pub startFrom : Named → Asked
 startFrom Named.Bad = Asked.Bad
-startFrom (Named.Profile bid fitted forced) = Asked.Start bid fitted forced false 0
+startFrom (Named.Profile bid fitted forced kind) =
+    Asked.Start (record { bid = bid; fitted = fitted; forced = forced; stored = false; «save_count» = 0; kind = kind })
 
--- ---- P bb ffffffff gggggggg cccc STORED: 268 bytes
+-- ---- P bb ffffffff gggggggg cccc STORED: the same, and behind it a save count and 268 bytes
 
 abbrev pub storedFrom : Named → Field → Asked
 storedFrom Named.Bad count = Asked.Bad
-storedFrom (Named.Profile bid fitted forced) Field.Bad = Asked.Bad
-storedFrom (Named.Profile bid fitted forced) (Field.Number n) = Asked.Start bid fitted forced true (n % 65536)
+storedFrom (Named.Profile bid fitted forced kind) Field.Bad = Asked.Bad
+storedFrom (Named.Profile bid fitted forced kind) (Field.Number n) =
+    Asked.Start (record { bid = bid; fitted = fitted; forced = forced; stored = true; «save_count» = n % 65536; kind = kind })
 
-abbrev pub storedIn : List ℕ → Count → Asked
-storedIn line Count.Bad = Asked.Bad
-storedIn line (Count.Bytes n) =
-    cond (eqb n 268) (cond (separated 22 27 27 line) (storedFrom (profileOf line) (numberAt 23 4 line)) Asked.Bad) Asked.Bad
+abbrev pub storedIn : Named → List ℕ → Count → Asked
+storedIn profile behind Count.Bad = Asked.Bad
+storedIn profile behind (Count.Bytes n) =
+    cond (eqb n 268) (cond (separated 0 5 5 behind) (storedFrom profile (numberAt 1 4 behind)) Asked.Bad) Asked.Bad
 
--- ---- W COUNT WORDS: at most 256 words of two bytes
+-- ---- Q ss bb ffffffff gggggggg o f: STID, BID, fitted set, forced set, option digit, form; and the same with stored
+-- settings, V ss bb ffffffff gggggggg o f cccc STORED
+
+-- bit 0 of the option digit: the ABF is placed
+abbrev pub abfIn : ℕ → Bool
+abfIn option = eqb (option % 2) 1
+
+-- the board of an STID, where there is one; an option that the board does not have is ignored
+abbrev pub kindOf : ℕ → ℕ → Which
+kindOf stid option =
+    cond (eqb stid (boardOf Distribution .stid)) (Which.Board Distribution)
+    (cond (eqb stid (boardOf (Battery (abfIn option)) .stid)) (Which.Board (Battery (abfIn option))) Which.Bad)
+
+abbrev pub kindFrom : Field → Field → Which
+kindFrom Field.Bad option = Which.Bad
+kindFrom (Field.Number stid) Field.Bad = Which.Bad
+kindFrom (Field.Number stid) (Field.Number option) = kindOf stid option
+
+-- the option digit is `0` to `3`; the form is `R` (82), which names raw, and no other yet
+unfoldable pub kindIn : List ℕ → Which
+kindIn line =
+    cond (separated 1 25 27 line)
+    (cond (eqb (getD line 28 0) 82) (kindFrom (numberAt 2 2 line) (limited 3 (numberAt 26 1 line))) Which.Bad)
+    Which.Bad
+
+-- BID, fitted set and forced set stand behind the STID as they stand behind the letter of a B line
+abbrev pub boardFrom : Which → List ℕ → Named
+boardFrom Which.Bad profile = Named.Bad
+boardFrom (Which.Board kind) profile = profileOf kind profile
+
+unfoldable pub boardIn : List ℕ → Named
+boardIn line = boardFrom (kindIn line) (drop 3 line)
+
+-- ---- W COUNT WORDS: at most 512 words of two bytes
 
 abbrev pub lendFrom : Field → Count → Asked
 lendFrom Field.Bad string = Asked.Bad
@@ -65,7 +102,7 @@ lendFrom (Field.Number n) Count.Bad = Asked.Bad
 lendFrom (Field.Number n) (Count.Bytes bytes) = cond (eqb bytes (2 * n)) (Asked.Lend n) Asked.Bad
 
 unfoldable pub lendIn : List ℕ → Count → Asked
-lendIn line string = cond (spaceAt 6 line) (lendFrom (sizeOf 256 line) string) Asked.Bad
+lendIn line string = cond (spaceAt 6 line) (lendFrom (sizeOf 512 line) string) Asked.Bad
 
 -- ---- T rrrr oooooooo CMD
 
@@ -109,17 +146,19 @@ bare asked Tail.Dot = Asked.Bad
 bare asked (Tail.Bytes n) = Asked.Bad
 bare asked Tail.Bad = Asked.Bad
 
--- B, P, W, T, R, L, F, S
+-- B, P, W, T, R, L, F, S, Q, V
 unfoldable pub lineBy : ℕ → List ℕ → Tail → Asked
 lineBy letter line end =
-    cond (eqb letter 66) (bare (startFrom (profileOf line)) end)
-    (cond (eqb letter 80) (storedIn line (stringLength end))
+    cond (eqb letter 66) (bare (startFrom (profileOf Distribution line)) end)
+    (cond (eqb letter 80) (storedIn (profileOf Distribution line) (drop 22 line) (stringLength end))
     (cond (eqb letter 87) (lendIn line (stringLength end))
     (cond (eqb letter 84) (tickIn line (sentBy end))
     (cond (eqb letter 82) (bare (readFrom (sizeOf 512 line)) end)
     (cond (eqb letter 76) (receiveIn line (stringLength end))
     (cond (eqb letter 70) (bare (frameFrom (sizeOf 1024 line)) end)
-    (cond (eqb letter 83) (bare (Asked.Look Look.Show) end) Asked.Bad)))))))
+    (cond (eqb letter 83) (bare (Asked.Look Look.Show) end)
+    (cond (eqb letter 81) (bare (startFrom (boardIn line)) end)
+    (cond (eqb letter 86) (storedIn (boardIn line) (drop 29 line) (stringLength end)) Asked.Bad)))))))))
 
 -- how wide the letter and the fields are
 unfoldable pub widthOf : ℕ → ℕ
@@ -131,7 +170,9 @@ widthOf letter =
     (cond (eqb letter 82) 6
     (cond (eqb letter 76) 7
     (cond (eqb letter 70) 6
-    (cond (eqb letter 83) 1 0)))))))
+    (cond (eqb letter 83) 1
+    (cond (eqb letter 81) 29
+    (cond (eqb letter 86) 35 0)))))))))
 
 -- what stands behind them
 unfoldable pub behindFields : List ℕ → List ℕ

@@ -3,17 +3,19 @@ ghost use mathlib.Core.Path.{_≡_};
 ghost use Rattle.lines.specs.Tails.{stringLength, sentBy};
 ghost use Rattle.lines.specs.Lines.{separated, limited, sizeOf, profileFrom, profileOf, startFrom, storedFrom, storedIn, lendFrom, lendIn, tickFrom, tickIn, receiveFrom, receiveIn};
 use crate::Asked;
+use crate::Start;
 use crate::tails::Sent;
 use crate::tails::Tail;
 use crate::tails::sent_by;
 use crate::tails::string_length;
+use kinds::Kind;
 use script::reading::Count;
 use script::reading::Field;
 use script::reading::is_at;
 use script::reading::number;
 
 // Whether spaces stand at three places.
-fn separated(line: &[u8], first: usize, second: usize, third: usize) -> bool
+pub fn separated(line: &[u8], first: usize, second: usize, third: usize) -> bool
     ensures { λ r. ⌜ r ≡ separated first second third (now (line .entry)) ⌝ }
 {
     if is_at(line, first, 32) {
@@ -26,7 +28,7 @@ fn separated(line: &[u8], first: usize, second: usize, third: usize) -> bool
 }
 
 // A number up to a limit.
-fn limited(field: Field, most: u32) -> Field
+pub fn limited(field: Field, most: u32) -> Field
     ensures { λ r. ⌜ r ≡ limited most field ⌝ }
 {
     let Field::Number(n) = field else {
@@ -49,15 +51,20 @@ pub fn size(line: &[u8], most: u32) -> Field
     Field::Bad
 }
 
-// BID, fitted set and forced set of a line that starts a board.
+// BID, fitted set, forced set and kind of the board that a line starts.
 pub enum Named {
-    Profile { bid: u8, fitted: u32, forced: u32 },
+    Profile {
+        bid: u8,
+        fitted: u32,
+        forced: u32,
+        kind: Kind,
+    },
     Bad,
 }
 
-// A profile from its three numbers.
-fn profile_from(first: Field, second: Field, third: Field) -> Named
-    ensures { λ r. ⌜ r ≡ profileFrom first second third ⌝ }
+// A profile of a kind of board from its three numbers.
+fn profile_from(kind: Kind, first: Field, second: Field, third: Field) -> Named
+    ensures { λ r. ⌜ r ≡ profileFrom kind first second third ⌝ }
 {
     let Field::Number(bid) = first else {
         return Named::Bad;
@@ -72,38 +79,41 @@ fn profile_from(first: Field, second: Field, third: Field) -> Named
         bid: (bid % 256) as u8,
         fitted,
         forced,
+        kind,
     }
 }
 
-// The profile of a line that starts a board.
-fn profile_of(line: &[u8]) -> Named
-    ensures { λ r. ⌜ r ≡ profileOf (now (line .entry)) ⌝ }
+// The profile of a line that starts a board of a kind.
+pub fn profile_of(kind: Kind, line: &[u8]) -> Named
+    ensures { λ r. ⌜ r ≡ profileOf kind (now (line .entry)) ⌝ }
 {
     if separated(line, 1, 4, 13) {
         let bid = number(line, 2, 2);
         let fitted = number(line, 5, 8);
         let forced = number(line, 14, 8);
-        return profile_from(bid, fitted, forced);
+        return profile_from(kind, bid, fitted, forced);
     }
     Named::Bad
 }
 
 // A start with nothing stored.
-pub fn start(line: &[u8]) -> Asked
-    ensures { λ r. ⌜ r ≡ startFrom (profileOf (now (line .entry))) ⌝ }
+pub fn start(profile: Named) -> Asked
+    ensures { λ r. ⌜ r ≡ startFrom profile ⌝ }
 {
-    match profile_of(line) {
+    match profile {
         Named::Profile {
             bid,
             fitted,
             forced,
-        } => Asked::Start {
+            kind,
+        } => Asked::Start(Start {
             bid,
             fitted,
             forced,
             stored: false,
             save_count: 0,
-        },
+            kind,
+        }),
         Named::Bad => Asked::Bad,
     }
 }
@@ -116,6 +126,7 @@ fn stored_from(profile: Named, count: Field) -> Asked
         bid,
         fitted,
         forced,
+        kind,
     } = profile
     else {
         return Asked::Bad;
@@ -123,18 +134,19 @@ fn stored_from(profile: Named, count: Field) -> Asked
     let Field::Number(n) = count else {
         return Asked::Bad;
     };
-    Asked::Start {
+    Asked::Start(Start {
         bid,
         fitted,
         forced,
         stored: true,
         save_count: (n % 65536) as u16,
-    }
+        kind,
+    })
 }
 
-// A start with stored settings: the fields of a start, the save count, and 268 bytes.
-pub fn stored_start(line: &[u8], end: Tail) -> Asked
-    ensures { λ r. ⌜ r ≡ storedIn (now (line .entry)) (stringLength end) ⌝ }
+// A start with stored settings: behind the fields of a start the save count, and 268 bytes.
+pub fn stored_start(profile: Named, behind: &[u8], end: Tail) -> Asked
+    ensures { λ r. ⌜ r ≡ storedIn profile (now (behind .entry)) (stringLength end) ⌝ }
 {
     let Count::Bytes(n) = string_length(end) else {
         return Asked::Bad;
@@ -142,9 +154,8 @@ pub fn stored_start(line: &[u8], end: Tail) -> Asked
     if n != 268 {
         return Asked::Bad;
     }
-    if separated(line, 22, 27, 27) {
-        let count = number(line, 23, 4);
-        return stored_from(profile_of(line), count);
+    if separated(behind, 0, 5, 5) {
+        return stored_from(profile, number(behind, 1, 4));
     }
     Asked::Bad
 }
@@ -166,12 +177,12 @@ fn lend_from(size: Field, string: Count) -> Asked
     Asked::Lend { count }
 }
 
-// At most 256 words for the next tick.
+// At most 512 words for the next tick.
 pub fn lend(line: &[u8], end: Tail) -> Asked
     ensures { λ r. ⌜ r ≡ lendIn (now (line .entry)) (stringLength end) ⌝ }
 {
     if is_at(line, 6, 32) {
-        return lend_from(size(line, 256), string_length(end));
+        return lend_from(size(line, 512), string_length(end));
     }
     Asked::Bad
 }

@@ -1,5 +1,6 @@
 // What a line of a replay script asks for: its letter, the fields of fixed width behind it, and its tail. No board is
 // looked at here.
+mod boards;
 mod fields;
 mod tails;
 
@@ -7,26 +8,34 @@ ghost use mathlib.Core.Path.{_≡_};
 ghost use lib.ListN.{length};
 ghost use lib.Seq.{sets};
 ghost use Rattle.lines.specs.Lines.{sizeOf, readFrom, frameFrom, bare, lineBy, widthOf, askedOf, speltBy};
+use boards::board_in;
 use fields::lend;
+use fields::profile_of;
 use fields::receive;
 use fields::size;
 use fields::start;
 use fields::stored_start;
 use fields::tick;
+use kinds::Kind;
 use script::reading::Field;
 use tails::Tail;
 use tails::tail_of;
 
+// What a start is given: BID, fitted set and forced set, whether settings are stored and under which save count, and
+// the kind of board.
+pub struct Start {
+    pub bid: u8,
+    pub fitted: u32,
+    pub forced: u32,
+    pub stored: bool,
+    pub save_count: u16,
+    pub kind: Kind,
+}
+
 // What a line asks for. The bytes of its byte string are at the front of the buffer that it was read into, `count` of
 // them; those of a start are the stored settings.
 pub enum Asked {
-    Start {
-        bid: u8,
-        fitted: u32,
-        forced: u32,
-        stored: bool,
-        save_count: u16,
-    },
+    Start(Start),
     Lend {
         count: usize,
     },
@@ -64,6 +73,8 @@ fn head(letter: u8) -> usize
         b'L' => 7,
         b'F' => 6,
         b'S' => 1,
+        b'Q' => 29,
+        b'V' => 35,
         _ => 0,
     }
 }
@@ -106,14 +117,20 @@ fn by_letter(letter: u8, line: &[u8], end: Tail) -> Asked
     ensures { λ r. ⌜ r ≡ lineBy letter (now (line .entry)) end ⌝ }
 {
     match letter {
-        b'B' => bare(start(line), end),
-        b'P' => stored_start(line, end),
+        b'B' => bare(start(profile_of(Kind::Distribution, line)), end),
+        b'P' => stored_start(
+            profile_of(Kind::Distribution, line),
+            wire::rest(line, 22),
+            end,
+        ),
         b'W' => lend(line, end),
         b'T' => tick(line, end),
         b'R' => bare(read(line), end),
         b'L' => receive(line, end),
         b'F' => bare(frame(line), end),
         b'S' => bare(Asked::Look(Look::Show), end),
+        b'Q' => bare(start(board_in(line)), end),
+        b'V' => stored_start(board_in(line), wire::rest(line, 29), end),
         _ => Asked::Bad,
     }
 }

@@ -80,13 +80,13 @@ pub fn pairs(text: &[u8], out: &mut [u8]) -> Count
 }
 
 // Words from pairs of bytes, the upper first.
-pub fn lent_words(bytes: &[u8]) -> [u16; 256]
-    ensures { λ r. ⌜ r ≡ wordsOf 256 (now (bytes .entry)) ⌝ }
+pub fn lent_words(bytes: &[u8]) -> [u16; 512]
+    ensures { λ r. ⌜ r ≡ wordsOf 512 (now (bytes .entry)) ⌝ }
 {
-    let mut ws = [0u16; 256];
-    let mut left = 256;
+    let mut ws = [0u16; 512];
+    let mut left = 512;
     while 0 < left {
-        let i = 256 - left;
+        let i = 512 - left;
         ws[i] = wire::byte(bytes, 2 * i) as u16 * 256 + wire::byte(bytes, 2 * i + 1) as u16;
         left -= 1;
     }

@@ -15,7 +15,7 @@ single-none κ a r r′ s s′ p q = p ∙ sym q
 pub single-started : Single started.Post (λ κ r s. r)
 single-started κ a r r′ s s′ p q = left-same r r′ (p ∙ sym q)
 
-pub held-started : Single started.Post (λ κ r s. now (s .1 .1 .1 .1 .1 .1 .1 .0))
+pub held-started : Single started.Post (λ κ r s. now (s .1 .1 .1 .0))
 held-started κ a r r′ s s′ p q = left-held r r′ (p ∙ sym q)
 
 pub single-lent : Single lent.Post (λ κ r s. r)

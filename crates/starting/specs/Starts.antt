@@ -10,7 +10,7 @@ use Rattle.lines.specs.declared.Asked.{Asked}
 -- before a machine was started only a start is of a form
 unfoldable pub allowedOf : Bool → Asked → Asked
 allowedOf true asked = asked
-allowedOf false (Asked.Start bid fitted forced stored count) = Asked.Start bid fitted forced stored count
+allowedOf false (Asked.Start start) = Asked.Start start
 allowedOf false (Asked.Lend count) = Asked.Bad
 allowedOf false (Asked.Tick rail overcurrent sent count) = Asked.Bad
 allowedOf false (Asked.Receive room count) = Asked.Bad

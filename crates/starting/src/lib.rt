@@ -15,13 +15,7 @@ pub fn allowed(started: bool, asked: Asked) -> Asked
         return asked;
     }
     match asked {
-        Asked::Start {
-            bid: _,
-            fitted: _,
-            forced: _,
-            stored: _,
-            save_count: _,
-        } => asked,
+        Asked::Start(_) => asked,
         Asked::Lend { count: _ } => Asked::Bad,
         Asked::Tick {
             rail: _,

@@ -19,9 +19,9 @@ badText = 98 ∷ 97 ∷ 100 ∷ 10 ∷ []
 
 -- what a line that asks for this does, with the bytes of its byte string, where its text goes into a buffer
 unfoldable pub ranOf : List ℕ → Bench → Asked → List ℕ → Shown
-ranOf held bench (Asked.Start bid fitted forced stored count) bytes =
-    startedOf held bench (begunOf (bench .machine) (profileOf bid fitted forced) (storeOf stored bytes count))
-ranOf held bench (Asked.Lend count) bytes = printed held (withLent (wordsOf 256 bytes) count bench) okText
+ranOf held bench (Asked.Start start) bytes =
+    startedOf held bench (begunOf (bench .machine) (profileOf start) (storeOf (start .stored) bytes (start .«save_count»)))
+ranOf held bench (Asked.Lend count) bytes = printed held (withLent (wordsOf 512 bytes) count bench) okText
 ranOf held bench (Asked.Tick rail overcurrent sent count) bytes =
     tickedOf held bench (toldOf (signed 2 rail) overcurrent (take (bench .«lent_count») (bench .lent)) sent (take count bytes) (bench .machine))
 ranOf held bench (Asked.Receive room count) bytes = receivedOf held bench (take count bytes) (take room blank)

@@ -13,13 +13,7 @@ pub fn run(bench: Bench, asked: Asked, held: &[u8], out: &mut [u8]) -> Ran
     ensures { λ r. ⌜ left r (now (out .exit)) ≡ ranOf (now (out .entry)) bench (allowedOf (bench .started) asked) (now (held .entry)) ⌝ }
 {
     match starting::allowed(bench.started, asked) {
-        Asked::Start {
-            bid,
-            fitted,
-            forced,
-            stored,
-            save_count,
-        } => handling::started(bench, bid, fitted, forced, stored, save_count, held, out),
+        Asked::Start(start) => handling::started(bench, start, held, out),
         Asked::Lend { count } => handling::lent(bench, held, count, out),
         Asked::Tick {
             rail,

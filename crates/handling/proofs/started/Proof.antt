@@ -4,9 +4,6 @@ use borrow.Author.Needs.{needs}
 use Rattle.handling.proofs.started.Statement.{statement}
 use Rattle.handling.proofs.started.Tie as tie
 
-distribution-requires : tie.Need-distribution-requires
-distribution-requires c κs = search needs
-
 store-of-requires : tie.Need-store-of-requires
 store-of-requires c κs = search needs
 
@@ -24,13 +21,12 @@ same-length c = search needs
 
 returns : tie.Need-returns
 unfolding startedOf
-returns c = rw (c .before .before .start-line .ensures, c .before .before .before .before .is-there .ensures, ← c .before .before .before .before .before .before .before .before .distribution .ensures, ← c .before .before .before .before .before .before .before .store-of .ensures, ← c .before .before .before .before .before .before .start .ensures .0)
+returns c = rw (c .before .before .start-line .ensures, c .before .before .before .before .is-there .ensures, ← c .before .before .before .before .before .before .before .store-of .ensures, ← c .before .before .before .before .before .before .start .ensures .0)
 
 pub started-spec : {M : Type 1} → statement M
 started-spec =
     tie.close
     (tie.spec
-    distribution-requires
     store-of-requires
     start-requires
     is-there-requires

@@ -8,8 +8,8 @@ use Rattle.trial.proofs.run.Tie as tie
 allowed-requires : tie.Need-allowed-requires
 allowed-requires c κs = search needs
 
-enum-known-bid : tie.Need-enum-known-bid
-enum-known-bid c = search needs
+enum-known-start : tie.Need-enum-known-start
+enum-known-start c = search needs
 
 started-requires : tie.Need-started-requires
 started-requires c κs = search needs
@@ -58,7 +58,7 @@ same-length c = search needs
 
 returns : tie.Need-returns
 unfolding ranOf
-returns c = rw (← c .before .before .before .before .before .before .before .allowed .ensures, c .before .before .before .before .before .bid .given .1, c .before .before .started .ensures)
+returns c = rw (← c .before .before .before .before .before .before .before .allowed .ensures, c .before .before .before .before .before .start .given .1, c .before .before .started .ensures)
 
 same-length-2 : tie.Need-same-length-2
 same-length-2 c = search needs
@@ -100,7 +100,7 @@ run-spec =
     tie.close
     (tie.spec
     allowed-requires
-    enum-known-bid
+    enum-known-start
     started-requires
     enum-known-count
     lent-requires

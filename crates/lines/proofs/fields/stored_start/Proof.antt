@@ -15,7 +15,7 @@ enum-told : tie.Need-enum-told
 enum-told c = search needs
 
 returns : tie.Need-returns
-returns c = rw (← c .before .before .string-length .ensures, c .enum-told .given .1)
+returns c = search needs
 
 returns-2 : tie.Need-returns-2
 returns-2 c = rw (← c .before .before .before .before .string-length .ensures, c .before .before .n .given .1, ne-eqb (c .before .before .n .given .0 .0) 268 (λ e. omega arith))
@@ -26,14 +26,11 @@ separated-requires c κs = search needs
 number-requires : tie.Need-number-requires
 number-requires c κs = search needs
 
-profile-of-requires : tie.Need-profile-of-requires
-profile-of-requires c κs = search needs
-
 stored-from-requires : tie.Need-stored-from-requires
 stored-from-requires c κs = search needs
 
 returns-3 : tie.Need-returns-3
-returns-3 c = rw (← c .before .before .before .before .before .before .before .before .before .string-length .ensures, c .before .before .before .before .before .before .before .n .given .1, eq-eqb (c .before .before .before .before .before .before .before .n .given .0 .0) 268 (omega arith), ← c .before .before .before .before .separated .ensures, c .before .before .before .if2 .taken, c .stored-from .ensures, c .before .profile-of .ensures, c .before .before .number .ensures)
+returns-3 c = rw (← c .before .before .before .before .before .before .before .before .string-length .ensures, c .before .before .before .before .before .before .n .given .1, eq-eqb (c .before .before .before .before .before .before .n .given .0 .0) 268 (omega arith), ← c .before .before .before .separated .ensures, c .before .before .if2 .taken, c .stored-from .ensures, c .before .number .ensures)
 
 returns-4 : tie.Need-returns-4
 returns-4 c = rw (← c .before .before .before .before .before .before .string-length .ensures, c .before .before .before .before .n .given .1, eq-eqb (c .before .before .before .before .n .given .0 .0) 268 (omega arith), ← c .before .separated .ensures, c .if2 .left)
@@ -49,7 +46,6 @@ stored-start-spec =
     returns-2
     separated-requires
     number-requires
-    profile-of-requires
     stored-from-requires
     returns-3
     returns-4)

@@ -13,13 +13,13 @@ use Rattle.script.proofs.reading.lent_words.Statement.{statement}
 use Rattle.script.proofs.reading.lent_words.Tie as tie
 
 abbrev Inv-loop : tie.InvT-loop
-Inv-loop bytes ws₀ left₀ ws left = (left ≤ 256) × (length ws ≡ 256) × (sets ws (256 - left) (wordsOf left (drop (2 * (256 - left)) bytes)) ≡ wordsOf 256 bytes)
+Inv-loop bytes ws₀ left₀ ws left = (left ≤ 512) × (length ws ≡ 512) × (sets ws (512 - left) (wordsOf left (drop (2 * (512 - left)) bytes)) ≡ wordsOf 512 bytes)
 
 abbrev μ-loop : tie.MeasureT-loop
 μ-loop bytes ws₀ left₀ ws left = left
 
 loop-holds : tie.Need-loop-holds Inv-loop μ-loop
-loop-holds c = (search needs, refl, covering _ (wordsOf 256 (c .before .args .bytes .now)) (words-length 256 (c .before .args .bytes .now)))
+loop-holds c = (search needs, refl, covering _ (wordsOf 512 (c .before .args .bytes .now)) (words-length 512 (c .before .args .bytes .now)))
 
 sub-i : tie.Need-sub-i Inv-loop μ-loop
 sub-i c = search needs
@@ -67,8 +67,8 @@ loop-again : tie.Need-loop-again Inv-loop μ-loop
 loop-again c =
     let l = c .before .before .before .loop in
     let b = c .before .before .before .before .before .args .bytes .now in
-    let j : ℕ = 256 - l .left in
-    let e : 256 - (l .left - 1) ≡ j + 1 = omega arith in
+    let j : ℕ = 512 - l .left in
+    let e : 512 - (l .left - 1) ≡ j + 1 = omega arith in
     let f : 2 * (j + 1) ≡ 2 * j + 2 = omega arith in
     let v : c .before .byte .result * 256 + c .byte2 .result ≡ getD b (2 * j) 0 * 256 + getD b (2 * j + 1) 0 = rw (c .before .byte .ensures, c .byte2 .ensures) in
     (omega arith, simp length-set (l .inv .1), rw (e, f) (sets-turn (l .ws) j (words-turn (l .left) b (2 * j) (omega arith)) v ∙ l .inv .2))
@@ -76,7 +76,7 @@ loop-again c =
 returns : tie.Need-returns Inv-loop μ-loop
 returns c =
     let l = c .before .loop in
-    sym (ap (sets (l .ws) (256 - l .left)) (words-end (l .left) (drop (2 * (256 - l .left)) (c .before .before .before .args .bytes .now)) (omega arith))) ∙ l .inv .2
+    sym (ap (sets (l .ws) (512 - l .left)) (words-end (l .left) (drop (2 * (512 - l .left)) (c .before .before .before .args .bytes .now)) (omega arith))) ∙ l .inv .2
 
 pub lent-words-spec : {M : Type 1} → statement M
 lent-words-spec =
