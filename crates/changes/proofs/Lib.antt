@@ -10,3 +10,4 @@ pub mod CountsShown
 pub mod SoundMachine
 pub mod NewReadings
 pub mod ReadingsShown
+pub mod AbfShown

@@ -1,5 +1,6 @@
--- What the command step makes of the measured words: an accepted 0x50 or 0x52 is the effect of its code, on a board
--- whose list has the code, and no other command but a reset alters them. Assumes nothing.
+-- What the command step makes of the measured words: an accepted 0x50, 0x52, 0x60 or 0x62 is the effect of its code,
+-- and no other command but a reset alters them. So is an accepted 0x44, which does not. Any accepted code is one that
+-- the list of its board has. Assumes nothing.
 use Prim.Native.Nat.{ℕ}
 use mathlib.Core.Path.{_≡_, refl, sym, ap, _∙_}
 use mathlib.Core.Bool.{Bool, true, false, cond, not, _&&_, and-true, and-false, false≢true}
@@ -23,19 +24,20 @@ use Rattle.command.specs.declared.Refusal.{Refusal}
 use Rattle.command.specs.declared.Refusal.the-variants.{FewerThanFourBytes, InStartup, NotThisBoard, CodeNotListed, TooShort, WrongKey, WrongParameter, NotANumber}
 use Rattle.command.proofs.Laws.{none, _and_, at-code, tableCodes, has-a-command}
 use Rattle.memory.specs.Limits.{limitsOf}
-use Rattle.replies.specs.Layouts.{housekeepingReply}
-use Rattle.state.specs.Parts.{modeOf, wordsOf, inUnitsOf}
+use Rattle.replies.specs.Layouts.{housekeepingReply, abfReply, batteryReply}
+use Rattle.state.specs.Parts.{modeOf, wordsOf, inUnitsOf, packsToldOf}
 use Rattle.state.specs.declared.parts.Board.{Board}
 use Rattle.state.specs.declared.parts.Fresh.{Fresh}
 use Rattle.state.specs.declared.parts.Measured.{Measured}
 use Rattle.answers.specs.Answers as answers
-use Rattle.answers.specs.Answers.{toldNumber, acceptedWith, acceptedOf, refusedOf, notThisBoardOf}
+use Rattle.answers.specs.Answers.{toldNumber, new, acceptedWith, acceptedOf, refusedOf, notThisBoardOf}
 use Rattle.answers.specs.declared.Commanded.{Commanded}
-use Rattle.effects.specs.Effects.{newWhere, housekeepingOf, engineeringHousekeepingOf, parameterAnswered, reportedOf, runOf}
+use Rattle.effects.specs.Effects.{newWhere, housekeepingOf, engineeringHousekeepingOf, abfOf, batteryHousekeepingOf, engineeringBatteryHousekeepingOf, parameterAnswered, reportedOf, runOf}
 use Rattle.asking.specs.Checks.{isStartup}
 use Rattle.commands.specs.Step.{transferredOf, commandedOf}
 use Rattle.commands.proofs.Stepwise.{turnedDown, decodedOf, steppedOf}
 use Rattle.commands.proofs.Told.{Result, accepted, short, starting, elsewhere, refused, stepwise, result}
+use Rattle.board.specs.Tick.{risenOf, changedOf, trippedOf}
 use Rattle.unit.specs.declared.Machine.{Machine}
 use Rattle.unit.specs.Runs.{Sample, told, afterStep3}
 use Rattle.groups.specs.Resets.{isAccepted}
@@ -49,48 +51,73 @@ use Rattle.changes.proofs.Ticks.{commanded, accepted-leaves, told-0, st
 pub data Part : Type 0 where
   as-raw in-units : Part
 
--- each has a code
-abbrev pub codeFor : Part → ℕ
-codeFor as-raw = 0x50
-codeFor in-units = 0x52
+-- and the boards that tell them
+pub data Owner : Type 0 where
+  distribution battery : Owner
 
--- a memory of whether the words are new
+-- each has a code
+abbrev pub codeFor : Owner → Part → ℕ
+codeFor distribution as-raw = 0x50
+codeFor distribution in-units = 0x52
+codeFor battery as-raw = 0x60
+codeFor battery in-units = 0x62
+
+-- those of one way
+abbrev pub codesFor : Part → List ℕ
+codesFor p = codeFor distribution p ∷ codeFor battery p ∷ []
+
+-- have a memory of whether the words are new
 abbrev pub isNew : Part → Fresh → Bool
 isNew as-raw = λ f. f .raw
 isNew in-units = λ f. f .engineering
 
 -- what the code does to a board
-abbrev readingOf : Part → Board → Commanded
-readingOf as-raw b = housekeepingOf 0x50 b
-readingOf in-units b = engineeringHousekeepingOf 0x52 b
+abbrev readingOf : Owner → Part → Board → Commanded
+readingOf distribution as-raw b = housekeepingOf 0x50 b
+readingOf distribution in-units b = engineeringHousekeepingOf 0x52 b
+readingOf battery as-raw b = batteryHousekeepingOf 0x60 b
+readingOf battery in-units b = engineeringBatteryHousekeepingOf 0x62 b
 
 -- the words that its reply lays out
-abbrev pub wordsFor : Part → Board → List ℕ
-wordsFor as-raw b = wordsOf b
-wordsFor in-units b = inUnitsOf b
+abbrev pub wordsFor : Owner → Part → Board → List ℕ
+wordsFor o as-raw b = wordsOf b
+wordsFor distribution in-units b = inUnitsOf b
+wordsFor battery in-units b = packsToldOf b
+
+-- its STAT
+abbrev pub statFor : Part → Board → ℕ
+statFor p b = newWhere (isNew p (b .measured .fresh))
 
 -- and its bytes
-abbrev pub bytesFor : Part → Board → List ℕ
-bytesFor p b =
-    housekeepingReply (answers.headerOf (b .profile)) (codeFor p) (newWhere (isNew p (b .measured .fresh))) (b .channels .on) (b .channels .latched) (wordsFor p b)
+abbrev pub bytesFor : Owner → Part → Board → List ℕ
+bytesFor distribution p b =
+    housekeepingReply (answers.headerOf (b .profile)) (codeFor distribution p) (statFor p b) (b .channels .on) (b .channels .latched) (wordsFor distribution p b)
+bytesFor battery p b = batteryReply (answers.headerOf (b .profile)) (codeFor battery p) (statFor p b) (wordsFor battery p b)
 
 -- they are the reply
-reply-of : (p : Part) (b : Board) → readingOf p b .board .reply ≡ replyOf (bytesFor p b)
-unfolding housekeepingOf engineeringHousekeepingOf acceptedWith
-reply-of as-raw b = refl
-reply-of in-units b = refl
+reply-of : (o : Owner) (p : Part) (b : Board) → readingOf o p b .board .reply ≡ replyOf (bytesFor o p b)
+unfolding housekeepingOf engineeringHousekeepingOf batteryHousekeepingOf engineeringBatteryHousekeepingOf acceptedWith
+reply-of distribution as-raw b = refl
+reply-of distribution in-units b = refl
+reply-of battery as-raw b = refl
+reply-of battery in-units b = refl
 
--- either code ends its own memory, and leaves that of the other
-ends : (p q : Part) (b : Board) → isNew p (readingOf q b .board .measured .fresh) ≡ (isNew p (b .measured .fresh) && not (eqb (codeFor q) (codeFor p)))
-unfolding housekeepingOf engineeringHousekeepingOf acceptedWith
-ends as-raw as-raw b = sym (and-false (b .measured .fresh .raw))
-ends as-raw in-units b = sym (and-true (b .measured .fresh .raw))
-ends in-units as-raw b = sym (and-true (b .measured .fresh .engineering))
-ends in-units in-units b = sym (and-false (b .measured .fresh .engineering))
+-- a code ends its own memory, and leaves the other
+ends : (p : Part) (o : Owner) (q : Part) (b : Board)
+    → isNew p (readingOf o q b .board .measured .fresh) ≡ (isNew p (b .measured .fresh) && not (isIn (codeFor o q) (codesFor p)))
+unfolding housekeepingOf engineeringHousekeepingOf batteryHousekeepingOf engineeringBatteryHousekeepingOf acceptedWith isIn
+ends as-raw distribution as-raw b = sym (and-false (b .measured .fresh .raw))
+ends as-raw distribution in-units b = sym (and-true (b .measured .fresh .raw))
+ends as-raw battery as-raw b = sym (and-false (b .measured .fresh .raw))
+ends as-raw battery in-units b = sym (and-true (b .measured .fresh .raw))
+ends in-units distribution as-raw b = sym (and-true (b .measured .fresh .engineering))
+ends in-units distribution in-units b = sym (and-false (b .measured .fresh .engineering))
+ends in-units battery as-raw b = sym (and-true (b .measured .fresh .engineering))
+ends in-units battery in-units b = sym (and-false (b .measured .fresh .engineering))
 
 -- the codes of which `Done` or this page says what becomes of the words
 abbrev spokenOf : List ℕ
-spokenOf = 0x50 ∷ 0x52 ∷ acting
+spokenOf = 0x50 ∷ 0x52 ∷ 0x60 ∷ 0x62 ∷ acting
 
 module _ (rail : ℤ) (limits : Limits) (s : List ℕ) (b : Board) where
   -- answer 0 is told
@@ -134,27 +161,40 @@ module _ (rail : ℤ) (limits : Limits) (s : List ℕ) (b : Board) where
       (λ here. rw here (λ a. record { here = here; is = refl }))
       (λ none-such. rw none-such (λ a. both (turned-down code CodeNotListed) a))))))
 
-  -- ---- the two codes: in their rows stand their effects
-  in-row : (p : Part) → Accepted (decodedOf rail limits (codeFor p) (listed (find commandTable (codeFor p)) s) b)
-      → decodedOf rail limits (codeFor p) (listed (find commandTable (codeFor p)) s) b ≡ readingOf p b
-  unfolding listed find commandTable carried decodedOf runOf reportedOf
-  in-row as-raw = behind (λ c. c ≡ readingOf as-raw b) 0x50 (ltb (length s) 4) TooShort _ (λ a. refl)
-  in-row in-units = behind (λ c. c ≡ readingOf in-units b) 0x52 (ltb (length s) 4) TooShort _ (λ a. refl)
-
-  -- an accepted one is that effect, and the board's list has its code
-  pub record Reads (p : Part) (c : Commanded) : Type 0 where
-    pub here : isIn (codeFor p) (boardOf (b .profile .kind) .codes) ≡ true
-    pub is : c ≡ readingOf p b
-
-  -- whether there is a transfer or not
-  pub reads : (p : Part) (sent : Bool) → Accepted (commandedOf rail limits sent s b) → eqb (codeOf s) (codeFor p) ≡ true → Reads p (commandedOf rail limits sent s b)
+  -- whether there is a transfer or not, the list has its code
+  pub listed-code : (sent : Bool) → Accepted (commandedOf rail limits sent s b) → isIn (codeOf s) (boardOf (b .profile .kind) .codes) ≡ true
   unfolding commandedOf
-  reads p false a e = absurd (false≢true a)
-  reads p true a e =
-      let f = from-table a in
-      let k : codeOf s ≡ codeFor p = eqb-true (codeOf s) (codeFor p) e in
-      let g : commandedOf rail limits true s b ≡ decodedOf rail limits (codeFor p) (listed (find commandTable (codeFor p)) s) b = rw k at (f .is) in
-      record { here = rw k at (f .here); is = g ∙ in-row p (rw g at a) }
+  listed-code false a = absurd (false≢true a)
+  listed-code true a = from-table a .here
+
+  -- ---- some codes: in their rows stand their effects
+  abbrev pub InRow : ℕ → (Board → Commanded) → Type 0
+  InRow k effect =
+      Accepted (decodedOf rail limits k (listed (find commandTable k) s) b)
+      → decodedOf rail limits k (listed (find commandTable k) s) b ≡ effect b
+
+  -- those that tell of the words
+  pub in-row : (o : Owner) (p : Part) → InRow (codeFor o p) (readingOf o p)
+  unfolding listed find commandTable carried decodedOf runOf reportedOf
+  in-row distribution as-raw = behind (λ c. c ≡ readingOf distribution as-raw b) 0x50 (ltb (length s) 4) TooShort _ (λ a. refl)
+  in-row distribution in-units = behind (λ c. c ≡ readingOf distribution in-units b) 0x52 (ltb (length s) 4) TooShort _ (λ a. refl)
+  in-row battery as-raw = behind (λ c. c ≡ readingOf battery as-raw b) 0x60 (ltb (length s) 4) TooShort _ (λ a. refl)
+  in-row battery in-units = behind (λ c. c ≡ readingOf battery in-units b) 0x62 (ltb (length s) 4) TooShort _ (λ a. refl)
+
+  -- and 0x44
+  pub abf-in-row : InRow 0x44 (abfOf 0x44)
+  unfolding listed find commandTable carried decodedOf runOf reportedOf
+  abf-in-row = behind (λ c. c ≡ abfOf 0x44 b) 0x44 (ltb (length s) 4) TooShort _ (λ a. refl)
+
+  -- an accepted one is that effect, whether there is a transfer or not
+  pub runs : (k : ℕ) (effect : Board → Commanded) → InRow k effect → (sent : Bool) → Accepted (commandedOf rail limits sent s b) → eqb (codeOf s) k ≡ true
+      → commandedOf rail limits sent s b ≡ effect b
+  unfolding commandedOf
+  runs k effect row false a e = absurd (false≢true a)
+  runs k effect row true a e =
+      let c : codeOf s ≡ k = eqb-true (codeOf s) k e in
+      let g : commandedOf rail limits true s b ≡ decodedOf rail limits k (listed (find commandTable k) s) b = rw c at (from-table a .is) in
+      g ∙ row (rw g at a)
 
   -- ---- every other code leaves the words
   abbrev Keeps : Commanded → Type 0
@@ -175,9 +215,9 @@ module _ (rail : ℤ) (limits : Limits) (s : List ℕ) (b : Board) where
   spoken : (k : ℕ) → isIn k spokenOf ≡ true → Row k
   spoken k h n = both n h
 
-  -- by the table, code by code: 0x02, 0x06 and 0x82 are the others
+  -- by the table, code by code: 0x02, 0x06, 0x82 and 0x44 are the others
   others : (code : ℕ) → isIn code tableCodes ≡ true → Row code
-  unfolding listed find commandTable isIn carried getting decodedOf runOf reportedOf acceptedOf acceptedWith
+  unfolding listed find commandTable isIn carried getting decodedOf runOf reportedOf abfOf acceptedOf acceptedWith
   others code h =
       at-code Row code tableCodes h
       (spoken 0xAA refl
@@ -200,6 +240,9 @@ module _ (rail : ℤ) (limits : Limits) (s : List ℕ) (b : Board) where
       and spoken 0x92 refl
       and spoken 0x94 refl
       and spoken 0x52 refl
+      and (λ _. behind Keeps 0x44 (ltb (length s) 4) TooShort _ (λ a. refl))
+      and spoken 0x60 refl
+      and spoken 0x62 refl
       and none)
 
   -- an accepted command of `Done`
@@ -220,15 +263,18 @@ module _ (rail : ℤ) (limits : Limits) (s : List ℕ) (b : Board) where
   kept elsewhere n = refl
   kept (refused answer h) n = refl
 
-  -- any accepted one that is neither of the two codes nor a reset
-  keeps : Accepted (commandedOf rail limits true s b) → ((p : Part) → eqb (codeOf s) (codeFor p) ≡ false) → eqb (codeOf s) 0xAA ≡ false → Keeps (commandedOf rail limits true s b)
+  -- any accepted one that is none of the codes that tell of them, nor a reset
+  abbrev NoReading : Type 0
+  NoReading = (o : Owner) (p : Part) → eqb (codeOf s) (codeFor o p) ≡ false
+
+  keeps : Accepted (commandedOf rail limits true s b) → NoReading → eqb (codeOf s) 0xAA ≡ false → Keeps (commandedOf rail limits true s b)
   unfolding isIn
   keeps a neither n =
       cases (isIn (codeOf s) acting)
       (λ h. go h (does rail limits s b) a)
       (λ h.
       let f = from-table a in
-      rw (f .is) (others (codeOf s) (has-a-command (b .profile .kind) (codeOf s) (f .here)) (rw (neither as-raw, neither in-units) h) (rw (f .is) at a)))
+      rw (f .is) (others (codeOf s) (has-a-command (b .profile .kind) (codeOf s) (f .here)) (rw (neither distribution as-raw, neither distribution in-units, neither battery as-raw, neither battery in-units) h) (rw (f .is) at a)))
     where
       go : isIn (codeOf s) acting ≡ true → {c : Commanded} → Answers rail limits s b (Done rail limits s b (codeOf s)) c → Accepted c → Keeps c
       go h (refusing m t left) e = both (rw t (not-accepted m)) e
@@ -243,24 +289,30 @@ module _ (rail : ℤ) (limits : Limits) (s : List ℕ) (b : Board) where
   as-before p e = ap (λ (w : Measured). isNew p (w .fresh)) e ∙ sym (and-true (isNew p (b .measured .fresh)))
 
   -- an accepted command ends that of its own code
-  accepted-new : (p : Part) → Accepted (commandedOf rail limits true s b) → eqb (codeOf s) 0xAA ≡ false → newAfter p true (eqb (codeOf s) (codeFor p))
+  accepted-new : (p : Part) → Accepted (commandedOf rail limits true s b) → eqb (codeOf s) 0xAA ≡ false → newAfter p true (isIn (codeOf s) (codesFor p))
+  unfolding isIn
   accepted-new p a n =
-      cases (eqb (codeOf s) 0x50) (by as-raw)
-      (λ r. cases (eqb (codeOf s) 0x52) (by in-units) (λ e. let no = none-of r e in rw (no p) (as-before p (keeps a no n))))
+      cases (eqb (codeOf s) 0x50) (by distribution as-raw)
+      (λ x. cases (eqb (codeOf s) 0x52) (by distribution in-units)
+      (λ y. cases (eqb (codeOf s) 0x60) (by battery as-raw)
+      (λ z. cases (eqb (codeOf s) 0x62) (by battery in-units)
+      (λ w. let neither = none-of x y z w in rw (neither distribution p, neither battery p) (as-before p (keeps a neither n))))))
     where
-      by : (q : Part) → eqb (codeOf s) (codeFor q) ≡ true → newAfter p true (eqb (codeOf s) (codeFor p))
-      by q e =
-          ap (λ (c : Commanded). isNew p (c .board .measured .fresh)) (reads q true a e .is)
-          ∙ ends p q b
-          ∙ ap (λ (k : ℕ). isNew p (b .measured .fresh) && not (eqb k (codeFor p))) (sym (eqb-true (codeOf s) (codeFor q) e))
+      by : (o : Owner) (q : Part) → eqb (codeOf s) (codeFor o q) ≡ true → newAfter p true (isIn (codeOf s) (codesFor p))
+      by o q e =
+          ap (λ (c : Commanded). isNew p (c .board .measured .fresh)) (runs (codeFor o q) (readingOf o q) (in-row o q) true a e)
+          ∙ ends p o q b
+          ∙ ap (λ (k : ℕ). isNew p (b .measured .fresh) && not (isIn k (codesFor p))) (sym (eqb-true (codeOf s) (codeFor o q) e))
 
-      none-of : eqb (codeOf s) 0x50 ≡ false → eqb (codeOf s) 0x52 ≡ false → (q : Part) → eqb (codeOf s) (codeFor q) ≡ false
-      none-of r e as-raw = r
-      none-of r e in-units = e
+      none-of : eqb (codeOf s) 0x50 ≡ false → eqb (codeOf s) 0x52 ≡ false → eqb (codeOf s) 0x60 ≡ false → eqb (codeOf s) 0x62 ≡ false → NoReading
+      none-of x y z w distribution as-raw = x
+      none-of x y z w distribution in-units = y
+      none-of x y z w battery as-raw = z
+      none-of x y z w battery in-units = w
 
   -- and so does a tick's command, if it has one
   pub new-after : (p : Part) (sent : Bool) → (isAccepted (toldNumber (commandedOf rail limits sent s b .outcome)) && eqb (codeOf s) 0xAA) ≡ false
-      → newAfter p sent (isAccepted (toldNumber (commandedOf rail limits sent s b .outcome)) && eqb (codeOf s) (codeFor p))
+      → newAfter p sent (isAccepted (toldNumber (commandedOf rail limits sent s b .outcome)) && isIn (codeOf s) (codesFor p))
   unfolding commandedOf
   new-after p false n = sym (and-true (isNew p (b .measured .fresh)))
   new-after p true n =
@@ -268,21 +320,37 @@ module _ (rail : ℤ) (limits : Limits) (s : List ℕ) (b : Board) where
       (λ a. rw a (accepted-new p a (rw a at n)))
       (λ a. rw a (as-before p (kept (result rail limits s b) a)))
 
--- ---- a tick that accepts one of the two codes
-module _ (m : Machine) (i : Sample) (p : Part) (a : acceptsOneOf (codeFor p ∷ []) m i ≡ true) where
-  -- its step is the effect of the code
-  step-reads : Reads (i .rail) (limitsOf (m .board .memory)) (i .transfer) (afterStep3 m i) p (commanded m i)
-  step-reads =
-      reads (i .rail) (limitsOf (m .board .memory)) (i .transfer) (afterStep3 m i) p (i .sent)
-      (ap isAccepted (step-0 m i (codeFor p) a)) (code-is m i (codeFor p) a)
+-- ---- a tick that accepts one code
+module _ (m : Machine) (i : Sample) (k : ℕ) (a : acceptsOneOf (k ∷ []) m i ≡ true) where
+  -- its step does
+  step-accepts : isAccepted (toldNumber (commanded m i .outcome)) ≡ true
+  step-accepts = ap isAccepted (step-0 m i k a)
 
   -- the list of its board has the code
-  pub has-code : isIn (codeFor p) (boardOf (afterStep3 m i .profile .kind) .codes) ≡ true
-  has-code = step-reads .here
+  pub has-code : isIn k (boardOf (m .board .profile .kind) .codes) ≡ true
+  unfolding trippedOf changedOf risenOf
+  has-code =
+      ap (λ (c : ℕ). isIn c (boardOf (m .board .profile .kind) .codes)) (sym (eqb-true (codeOf (i .transfer)) k (code-is m i k a)))
+      ∙ listed-code (i .rail) (limitsOf (m .board .memory)) (i .transfer) (afterStep3 m i) (i .sent) step-accepts
 
-  -- and the reply that then waits lays out the words that the command finds
-  pub reply-is : told m i .machine .board .reply ≡ replyOf (bytesFor p (afterStep3 m i))
-  reply-is =
-      ap (λ (b : Board). b .reply) (accepted-leaves m i (told-0 m i (codeFor p) a))
-      ∙ ap (λ (c : Commanded). c .board .reply) (step-reads .is)
-      ∙ reply-of p (afterStep3 m i)
+  -- and the reply that then waits is the one of its effect on the board that it finds
+  reply-by : (effect : Board → Commanded) → InRow (i .rail) (limitsOf (m .board .memory)) (i .transfer) (afterStep3 m i) k effect
+      → told m i .machine .board .reply ≡ effect (afterStep3 m i) .board .reply
+  reply-by effect row =
+      ap (λ (b : Board). b .reply) (accepted-leaves m i (told-0 m i k a))
+      ∙ ap (λ (c : Commanded). c .board .reply)
+      (runs (i .rail) (limitsOf (m .board .memory)) (i .transfer) (afterStep3 m i) k effect row (i .sent) step-accepts (code-is m i k a))
+
+-- one that tells of the words: it lays out those that the command finds
+pub reply-is : (m : Machine) (i : Sample) (o : Owner) (p : Part) → acceptsOneOf (codeFor o p ∷ []) m i ≡ true
+    → told m i .machine .board .reply ≡ replyOf (bytesFor o p (afterStep3 m i))
+reply-is m i o p a =
+    reply-by m i (codeFor o p) a (readingOf o p) (in-row (i .rail) (limitsOf (m .board .memory)) (i .transfer) (afterStep3 m i) o p)
+    ∙ reply-of o p (afterStep3 m i)
+
+-- 0x44: it lays out whether the ABF is placed
+pub abf-reply-is : (m : Machine) (i : Sample) → acceptsOneOf (0x44 ∷ []) m i ≡ true
+    → told m i .machine .board .reply ≡ replyOf (abfReply (answers.headerOf (m .board .profile)) 0x44 new (boardOf (m .board .profile .kind) .abfPlaced))
+unfolding abfOf acceptedWith trippedOf changedOf risenOf
+abf-reply-is m i a =
+    reply-by m i 0x44 a (abfOf 0x44) (abf-in-row (i .rail) (limitsOf (m .board .memory)) (i .transfer) (afterStep3 m i))

@@ -7,3 +7,4 @@ pub mod CountsShown
 pub mod SoundMachine
 pub mod NewReadings
 pub mod ReadingsShown
+pub mod AbfShown

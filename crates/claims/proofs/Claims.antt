@@ -17,6 +17,7 @@ use Rattle.changes.proofs.CountsShown.{counts-shown}
 use Rattle.changes.proofs.SoundMachine.{sound-machine}
 use Rattle.changes.proofs.NewReadings.{new-readings}
 use Rattle.changes.proofs.ReadingsShown.{readings-shown}
+use Rattle.changes.proofs.AbfShown.{abf-shown}
 use Rattle.exact.proofs.Exact.{exact-reading, never-smaller}
 use Rattle.exact.proofs.Line.{exact-temperature}
 use Rattle.power.proofs.Theorem.{powered}
@@ -54,6 +55,7 @@ claims =
       sound-machine = sound-machine;
       new-readings = new-readings;
       readings-shown = readings-shown;
+      abf-shown = abf-shown;
       dark = dark;
       exact-reading = exact-reading;
       never-smaller = never-smaller;

@@ -12,7 +12,7 @@ use Rattle.refusals.specs.{Conditions.ExactlyWhen, Refused.RefusedCommand, Refu
 use Rattle.groups.specs.{Groups.Groups, Altered.Altered, Resets.ResetIsTold, Unfitted.Unfitted, Counts.Counts}
 use Rattle.changes.specs.{StepsOfChannels.StepsOfChannels, ChannelsAfter.ChannelsAfter, SettingsChange.SettingsChange}
 use Rattle.changes.specs.{ModeChange.ModeChange, CountsShown.CountsShown, SoundMachine.SoundMachine}
-use Rattle.changes.specs.{NewReadings.NewReadings, ReadingsShown.ReadingsShown}
+use Rattle.changes.specs.{NewReadings.NewReadings, ReadingsShown.ReadingsShown, AbfShown.AbfShown}
 use Rattle.readings.specs.{declared.apart.Raw.Raw, declared.table.Row.Row}
 use Rattle.exact.specs.{Exact.ExactReading, Exact.NeverSmaller, Line.ExactTemperature}
 use Rattle.power.specs.{Claim.Claim, Tight.Tight}
@@ -43,6 +43,7 @@ pub record Claims : Type 0 where
   pub sound-machine : (m : Machine) (r : Reached m) → SoundMachine m r
   pub new-readings : (m : Machine) (i : Sample) → NewReadings m i
   pub readings-shown : (m : Machine) (i : Sample) → ReadingsShown m i
+  pub abf-shown : (m : Machine) (i : Sample) → AbfShown m i
   pub dark : Dark
   -- engineering readings and the exact values of Tables 3-12 and 3-13
   pub exact-reading : (row : Row) (raw : Raw) → ExactReading row raw

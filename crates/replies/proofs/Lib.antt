@@ -1,3 +1,4 @@
 pub mod Parts
 pub mod Positions
 pub mod Measured
+pub mod Battery
