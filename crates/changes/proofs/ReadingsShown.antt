@@ -3,18 +3,20 @@
 -- stands. Assumes nothing.
 use Prim.Native.Nat.{ℕ, _+_, _*_, _%_, _^_, _≤_, _<_, min}
 use mathlib.Core.Path.{_≡_, refl, sym, ap, _∙_, subst}
-use mathlib.Core.Bool.{true, false≢true}
+use mathlib.Core.Bool.{true, false, false≢true}
 use mathlib.Core.List.{List, [], _∷_, map}
 use native.Mathlib.Nat.{mod-eq-of-lt}
 use native.Mathlib.Omega.{arith}
 use lib.IntN.{pos}
-use lib.ListN.{length, getD, take, drop, length-append, length-take, length-drop, length-map, length-replicate, List·getD-map}
-use lib.Seq.{getD-take, length-take-le}
+use lib.ListN.{length, getD, take, drop, length-append, length-take, length-drop, length-map, length-replicate, List·getD-map, List·getD-append}
+use lib.Seq.{getD-take, length-take-le, take-all}
 use mir.Syntax.{w16}
+use borrow.Author.Tests.{eqb-true}
 use Rattle.laws.proofs.Cases.{cases}
 use Rattle.kinds.specs.Kinds.{boardOf, isIn, wordRoom}
 use Rattle.kinds.specs.declared.Kind.{Kind}
 use Rattle.kinds.specs.declared.Kind.the-variants.{Distribution, Battery, Integrated}
+use Rattle.kinds.proofs.Rooms.{fits}
 use Rattle.wire.specs.Numbers.{number, pattern}
 use Rattle.wire.specs.Replies.{shown}
 use Rattle.wire.proofs.TwosComplement.{pattern-fits}
@@ -186,10 +188,32 @@ module _ (m : Machine) (i : Sample) (full : length (m .board .measured .words) �
             ap (λ (l : List ℕ). number 2 (drop (6 + 2 * k) l)) is ∙ battery-word-at header code stat ws (row .all) k h ∙ row .each k h ∙ same k;
       }
 
+-- ---- the words that the command finds
+-- words that are not more than the room are its first readings
+measured-as : (words : List ℕ) (k : ℕ) → length words ≤ wordRoom → k < length words → getD (measuredAs words) k (rawOf 0) ≡ rawOf (getD words k 0)
+unfolding measuredAs
+measured-as words k short h =
+    let l = length-map words rawOf in
+    rw (take-all wordRoom (map rawOf words) (omega arith))
+    (List·getD-append (map rawOf words) (drop (length words) noneMeasured) (rawOf 0) k (omega arith) ∙ List·getD-map rawOf words k 0)
+
+module _ (m : Machine) (i : Sample) where
+  brought : brings m i ≡ true → (k : ℕ) → k < wordCount (m .board) → rawFound m i k ≡ rawOf (getD (i .words) k 0)
+  unfolding trippedOf changedOf risenOf broughtBy
+  brought e k h =
+      let n = eqb-true (length (i .words)) (wordCount (m .board)) e in
+      rw e (measured-as (i .words) k (omega (arith, fits (m .board .profile .kind))) (omega arith))
+
+  stayed : brings m i ≡ false → afterStep3 m i .measured .words ≡ m .board .measured .words
+  unfolding trippedOf changedOf risenOf broughtBy
+  stayed e = rw e
+
 -- the claim
 pub readings-shown : (m : Machine) (i : Sample) → ReadingsShown m i
 readings-shown m i =
     record {
+      brought = brought m i;
+      stayed = stayed m i;
       raw = λ full a. shows m i full as-raw a;
       engineering = λ full a. shows m i full in-units a;
       battery-raw = λ full a. battery-shows m i full as-raw _ a (λ k. refl);

@@ -7,7 +7,7 @@
 -- For the channel words it is that a set of channels has 32 bits, and for the words of 0x62 that a raw reading has 16.
 -- `m` is the machine before the tick. Assumes nothing: these are definitions.
 use Prim.Native.Nat.{ℕ, _+_, _*_, _/_, _%_, _^_, _<_}
-use mathlib.Core.{Path._≡_, Bool.true, Bool.cond, List.List, List.[], List._∷_}
+use mathlib.Core.{Path._≡_, Bool.true, Bool.false, Bool.cond, List.List, List.[], List._∷_}
 use lib.{Dec.ltb, ListN.length, ListN.getD, ListN.drop}
 use Rattle.wire.specs.{Numbers.number, Numbers.pattern, Replies.shown}
 use Rattle.kinds.specs.Kinds.{wordRoom}
@@ -15,7 +15,8 @@ use Rattle.readings.specs.{Readings.rawOf, Table.engineeringOf, Layout.rowAt, d
 use Rattle.readings.specs.Packs.{wordBy, wayAt}
 use Rattle.channels.specs.declared.Channels.{Channels}
 use Rattle.unit.specs.{declared.Machine.Machine, Runs.Sample, Runs.told, Runs.afterStep3}
-use Rattle.changes.specs.Accepted.{acceptsOneOf}
+use Rattle.state.specs.Parts.{wordCount}
+use Rattle.changes.specs.{Accepted.acceptsOneOf, NewReadings.brings}
 
 -- the first byte of measured word k of 0x50 and 0x52: words 0 to 4 stand from 6 on, and words 5 to 121 from 24 on,
 -- behind the channel words
@@ -56,6 +57,10 @@ module _ (m : Machine) (i : Sample) where
     pub word : (k : ℕ) → k < 39 → wordFrom (6 + 2 * k) ≡ words k
 
   pub record ReadingsShown : Type 0 where
+    -- words that come with the tick are then what is measured, each at its own place, and where none come the last ones
+    -- stay
+    pub brought : brings m i ≡ true → (k : ℕ) → k < wordCount (m .board) → rawFound k ≡ rawOf (getD (i .words) k 0)
+    pub stayed : brings m i ≡ false → afterStep3 m i .measured .words ≡ m .board .measured .words
     -- 0x50: 16 bits of what was measured, which are all that a raw reading has
     pub raw : length (m .board .measured .words) ≡ wordRoom → acceptsOneOf (0x50 ∷ []) m i ≡ true → Shows (λ k. rawFound k .0 % 2 ^ 16)
     -- 0x52: the engineering reading by the row of the place, in two's complement

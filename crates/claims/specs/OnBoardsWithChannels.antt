@@ -1,6 +1,6 @@
 -- Demand 3 speaks of boards with channels: a force-enabled channel of a machine that can be reached is one that the
--- layout of its kind of board has a place for. A battery board has no place, so it has no such channel. Assumes nothing:
--- this is the claim.
+-- layout of its kind of board has a place for. A battery board has no place, so it has no such channel. Assumes
+-- nothing: this is the claim.
 use mathlib.Core.{Path._≡_, Bool.true}
 use Prim.Native.Nat.{ℕ}
 use Rattle.kinds.specs.Kinds.{boardOf}

@@ -58,8 +58,8 @@ enum Listed {
 }
 
 // How a reply is laid out, by what it tells: nothing more than its 5 bytes, the overcurrent faults, the measured words
-// as raw readings, a parameter, or the measured words as engineering readings; and of a battery board whether its ABF is
-// placed, and its measured words as raw and as engineering readings.
+// as raw readings, a parameter, or the measured words as engineering readings; and of a battery board whether its ABF
+// is placed, and its measured words as raw and as engineering readings.
 pub enum Layout {
     Short,
     Faults,

@@ -144,8 +144,8 @@ savedIn code given b =
 unfoldable pub restartedOf : Board → Commanded
 restartedOf b = silentOf (Answered Accepted) (commandResetOf b)
 
--- ---- the commands that change neither mode, channels nor memory, by the layout of their reply; 0x02 and 0x06 do nothing
--- more than be accepted
+-- ---- the commands that change neither mode, channels nor memory, by the layout of their reply; 0x02 and 0x06 do
+-- nothing more than be accepted
 unfoldable pub reportedOf : ℕ → Layout → Board → Commanded
 reportedOf code Layout.Short b = acceptedOf code b
 reportedOf code Layout.Faults b = faultsOf code b

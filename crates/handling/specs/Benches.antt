@@ -1,5 +1,5 @@
--- What each kind of line that changes the bench does: the bench after it, and what it prints. Assumes nothing: these are
--- definitions.
+-- What each kind of line that changes the bench does: the bench after it, and what it prints. Assumes nothing: these
+-- are definitions.
 use Prim.Native.Nat.{ℕ}
 use mathlib.Core.{Bool.false, List.List}
 use lib.ListN.{length, replicate}

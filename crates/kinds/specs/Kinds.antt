@@ -1,6 +1,7 @@
 -- What goes by the kind of board: all that differs between the boards, but for the layouts of their readings, is
 -- defined on this page and on no other. IVID is 7 for all of them. A set of channels is a number whose bit c is channel
--- c; `a ∷ b ∷ []` is a list of two, and `cond b x y` is x where b holds, else y. Assumes nothing: these are definitions.
+-- c; `a ∷ b ∷ []` is a list of two, and `cond b x y` is x where b holds, else y. Assumes nothing: these are
+-- definitions.
 use Prim.Native.Nat.{ℕ, _-_, _^_}
 use mathlib.Core.{Bool.Bool, Bool.true, Bool.false, Bool.cond, Bool._||_, List.List, List.[], List._∷_}
 use lib.Dec.{eqb}
@@ -22,9 +23,9 @@ pub record KindOfBoard : Type 0 where
 abbrev pub below : ℕ → ℕ
 below n = 2 ^ n - 1
 
--- ---- the distribution board (PDU); the battery board (PBU), which fits no channel, with whether its ABF is placed; and
--- the integrated board (PIU), which has more places and words with a daughterboard. The code of its own that the last
--- one will have, 0xA0, is not there yet.
+-- ---- the distribution board (PDU); the battery board (PBU), which fits no channel, with whether its ABF is placed;
+-- and the integrated board (PIU), which has more places and words with a daughterboard. The code of its own that the
+-- last one will have, 0xA0, is not there yet.
 abbrev pub boardOf : Kind → KindOfBoard
 boardOf Distribution =
     record {

@@ -65,8 +65,8 @@ pub fn one_more(count: u16) -> u16
 }
 
 impl Memory {
-    // The memory after a start, a reset or a load: the settings of the store, or the defaults of the kind of board where
-    // nothing is stored.
+    // The memory after a start, a reset or a load: the settings of the store, or the defaults of the kind of board
+    // where nothing is stored.
     pub fn loaded(kind: Kind, store: Store) -> Memory
         ensures { λ r. ⌜ r ≡ loadedFrom kind store ⌝ }
     {

@@ -60,8 +60,8 @@ pub data Row : Type 0 where
   _to_are_with_default_ : ℕ → ℕ → ValueType → Range → (Kind → ℕ) → Row
   _to_are-read_ : ℕ → ℕ → ValueType → Row
 
--- ---- Table 3-25, from the lowest id to the highest, where "n/a" is 0. A default is given for a kind of board: the same
--- for each, or the board's own
+-- ---- Table 3-25, from the lowest id to the highest, where "n/a" is 0. A default is given for a kind of board: the
+-- same for each, or the board's own
 abbrev pub each : ℕ → Kind → ℕ
 each number kind = number
 
