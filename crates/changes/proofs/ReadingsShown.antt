@@ -25,8 +25,8 @@ use Rattle.rounding.proofs.Rounding.{held-fits}
 use Rattle.temperature.specs.Temperature.{lineAt, entryOf, temperatureOf}
 use Rattle.readings.specs.Readings.{rawOf, noneMeasured, measuredAs, rawWords, engineeringWords}
 use Rattle.readings.specs.Table.{nearestUnits, engineeringOf}
-use Rattle.readings.specs.Layout.{VIP-CH, POWE, BAT-TEMP, _by_, layout, convertedBy, rowAt}
-use Rattle.readings.specs.Packs.{_told_, packs, packTemperature, wordBy, wayAt}
+use Rattle.readings.specs.Layout.{VIP-CH, POWE, _by_, layout, convertedBy, rowAt}
+use Rattle.readings.specs.Packs.{packTemperature, wordBy, wayAt}
 use Rattle.readings.specs.declared.apart.Raw.{Raw}
 use Rattle.readings.specs.declared.apart.Engineering.{Engineering}
 use Rattle.readings.specs.declared.packs.Way.{Way}
@@ -34,7 +34,7 @@ use Rattle.readings.specs.declared.packs.Way.the-variants.{ByRow, ByCurve, AsIt
 use Rattle.readings.specs.declared.table.Row.{Row}
 use Rattle.readings.specs.declared.table.Row.the-variants.{ChannelPowe}
 use Rattle.readings.proofs.Places.{length-layout, converted-at, length-converted}
-use Rattle.readings.proofs.PackPlaces.{length-packs, told-at, length-packs-told}
+use Rattle.readings.proofs.PackPlaces.{told-at, length-packs-told}
 use Rattle.replies.proofs.Positions.{ChannelWords, length-housekeeping, shown-housekeeping, housekeeping-channels}
 use Rattle.replies.proofs.Measured.{measured-at}
 use Rattle.replies.proofs.Battery.{length-battery, shown-battery, battery-word-at}
@@ -120,10 +120,9 @@ laid distribution in-units b full h =
     }
 laid battery in-units b full h =
     let raws = b .measured .words in
-    let l = length-packs in
     record {
       all = length-packs-told raws full;
-      each = λ k g. ap (λ (w : ℕ). w % 2 ^ 16) (told-at packs raws k (BAT-TEMP 3 3 told ByCurve) (rawOf 0) 0 (omega arith) (omega arith));
+      each = λ k g. ap (λ (w : ℕ). w % 2 ^ 16) (told-at raws k (rawOf 0) 0 full g);
     }
 
 -- ---- the readings that a command finds

@@ -24,6 +24,7 @@ use Rattle.watchdog.proofs.Laws.{early}
 use Rattle.power.specs.Machine as small
 use Rattle.power.proofs.Simulation.{inputs}
 use Rattle.power.proofs.Stages.{Low, lowTicks, low-run}
+use Rattle.kinds.specs.declared.Kind.the-variants.{Distribution}
 use Rattle.memory.specs.Memory.{emptyStore, withDefaults, loadedFrom}
 use Rattle.memory.specs.Limits.{timeoutOf, limitsOf}
 use Rattle.memory.specs.declared.Memory.{Memory}
