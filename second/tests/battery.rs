@@ -29,17 +29,6 @@ fn battery_in(mode: Mode) -> Board {
 /// The modes in which commands are carried out.
 const LIT: [Mode; 3] = [Mode::Nominal, Mode::Safety, Mode::Emergency];
 
-/// A tick that brings words, with or without a command.
-fn bring(board: &mut Board, words: &[u16], command: Option<&[u8]>) {
-    let rail = steady(board);
-    tick_full(board, rail, 0, words, command);
-}
-
-/// STAT of the reply that waits.
-fn stat(board: &Board) -> u8 {
-    board.waiting_reply()[4]
-}
-
 /// The word of the reply that stands at a byte.
 fn word_at(board: &Board, at: usize) -> u16 {
     u16::from_le_bytes([board.waiting_reply()[at], board.waiting_reply()[at + 1]])
@@ -58,16 +47,6 @@ fn is_known(model: Model, code: u8) -> bool {
         Model::Battery => &OF_BATTERY,
     };
     OF_BOTH.contains(&code) || own.contains(&code)
-}
-
-/// The write length on the page of a code, with an id of one value byte for 0x84.
-fn write_length(code: u8) -> usize {
-    match code {
-        0xAA | 0x16 | 0x18 | 0x90 | 0x92 => 5,
-        0x10 | 0x12 | 0x14 | 0x82 | 0x86 => 6,
-        0x84 | 0x94 => 7,
-        _ => 4,
-    }
 }
 
 /// Twelve bytes that begin with a right header and make each command valid.
@@ -93,7 +72,7 @@ fn by_the_tables(model: Model, mode: Mode, code: u8, length: usize) -> Answer {
         0..=3 => Answer::TooShort,
         _ if mode == Mode::Startup => Answer::InStartup,
         _ if !is_known(model, code) => Answer::UnknownCode,
-        _ if length < write_length(code) => Answer::Missing,
+        _ if length < needed(code) => Answer::Missing,
         _ if switches || of_channels => Answer::NotNow,
         _ => Answer::Accepted,
     }
@@ -546,23 +525,11 @@ fn take(board: &mut Board, untold: &mut Untold, step: Step) {
     }
 }
 
-/// Every order of so many steps.
-fn every_order(board: &Board, untold: Untold, steps: usize) {
-    if steps == 0 {
-        return;
-    }
-    for step in STEPS {
-        let (mut board, mut untold) = (board.clone(), untold);
-        take(&mut board, &mut untold, step);
-        every_order(&board, untold, steps - 1);
-    }
-}
-
 #[test]
 fn new_of_each_is_ended_by_its_own_accepted_code_and_by_a_reset() {
-    every_order(&battery_in(Mode::Nominal), [false; 2], 4);
-    every_order(&battery_in(Mode::Safety), [false; 2], 3);
-    every_order(&battery_in(Mode::Emergency), [false; 2], 3);
+    every_order(&battery_in(Mode::Nominal), [false; 2], &STEPS, 4, take);
+    every_order(&battery_in(Mode::Safety), [false; 2], &STEPS, 3, take);
+    every_order(&battery_in(Mode::Emergency), [false; 2], &STEPS, 3, take);
 }
 
 #[test]

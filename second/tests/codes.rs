@@ -7,16 +7,6 @@ use second::board::Answer;
 use second::coverage::CODES;
 use second::mode::Mode;
 
-/// The shortest command that is long enough, with an id of one value byte for 0x84.
-fn needed(code: u8) -> usize {
-    match code {
-        0xAA | 0x16 | 0x18 | 0x90 | 0x92 => 5,
-        0x10 | 0x12 | 0x14 | 0x82 | 0x86 => 6,
-        0x84 | 0x94 => 7,
-        _ => 4,
-    }
-}
-
 /// Bytes that make each command valid: keys, a fitted channel, a known id.
 fn rest(code: u8) -> [u8; 6] {
     match code {

@@ -83,17 +83,6 @@ fn rows_apart() -> [(Conversion, Field); 5] {
     ]
 }
 
-/// STAT of the reply that waits.
-fn stat(board: &Board) -> u8 {
-    board.waiting_reply()[4]
-}
-
-/// A tick that brings words, with or without a command.
-fn bring(board: &mut Board, words: &[u16], command: Option<&[u8]>) {
-    let rail = steady(board);
-    tick_full(board, rail, 0, words, command);
-}
-
 /// The two bytes of a field in the reply that waits.
 fn bytes_at(board: &Board, at: usize) -> [u8; 2] {
     [board.waiting_reply()[at], board.waiting_reply()[at + 1]]
@@ -540,23 +529,11 @@ fn take(board: &mut Board, untold: &mut Untold, step: Step) {
     }
 }
 
-/// Every order of so many steps from here on.
-fn every_order(board: &Board, untold: Untold, steps: usize) {
-    if steps == 0 {
-        return;
-    }
-    for step in STEPS {
-        let (mut board, mut untold) = (board.clone(), untold);
-        take(&mut board, &mut untold, step);
-        every_order(&board, untold, steps - 1);
-    }
-}
-
 #[test]
 fn new_of_each_is_ended_by_its_own_accepted_code_and_by_a_reset() {
-    every_order(&nominal(), Untold::default(), 5);
-    every_order(&safety(), Untold::default(), 4);
-    every_order(&emergency(), Untold::default(), 4);
+    every_order(&nominal(), Untold::default(), &STEPS, 5, take);
+    every_order(&safety(), Untold::default(), &STEPS, 4, take);
+    every_order(&emergency(), Untold::default(), &STEPS, 4, take);
 }
 
 #[test]

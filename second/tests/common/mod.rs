@@ -146,3 +146,42 @@ pub fn emergency() -> Board {
 pub fn stored_defaults() -> [u8; SIZE] {
     *Settings::defaults(Model::Distribution).bytes()
 }
+
+/// The shortest command that is long enough by the page of its code, with an id of one value byte for 0x84.
+pub fn needed(code: u8) -> usize {
+    match code {
+        0xAA | 0x16 | 0x18 | 0x90 | 0x92 => 5,
+        0x10 | 0x12 | 0x14 | 0x82 | 0x86 => 6,
+        0x84 | 0x94 => 7,
+        _ => 4,
+    }
+}
+
+/// A tick that brings words, with or without a command.
+pub fn bring(board: &mut Board, words: &[u16], command: Option<&[u8]>) {
+    let rail = steady(board);
+    tick_full(board, rail, 0, words, command);
+}
+
+/// STAT of the reply that waits.
+pub fn stat(board: &Board) -> u8 {
+    board.waiting_reply()[4]
+}
+
+/// Takes every order of so many of the steps, each from the same board and with what the test knows of it.
+pub fn every_order<Known: Copy, Step: Copy>(
+    board: &Board,
+    known: Known,
+    steps: &[Step],
+    count: usize,
+    take: fn(&mut Board, &mut Known, Step),
+) {
+    if count == 0 {
+        return;
+    }
+    for &step in steps {
+        let (mut board, mut known) = (board.clone(), known);
+        take(&mut board, &mut known, step);
+        every_order(&board, known, steps, count - 1, take);
+    }
+}
