@@ -1,3 +1,4 @@
+pub mod Fraction
 pub mod Exact
 pub mod Line
 pub mod Words

@@ -1,32 +1,21 @@
 -- How an engineering reading lies to the exact value of Table 3-12, the fraction with PreMul (Raw + Bias) above the
--- line and PosDiv below it. A comparison of a fraction with a number is told times PosDiv, and one with a half times
--- twice that, so that all numbers are whole. `a ⇔ b` says that a and b follow from each other. Assumes nothing: this is
--- what is claimed, and proofs/Exact shows it.
-use Prim.Native.Nat.{ℕ, _*_, _%_, _≤_, _<_}
+-- line and PosDiv below it; `Fraction` says how such a result lies to its fraction. `a ⇔ b` says that a and b follow
+-- from each other. Assumes nothing: this is what is claimed, and proofs/Exact shows it.
+use Prim.Native.Nat.{ℕ, _*_, _%_}
 use mathlib.Core.Path.{_≡_}
-use mathlib.Core.Bool.{Bool, true, false}
-use lib.IntN.{ℤ, pos, natAbs, _*ℤ_}
-use lib.Signed.{leZ, ltZ}
-use Rattle.rounding.specs.Rounding.{Nearest, distance, held}
+use mathlib.Core.Bool.{true, false}
+use lib.IntN.{ℤ}
+use lib.Signed.{leZ}
+use Rattle.rounding.specs.Rounding.{distance}
 use Rattle.readings.specs.declared.apart.Raw.{Raw}
 use Rattle.readings.specs.declared.table.Row.{Row}
 use Rattle.readings.specs.declared.table.Row.the-variants.{VoltBrdsup, PduTemp, PiuTemp, VipVolt, VipCurr, ChannelCurr, VipPowe, ChannelPowe, VoltCell, BatTemp1, VoltMppt, CurrMppt}
-use Rattle.readings.specs.Table.{isVipd, numberOf, aboveTheLine, belowTheLine, nearestUnits, engineeringOf, minus}
-
-infix 20 _⇔_
-abbrev pub _⇔_ : Type 0 → Type 0 → Type 0
-A ⇔ B = (A → B) × (B → A)
+use Rattle.readings.specs.Table.{isVipd, numberOf, aboveTheLine, belowTheLine, engineeringOf}
+use Rattle.exact.specs.Fraction.{_⇔_, passesTheTop, passesTheBottom, HeldNearest}
 
 -- ---- the result, and the exact value
 abbrev pub resultOf : Row → Raw → ℤ
 resultOf row raw = engineeringOf row raw .0
-
--- the exact value lies half a unit or more above 32767, or below -32768: the nearest unit passes the end
-abbrev pub passesTheTop : Row → Raw → Bool
-passesTheTop row raw = leZ (pos (65535 * belowTheLine row)) (pos 2 *ℤ aboveTheLine row raw)
-
-abbrev pub passesTheBottom : Row → Raw → Bool
-passesTheBottom row raw = leZ (pos 2 *ℤ aboveTheLine row raw) (minus (65537 * belowTheLine row))
 
 -- ---- the raw words whose exact value lies a whole half from the next unit: none, or one in each so many, counted
 -- from 0
@@ -55,25 +44,11 @@ IsHalf (each period at place) raw = raw .0 % period ≡ place
 
 -- ---- what is claimed of a row and a raw reading
 pub record ExactReading (row : Row) (raw : Raw) : Type 0 where
-  -- whichever whole number is the nearest to the exact value, halves away from zero, the result is that one, held
-  pub nearest-held : (q : ℤ) → Nearest (aboveTheLine row raw) (belowTheLine row) q → resultOf row raw ≡ held q
-  -- not held, it lies at most half a unit from the exact value
-  pub within-half : passesTheTop row raw ≡ false → passesTheBottom row raw ≡ false
-      → 2 * distance (resultOf row raw) (aboveTheLine row raw) (belowTheLine row) ≤ belowTheLine row
-  -- and just half a unit for these words alone
-  pub at-half : passesTheTop row raw ≡ false → passesTheBottom row raw ≡ false
+  -- the result is the exact value's nearest unit, held
+  pub held-nearest : HeldNearest (aboveTheLine row raw) (belowTheLine row) (resultOf row raw)
+  -- not held, it lies just half a unit from the exact value for these words alone
+  pub at-half : passesTheTop (aboveTheLine row raw) (belowTheLine row) ≡ false → passesTheBottom (aboveTheLine row raw) (belowTheLine row) ≡ false
       → (2 * distance (resultOf row raw) (aboveTheLine row raw) (belowTheLine row) ≡ belowTheLine row) ⇔ IsHalf (halvesOf row) raw
-  -- it is held where the exact value passes an end, and then it is that end, which the nearest unit is not; and nowhere
-  -- else
-  pub top : passesTheTop row raw ≡ true → (resultOf row raw ≡ pos 32767) × (nearestUnits row raw ≡ resultOf row raw → ⊥)
-  pub bottom : passesTheBottom row raw ≡ true → (resultOf row raw ≡ minus 32768) × (nearestUnits row raw ≡ resultOf row raw → ⊥)
-  pub not-held : passesTheTop row raw ≡ false → passesTheBottom row raw ≡ false → resultOf row raw ≡ nearestUnits row raw
-  -- it is 0 where the exact value lies less than half a unit from 0, and else it has the exact value's sign
-  pub zero : (resultOf row raw ≡ pos 0) ⇔ (2 * natAbs (aboveTheLine row raw) < belowTheLine row)
-  pub above-zero : (ltZ (pos 0) (resultOf row raw) ≡ true)
-      ⇔ ((ltZ (pos 0) (aboveTheLine row raw) ≡ true) × (belowTheLine row ≤ 2 * natAbs (aboveTheLine row raw)))
-  pub below-zero : (ltZ (resultOf row raw) (pos 0) ≡ true)
-      ⇔ ((ltZ (aboveTheLine row raw) (pos 0) ≡ true) × (belowTheLine row ≤ 2 * natAbs (aboveTheLine row raw)))
 
 -- ---- a larger raw value never gives a smaller result
 pub record NeverSmaller (row : Row) (a b : Raw) : Type 0 where
