@@ -53,18 +53,17 @@ fn leaves_emergency(before: Mode, after: Mode) -> bool
     }
 }
 
-// The channels after the mode went from one to another, or stayed.
-pub fn entering(before: Mode, after: Mode, p: Profile, c: Channels) -> Channels
+// The channels after the mode went from one to another, or stayed. Each case changes them in place, and they leave at
+// one place only: where every case has a way out of its own, the compiler copies their counts in each of them.
+pub fn entering(before: Mode, after: Mode, p: Profile, mut c: Channels) -> Channels
     ensures { λ r. ⌜ r ≡ enteringOf before after p c ⌝ }
 {
     if is_dark(after) {
-        return c.all_off();
-    }
-    if is_dark(before) {
-        return c.forced_on(p.fitted, p.forced);
-    }
-    if from_nominal_to_safety(before, after) {
-        return c.command_enabled_off(p.fitted, p.forced);
+        c = c.all_off();
+    } else if is_dark(before) {
+        c = c.forced_on(p.fitted, p.forced);
+    } else if from_nominal_to_safety(before, after) {
+        c = c.command_enabled_off(p.fitted, p.forced);
     }
     c
 }

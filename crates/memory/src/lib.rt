@@ -99,19 +99,17 @@ impl Memory {
         Memory::loaded(kind, self.store)
     }
 
-    // 0x90: every setting at its default on the kind of board; the store stays.
+    // 0x90: every setting at its default on the kind of board; the store stays. They come from `loaded`, as where
+    // nothing is stored: were they written here, one by one, the compiler would take the memory of every tick apart.
     pub fn to_defaults(self, kind: Kind) -> Memory
         ensures { λ r. ⌜ r ≡ defaultedOf kind self ⌝ }
     {
         let store = self.store;
-        Memory {
-            current: settings::defaults(kind),
-            store,
-            shown: Shown {
-                save_count: 0,
-                checksum: 0,
-            },
-        }
+        let mut emptied = self.store;
+        emptied.held = false;
+        let mut fresh = Memory::loaded(kind, emptied);
+        fresh.store = store;
+        fresh
     }
 
     // 0x84: one setting at a value.

@@ -223,7 +223,6 @@ fn set_int8(mut s: Settings, id: u16, x: i8) -> Settings
     if is_from_to(id, 0x1000, 0x1014) {
         let i = (id - 0x1000) as usize;
         s.i8s[i] = x;
-        return s;
     }
     s
 }
@@ -235,7 +234,6 @@ fn set_uint8(mut s: Settings, id: u16, x: u8) -> Settings
     if is_from_to(id, 0x2000, 0x2002) {
         let i = (id - 0x2000) as usize;
         s.u8s[i] = x;
-        return s;
     }
     s
 }
@@ -248,7 +246,6 @@ fn set_int16(mut s: Settings, id: u16, x: i16) -> Settings
     if is_from_to(id, 0x3000, 0x3029) {
         let i = (id - 0x3000) as usize;
         s.i16s[i] = clamp_int16(i, x);
-        return s;
     }
     s
 }
@@ -261,7 +258,6 @@ fn set_uint16(mut s: Settings, id: u16, x: u16) -> Settings
     if is_from_to(id, 0x4000, 0x4043) {
         let i = (id - 0x4000) as usize;
         s.u16s[i] = clamp_uint16(i, x);
-        return s;
     }
     s
 }
@@ -274,7 +270,6 @@ fn set_uint32(mut s: Settings, id: u16, x: u32) -> Settings
     if is_from_to(id, 0x6000, 0x6005) {
         let i = (id - 0x6000) as usize;
         s.u32s[i] = x;
-        return s;
     }
     s
 }

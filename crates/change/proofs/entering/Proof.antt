@@ -45,11 +45,11 @@ entering-spec =
     (tie.spec
     is-dark-requires
     all-off-requires
-    returns
     is-dark-requires-2
     forced-on-requires
-    returns-2
     from-nominal-to-safety-requires
     command-enabled-off-requires
+    returns
+    returns-2
     returns-3
     returns-4)
