@@ -26,19 +26,37 @@ pub struct Profile<'a> {
     pub forced: u32,
     /// Whether the ABF is placed; only a battery board has one.
     pub abf: bool,
+    /// Whether it names raw. One that names nothing has ASCII form.
+    pub names_raw: bool,
     /// Save count and read/write values, lowest id first.
     pub stored: Option<(u16, &'a [u8; SIZE])>,
 }
 
 impl Profile<'_> {
-    /// A distribution board with nothing stored.
+    /// A new profile of a distribution board: nothing is stored, and it names no form.
     pub const fn distribution(bid: u8, fitted: u32, forced: u32) -> Profile<'static> {
-        Profile { model: Model::Distribution, bid, fitted, forced, abf: false, stored: None }
+        let model = Model::Distribution;
+        Profile { model, bid, fitted, forced, abf: false, names_raw: false, stored: None }
     }
 
-    /// A battery board with nothing stored.
+    /// A new profile of a battery board: nothing is stored, and it names no form.
     pub const fn battery(bid: u8, abf: bool) -> Profile<'static> {
-        Profile { model: Model::Battery, bid, fitted: 0, forced: 0, abf, stored: None }
+        let model = Model::Battery;
+        Profile { model, bid, fitted: 0, forced: 0, abf, names_raw: false, stored: None }
+    }
+
+    /// The same profile, but it names raw.
+    pub const fn naming_raw(self) -> Self {
+        Profile { names_raw: true, ..self }
+    }
+
+    /// The form in which its board starts, and to which a reset leads back.
+    pub const fn form(&self) -> Form {
+        if self.names_raw {
+            Form::Raw
+        } else {
+            Form::Ascii
+        }
     }
 }
 
@@ -147,6 +165,9 @@ pub struct Board {
     pub(crate) reply: Reply,
     /// Whether the reply that waits was made in the latest tick.
     pub(crate) replied: bool,
+    /// The form that the profile has.
+    pub(crate) form_of_profile: Form,
+    /// The form in force.
     pub(crate) form: Form,
 }
 
@@ -171,7 +192,8 @@ impl Board {
             engineering_is_new: false,
             reply: Reply::none(),
             replied: false,
-            form: Form::Raw,
+            form_of_profile: profile.form(),
+            form: profile.form(),
         };
         board.load();
         Ok(board)
@@ -263,7 +285,7 @@ impl Board {
         self.load();
         self.reply.discard();
         self.replied = false;
-        self.form = Form::Raw;
+        self.form = self.form_of_profile;
         self.cause = cause;
     }
 
@@ -380,7 +402,12 @@ impl Board {
         &self.words[..self.model.words()]
     }
 
-    /// The form of the text line.
+    /// The form that the profile has: a switch leaves it alone.
+    pub fn form_of_profile(&self) -> Form {
+        self.form_of_profile
+    }
+
+    /// The form of the text line that is in force.
     pub fn form(&self) -> Form {
         self.form
     }

@@ -164,7 +164,7 @@ struct Course {
 impl Course {
     /// A board that has just left startup, with nothing in the digest yet.
     fn new() -> Course {
-        let profile = Profile::distribution(BID, FITTED, FORCED);
+        let profile = Profile::distribution(BID, FITTED, FORCED).naming_raw();
         let mut board = Board::start(&profile).expect("the profile breaks no rule");
         for _ in 0..WAKING {
             let plain = Tick { rail: RAIL, overcurrent: 0, words: &[], command: None };

@@ -23,12 +23,33 @@ const UNTOUCHED: u8 = 0xEE;
 /// that it was parsed into.
 #[derive(Clone, Copy, Debug, PartialEq, Eq)]
 pub enum Line {
-    Start { model: Model, bid: u8, fitted: u32, forced: u32, abf: bool, save_count: Option<u16> },
-    Words { count: usize },
-    Tick { rail: i16, overcurrent: u32, command: Option<usize> },
-    Read { length: usize },
-    Text { scratch: usize, received: usize },
-    Frame { length: usize },
+    Start {
+        model: Model,
+        bid: u8,
+        fitted: u32,
+        forced: u32,
+        abf: bool,
+        names_raw: bool,
+        save_count: Option<u16>,
+    },
+    Words {
+        count: usize,
+    },
+    Tick {
+        rail: i16,
+        overcurrent: u32,
+        command: Option<usize>,
+    },
+    Read {
+        length: usize,
+    },
+    Text {
+        scratch: usize,
+        received: usize,
+    },
+    Frame {
+        length: usize,
+    },
     Show,
 }
 
@@ -58,14 +79,15 @@ pub fn parse(line: &[u8], bytes: &mut Bytes) -> Option<Line> {
     }
 }
 
-/// The fields of `B`, and with room for stored values those of `P`.
+/// The fields of `B`, and with room for stored values those of `P`. Both name raw.
 fn parse_start<'a>(
     fields: &mut impl Iterator<Item = &'a [u8]>,
     stored: Option<&mut Bytes>,
 ) -> Option<Line> {
     let (bid, fitted, forced) = parse_profile(fields)?;
     let save_count = parse_stored(fields, stored)?;
-    Some(Line::Start { model: Model::Distribution, bid, fitted, forced, abf: false, save_count })
+    let (model, abf, names_raw) = (Model::Distribution, false, true);
+    Some(Line::Start { model, bid, fitted, forced, abf, names_raw, save_count })
 }
 
 /// The fields of `Q`, and with room for stored values those of `V`.
@@ -76,11 +98,9 @@ fn parse_start_of<'a>(
     let model = Model::of_stid(hex::number(fields.next()?, 2)? as u8)?;
     let (bid, fitted, forced) = parse_profile(fields)?;
     let abf = parse_options(fields.next()?)?;
-    if fields.next()? != b"R" {
-        return None;
-    }
+    let names_raw = parse_form(fields.next()?)?;
     let save_count = parse_stored(fields, stored)?;
-    Some(Line::Start { model, bid, fitted, forced, abf, save_count })
+    Some(Line::Start { model, bid, fitted, forced, abf, names_raw, save_count })
 }
 
 /// BID, fitted set and forced set.
@@ -96,6 +116,15 @@ fn parse_options(digit: &[u8]) -> Option<bool> {
     match digit {
         b"0" | b"2" => Some(false),
         b"1" | b"3" => Some(true),
+        _ => None,
+    }
+}
+
+/// Whether the profile names raw; `-` names nothing.
+fn parse_form(form: &[u8]) -> Option<bool> {
+    match form {
+        b"R" => Some(true),
+        b"-" => Some(false),
         _ => None,
     }
 }
@@ -212,9 +241,10 @@ impl Replay {
 
     /// Takes one line of a form and appends the one it prints, without its LF.
     pub fn run(&mut self, line: &Line, bytes: &Bytes, out: &mut Vec<u8>) {
-        if let Line::Start { model, bid, fitted, forced, abf, save_count } = *line {
+        if let Line::Start { model, bid, fitted, forced, abf, names_raw, save_count } = *line {
             let stored = save_count.zip(bytes.first_chunk());
-            return self.start(&Profile { model, bid, fitted, forced, abf, stored }, out);
+            let profile = Profile { model, bid, fitted, forced, abf, names_raw, stored };
+            return self.start(&profile, out);
         }
         let Some(board) = &mut self.board else {
             return bad(out);

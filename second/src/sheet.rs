@@ -89,7 +89,7 @@ pub fn bench(input: &[u8]) -> Vec<u8> {
 /// The form of the whole sheet comes before the profile in it.
 pub fn run(input: &[u8]) -> Result<Vec<u8>, SheetRefusal> {
     let sheet = parse(input).map_err(SheetRefusal::Form)?;
-    let profile = Profile::distribution(sheet.bid, sheet.fitted, sheet.forced);
+    let profile = Profile::distribution(sheet.bid, sheet.fitted, sheet.forced).naming_raw();
     let board = Board::start(&profile).map_err(SheetRefusal::Profile)?;
     Ok(transcript(board, &sheet, input))
 }

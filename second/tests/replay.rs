@@ -318,18 +318,23 @@ fn starts_of_either_board() {
     }
 }
 
-/// Nearly of the forms of `Q` and `V`, or of a board or a form that has not come.
-const NO_START: [&str; 30] = [
+/// Nearly of the forms of `Q` and `V`, or of a board that has not come.
+const NO_START: [&str; 35] = [
     "Q",
     "V",
     "Q 12 01 00000000 00000000 1",
     "Q 12 01 00000000 00000000 1 ",
     "Q 12 01 00000000 00000000 1 R ",
     "Q 12 01 00000000 00000000 1 R 0000",
-    "Q 12 01 00000000 00000000 1 -",
+    "Q 12 01 00000000 00000000 1  ",
+    "Q 12 01 00000000 00000000 1 0",
+    "Q 12 01 00000000 00000000 1 a",
     "Q 12 01 00000000 00000000 1 r",
     "Q 12 01 00000000 00000000 1 A",
     "Q 12 01 00000000 00000000 1 RR",
+    "Q 12 01 00000000 00000000 1 --",
+    "Q 12 01 00000000 00000000 1 R-",
+    "Q 12 01 00000000 00000000 1 - -",
     "Q 12 01 00000000 00000000 4 R",
     "Q 12 01 00000000 00000000 A R",
     "Q 12 01 00000000 00000000 - R",
@@ -362,7 +367,9 @@ fn starts_not_of_a_form_are_bad_and_leave_the_board() {
     let stored = defaults_of(Model::Battery);
     for line in [
         format!("V 1A 01 00000001 00000000 1 R 0001 {stored}"),
-        format!("V 12 01 00000000 00000000 1 - 0001 {stored}"),
+        format!("V 12 01 00000000 00000000 1 A 0001 {stored}"),
+        format!("V 12 01 00000000 00000000 1   0001 {stored}"),
+        format!("V 12 01 00000000 00000000 1 -- 0001 {stored}"),
         format!("V 12 01 00000000 00000000 4 R 0001 {stored}"),
         format!("V 12 01 00000000 00000000 1 R 001 {stored}"),
         format!("V 12 01 00000000 00000000 1 R 0001 {stored} "),
@@ -435,4 +442,43 @@ fn the_state_line_of_a_battery_board() {
     assert_eq!(script.field(11), "120745018000ABAB");
     assert_eq!(script.say("R 0009"), "120745018000ABABFF");
     assert_eq!(script.say("F 0015"), "written 0015 3C7273703E120745018000ABAB3C2F7273703E0D0A");
+}
+
+#[test]
+fn a_start_names_raw_or_nothing() {
+    let mut script = Script::new();
+    let distribution = format!("0001 {}", defaults());
+    let battery = format!("0001 {}", defaults_of(Model::Battery));
+    for (line, form) in [
+        ("B 01 00000003 00000001".to_string(), "R"),
+        (format!("P 01 00000003 00000001 {distribution}"), "R"),
+        ("Q 11 01 00000003 00000001 0 -".to_string(), "A"),
+        ("Q 11 01 00000003 00000001 0 R".to_string(), "R"),
+        ("Q 12 01 00000000 00000000 1 -".to_string(), "A"),
+        ("Q 12 01 00000000 00000000 1 R".to_string(), "R"),
+        (format!("V 11 01 00000003 00000001 0 - {distribution}"), "A"),
+        (format!("V 11 01 00000003 00000001 0 R {distribution}"), "R"),
+        (format!("V 12 01 00000000 00000000 1 - {battery}"), "A"),
+        (format!("V 12 01 00000000 00000000 1 R {battery}"), "R"),
+    ] {
+        assert_eq!(script.say(&line), "ok", "{line}");
+        assert_eq!(script.field(0), form, "{line}");
+    }
+}
+
+#[test]
+fn a_refused_start_leaves_the_form_and_the_profile() {
+    for (sound, refused, form) in [("R", "-", "R"), ("-", "R", "A")] {
+        let mut script = Script::new();
+        assert_eq!(script.say(&format!("Q 11 01 00000003 00000001 0 {sound}")), "ok");
+        for _ in 0..50 {
+            script.say("T 3A98 00000000 -");
+        }
+        for start in ["Q 11 09 00000003 00000001 0", "Q 12 01 00000001 00000000 1"] {
+            assert_eq!(script.say(&format!("{start} {refused}")), "refused 8");
+            assert_eq!(script.field(0), form);
+        }
+        assert!(script.say("T 3A98 00000000 1107AA01A6").starts_with("U "));
+        assert_eq!(script.field(0), form);
+    }
 }

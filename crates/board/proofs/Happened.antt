@@ -1,5 +1,6 @@
 -- A tick that happens tells that it had no transfer, or the transfer's answer, and never 9; the reply that it leaves as
--- its own is one that it made; and it leaves the form of the text line, but for a reset. Assumes nothing.
+-- its own is one that it made; and it leaves the profile, and but for a reset the form of the text line. Assumes
+-- nothing.
 use Prim.Native.Nat.{ℕ}
 use mathlib.Core.Path.{_≡_, refl, ap, sym, subst, _∙_}
 use mathlib.Core.Bool.{Bool, true, false, cond, not, false≢true}
@@ -11,6 +12,8 @@ use lib.IntN.{ℤ}
 use lib.ListN.{length}
 use Rattle.laws.proofs.Cases.{cases}
 use Rattle.modes.specs.Commands.{toSafety, toNominal}
+use Rattle.modes.specs.Table.{entered}
+use Rattle.modes.specs.declared.Mode.the-variants.{Startup}
 use Rattle.modes.specs.declared.Limits.{Limits}
 use Rattle.modes.specs.declared.ModeAnswer as change
 use Rattle.watchdog.specs.Watchdog as dog
@@ -26,10 +29,11 @@ use Rattle.command.specs.declared.Decoded.the-variants.{Run, Refused}
 use Rattle.memory.specs.Limits.{timeoutOf, limitsOf}
 use Rattle.memory.specs.Memory.{savedOf}
 use Rattle.wire.specs.declared.reply.Reply.{Reply}
-use Rattle.wire.specs.declared.forms.Form.the-variants.{Raw}
+use Rattle.wire.specs.declared.forms.Form.{Form}
 use Rattle.state.specs.Parts.{wordCount, modeOf, withReply}
 use Rattle.state.specs.Start.{freshOf, commandResetOf, watchdogResetOf}
 use Rattle.state.specs.declared.parts.Board.{Board}
+use Rattle.state.specs.declared.parts.Profile.{Profile}
 use Rattle.answers.specs.Answers.{answerNumber, toldNumber, acceptedWith, acceptedOf, refusedOf, notThisBoardOf}
 use Rattle.answers.specs.declared.Answer.{Answer}
 use Rattle.answers.specs.declared.Answer.the-variants.{Accepted, FewerThanFourBytes, InStartup, NotThisBoard, CodeNotListed, TooShort, NotAvailable, Wrong}
@@ -43,18 +47,22 @@ use Rattle.commands.proofs.Told.{stepwise, numbered}
 use Rattle.board.specs.Tick.{risenOf, changedOf, trippedOf, watchedAs, watchedIn, tickWith, allowedCount, tickOf, tickNumber}
 use Rattle.board.specs.declared.Ticked.{Ticked}
 
+-- what every command but a reset leaves: the form of the text line, and the profile
+abbrev lasting : Board → Form × Profile
+lasting b = (b .form, b .profile)
+
 -- ---- every transfer is answered. Where a reply is made it is the same whatever reply r waited before; the form of the
--- text line stays, but for a reset by command
+-- text line and the profile stay, but for a reset by command
 record Answers (b : Board) (c other : Commanded) : Type 0 where
   answer : Answer
   told-so : c .outcome ≡ Answered answer
   own-reply : c .replied ≡ true → c .board .reply ≡ other .board .reply
-  form-kept : (c .board .form ≡ b .form) ⊎ (c .board ≡ commandResetOf b)
+  form-kept : (lasting (c .board) ≡ lasting b) ⊎ (c .board ≡ commandResetOf b)
 
-replies : {b : Board} {c other : Commanded} (answer : Answer) → c .outcome ≡ Answered answer → c .board .reply ≡ other .board .reply → c .board .form ≡ b .form → Answers b c other
+replies : {b : Board} {c other : Commanded} (answer : Answer) → c .outcome ≡ Answered answer → c .board .reply ≡ other .board .reply → lasting (c .board) ≡ lasting b → Answers b c other
 replies answer t r f = record { answer = answer; told-so = t; own-reply = λ e. r; form-kept = inl f }
 
-silent : {b : Board} {c other : Commanded} (answer : Answer) → c .outcome ≡ Answered answer → c .replied ≡ false → c .board .form ≡ b .form → Answers b c other
+silent : {b : Board} {c other : Commanded} (answer : Answer) → c .outcome ≡ Answered answer → c .replied ≡ false → lasting (c .board) ≡ lasting b → Answers b c other
 silent answer t q f = record { answer = answer; told-so = t; own-reply = λ e. absurd (false≢true (sym q ∙ e)); form-kept = inl f }
 
 either : (t : Bool) {b : Board} {x y x′ y′ : Commanded} → Answers b x x′ → Answers b y y′ → Answers b (cond t x y) (cond t x′ y′)
@@ -193,15 +201,32 @@ unfolding commandedOf
 made-in r rail limits s b false e = absurd (false≢true e)
 made-in r rail limits s b true e = transferred r rail limits s b .own-reply e
 
--- a reset by command is in raw form
-formed-in : (rail : ℤ) (limits : Limits) (s : List ℕ) (b : Board) (sent : Bool) → (commandedOf rail limits sent s b .board .form ≡ b .form) ⊎ (commandedOf rail limits sent s b .board .form ≡ Raw)
-unfolding commandedOf commandResetOf freshOf
+-- a command leaves the form and the profile, or is a reset
+formed-in : (rail : ℤ) (limits : Limits) (s : List ℕ) (b : Board) (sent : Bool) → (lasting (commandedOf rail limits sent s b .board) ≡ lasting b) ⊎ (commandedOf rail limits sent s b .board ≡ commandResetOf b)
+unfolding commandedOf
 formed-in rail limits s b false = inl refl
-formed-in rail limits s b true =
+formed-in rail limits s b true = transferred (b .reply) rail limits s b .form-kept
+
+-- so no command alters the profile, a reset neither
+pub command-profile : (rail : ℤ) (limits : Limits) (s : List ℕ) (b : Board) (sent : Bool) → commandedOf rail limits sent s b .board .profile ≡ b .profile
+unfolding commandResetOf freshOf
+command-profile rail limits s b sent =
     ⊎-elim
-    (λ (e : transferredOf rail limits s b .board .form ≡ b .form). inl e)
-    (λ (e : transferredOf rail limits s b .board ≡ commandResetOf b). inr (ap (λ (x : Board). x .form) e))
-    (transferred (b .reply) rail limits s b .form-kept)
+    (λ (e : lasting (commandedOf rail limits sent s b .board) ≡ lasting b). ap (λ (x : Form × Profile). x .1) e)
+    (λ (e : commandedOf rail limits sent s b .board ≡ commandResetOf b). ap (λ (x : Board). x .profile) e)
+    (formed-in rail limits s b sent)
+
+-- a board in the form of the one before it, or started over in its profile's
+abbrev pub InForm : Board → Board → Type 0
+InForm b after = (after .form ≡ b .form) ⊎ ((after .phase ≡ entered Startup) × (after .form ≡ b .profile .form))
+
+command-form : (rail : ℤ) (limits : Limits) (s : List ℕ) (b : Board) (sent : Bool) → InForm b (commandedOf rail limits sent s b .board)
+unfolding commandResetOf freshOf
+command-form rail limits s b sent =
+    ⊎-elim
+    (λ (e : lasting (commandedOf rail limits sent s b .board) ≡ lasting b). inl (ap (λ (x : Form × Profile). x .0) e))
+    (λ (e : commandedOf rail limits sent s b .board ≡ commandResetOf b). inr (ap (λ (x : Board). x .phase) e, ap (λ (x : Board). x .form) e))
+    (formed-in rail limits s b sent)
 
 module _ (rail : ℤ) (named : ℕ) (words : List ℕ) (sent : Bool) (s : List ℕ) (b : Board) (allowed : allowedCount (wordCount b) (length words) ≡ true) where
   -- the board as the command finds it
@@ -225,21 +250,22 @@ module _ (rail : ℤ) (named : ℕ) (words : List ℕ) (sent : Bool) (s : List �
       watching PeripheralReset c e m = m e
       watching WatchdogReset c e m = absurd (false≢true e)
 
-  -- the form stays, or is raw; it is raw after a reset by the watchdog
-  pub form-after : (tickOf rail named words sent s b .board .form ≡ b .form) ⊎ (tickOf rail named words sent s b .board .form ≡ Raw)
+  -- the profile stays
+  pub profile-after : tickOf rail named words sent s b .board .profile ≡ b .profile
   unfolding tickOf tickWith watchedIn risenOf changedOf trippedOf watchdogResetOf freshOf
-  form-after = rw allowed (watching happening obeyed (formed-in rail (limitsOf (b .memory)) s found sent))
+  profile-after = rw allowed (watching happening obeyed (command-profile rail (limitsOf (b .memory)) s found sent))
     where
-      watching : (w : Event) (c : Commanded) → (c .board .form ≡ b .form) ⊎ (c .board .form ≡ Raw) → (watchedAs w c .board .form ≡ b .form) ⊎ (watchedAs w c .board .form ≡ Raw)
-      watching NoEvent c f = f
-      watching PeripheralReset c f = f
-      watching WatchdogReset c f = inr refl
+      watching : (w : Event) (c : Commanded) → c .board .profile ≡ b .profile → watchedAs w c .board .profile ≡ b .profile
+      watching NoEvent c p = p
+      watching PeripheralReset c p = p
+      watching WatchdogReset c p = p
 
-  pub reset-form : tickOf rail named words sent s b .event ≡ WatchdogReset → tickOf rail named words sent s b .board .form ≡ Raw
-  unfolding tickOf tickWith watchedIn watchdogResetOf freshOf
-  reset-form e = rw allowed (watching happening obeyed (rw allowed at e))
+  -- the form stays, or the board starts over in the profile's
+  pub form-after : InForm b (tickOf rail named words sent s b .board)
+  unfolding tickOf tickWith watchedIn risenOf changedOf trippedOf watchdogResetOf freshOf
+  form-after = rw allowed (watching happening obeyed (command-form rail (limitsOf (b .memory)) s found sent) (command-profile rail (limitsOf (b .memory)) s found sent))
     where
-      watching : (w : Event) (c : Commanded) → watchedAs w c .event ≡ WatchdogReset → watchedAs w c .board .form ≡ Raw
-      watching NoEvent c e = let z : _≡_ {A = ℕ} 0 1 = cc in absurd (omega arith)
-      watching PeripheralReset c e = let z : _≡_ {A = ℕ} 0 1 = cc in absurd (omega arith)
-      watching WatchdogReset c e = refl
+      watching : (w : Event) (c : Commanded) → InForm b (c .board) → c .board .profile ≡ b .profile → InForm b (watchedAs w c .board)
+      watching NoEvent c f p = f
+      watching PeripheralReset c f p = f
+      watching WatchdogReset c f p = inr (refl, ap (λ (x : Profile). x .form) p)

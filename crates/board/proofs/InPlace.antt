@@ -76,8 +76,8 @@ pub one-sent : {rail rail′ : ℤ} {limits limits′ : Limits} (sent : Bool) (s
     → _≡_ {A = Commanded} (record { board = board; outcome = outcome; replied = replied }) (commandedOf rail limits sent s b)
 one-sent sent s c board outcome replied re le be made e f g = rw (e, f, g, ← re, ← le, ← be) made
 
--- a transfer is looked at only in a tick that happens; where none is, the tick tells that there was none, or that it did
--- not happen
+-- a transfer is looked at only in a tick that happens; where none is, the tick tells that there was none, or that it
+-- did not happen
 abbrev pub notHeard : Board → Commanded
 notHeard b = record { board = b; outcome = WrongWordCount; replied = false }
 

@@ -174,5 +174,5 @@ module _ (rail : ℤ) (limits : Limits) (s : List ℕ) (b : Board) where
   -- the whole step
   pub takes : (sent : Bool) → Takes (commandedOf rail limits sent s b)
   unfolding commandedOf
-  takes false = leaving refl (record { phase = refl; memory = refl; channels = refl; profile = refl })
+  takes false = leaving refl (record { phase = refl; memory = refl; channels = refl })
   takes true = taken (does rail limits s b)

@@ -42,19 +42,18 @@ use Rattle.commands.proofs.Stepwise.{turnedDown, decodedOf, steppedOf}
 use Rattle.commands.proofs.Told.{stepwise}
 
 -- ---- what can become of a board
--- it has this phase and these channels, and its own profile
-pub record Becomes (next : ModeAge) (s : Channels) (b c : Board) : Type 0 where
-  pub profile : c .profile ≡ b .profile
+-- it has this phase and these channels
+pub record Becomes (next : ModeAge) (s : Channels) (c : Board) : Type 0 where
   pub phase : c .phase ≡ next
   pub channels : c .channels ≡ s
 
 -- mode and channels stay
 abbrev pub Stays : Board → Board → Type 0
-Stays b c = Becomes (b .phase) (b .channels) b c
+Stays b c = Becomes (b .phase) (b .channels) c
 
 -- a change of mode that was asked for, with what it brings for the channels; where it is not available they stay
 abbrev pub Changes : change.ModeAnswer → Board → Board → Type 0
-Changes (change.ModeAnswer.Accepted next) b c = Becomes next (enteringOf (modeOf b) (next .mode) (b .profile) (b .channels)) b c
+Changes (change.ModeAnswer.Accepted next) b c = Becomes next (enteringOf (modeOf b) (next .mode) (b .profile) (b .channels)) c
 Changes change.ModeAnswer.Unavailable b c = Stays b c
 
 -- the channels after a command on them
@@ -87,8 +86,8 @@ pub data Does (rail : ℤ) (limits : Limits) (d : Decoded) (ask : small.Command)
   idles : isStartup (modeOf b) ≡ true → Stays b (c .board) → Does rail limits d ask b c
   leaves-both : ask ≡ small.other → Stays b (c .board) → Does rail limits d ask b c
   refuses : ask ≡ small.switchOn → Stays b (c .board) → Does rail limits d ask b c
-  switches : ask ≡ small.switchOn → modeOf b ≡ Nominal → (o : of-channels.Command) → Becomes (b .phase) (obeying o b) b (c .board) → Does rail limits d ask b c
-  cancels : ask ≡ small.other → Becomes (b .phase) (obeying of-channels.command-enabled-off b) b (c .board) → Does rail limits d ask b c
+  switches : ask ≡ small.switchOn → modeOf b ≡ Nominal → (o : of-channels.Command) → Becomes (b .phase) (obeying o b) (c .board) → Does rail limits d ask b c
+  cancels : ask ≡ small.other → Becomes (b .phase) (obeying of-channels.command-enabled-off b) (c .board) → Does rail limits d ask b c
   to-safety : ask ≡ small.switchToSafety → Changes (toSafety (b .phase)) b (c .board) → Does rail limits d ask b c
   to-nominal : ask ≡ small.switchToNominal → Changes (toNominal (b .phase) rail limits) b (c .board) → Does rail limits d ask b c
   restarts : d ≡ Run Command.SystemReset → c .outcome ≡ Answered Accepted → c .board ≡ commandResetOf b → Does rail limits d ask b c
@@ -108,22 +107,22 @@ module _ (rail : ℤ) (limits : Limits) (b : Board) where
 
   -- the board itself
   stays : Stays b b
-  stays = record { profile = refl; phase = refl; channels = refl }
+  stays = record { phase = refl; channels = refl }
 
   -- a refusal alters neither
   refused : (a : Answer) (code : ℕ) → Stays b (refusedOf a code b .board)
   unfolding refusedOf
-  refused a code = record { profile = refl; phase = refl; channels = refl }
+  refused a code = record { phase = refl; channels = refl }
 
   -- a command that alters neither, whatever its reply
   accepted : (reply : Reply) → Stays b (acceptedWith reply b .board)
   unfolding acceptedWith
-  accepted reply = record { profile = refl; phase = refl; channels = refl }
+  accepted reply = record { phase = refl; channels = refl }
 
   -- 0x84, 0x86, 0x90, 0x92, and 0x94, whose checksum may be wrong: other settings, at most
   remembers : (reply : Reply) (x : Memory) → Stays b (acceptedWith reply (withMemory x b) .board)
   unfolding acceptedWith
-  remembers reply x = record { profile = refl; phase = refl; channels = refl }
+  remembers reply x = record { phase = refl; channels = refl }
 
   -- a save stores the settings, or is refused for its checksum
   saved : (code given : ℕ) → Stays b (savedIn code given b .board)
@@ -131,9 +130,9 @@ module _ (rail : ℤ) (limits : Limits) (b : Board) where
   saved code given = cases (savedOf given (b .memory) .right) (λ e. rw e (remembers _ (savedOf given (b .memory) .memory))) (λ e. rw e (refused Answer.Wrong code))
 
   -- accepted, with these channels put in place
-  takes : (code : ℕ) (s : Channels) → Becomes (b .phase) s b (acceptedOf code (withChannels s b) .board)
+  takes : (code : ℕ) (s : Channels) → Becomes (b .phase) s (acceptedOf code (withChannels s b) .board)
   unfolding acceptedOf acceptedWith
-  takes code s = record { profile = refl; phase = refl; channels = refl }
+  takes code s = record { phase = refl; channels = refl }
 
   -- the five on channels
   switched : (d : Decoded) → asked d ≡ small.switchOn → (code : ℕ) (right : Bool) (o : of-channels.Command) → DoesIt d (switchedOf code right (obeying o b) b)
@@ -146,13 +145,13 @@ module _ (rail : ℤ) (limits : Limits) (b : Board) where
   -- the two on the mode
   switched-mode : (code : ℕ) (c : change.ModeAnswer) → Changes c b (switchedModeOf code c b .board)
   unfolding switchedModeOf acceptedOf acceptedWith
-  switched-mode code (change.ModeAnswer.Accepted next) = record { profile = refl; phase = refl; channels = refl }
+  switched-mode code (change.ModeAnswer.Accepted next) = record { phase = refl; channels = refl }
   switched-mode code change.ModeAnswer.Unavailable = refused Answer.NotAvailable code
 
   -- 0x50 and 0x52 forget that the words are new
   measured : (reply : Reply) (m : Measured) → Stays b (acceptedWith reply (withMeasured m b) .board)
   unfolding acceptedWith
-  measured reply m = record { profile = refl; phase = refl; channels = refl }
+  measured reply m = record { phase = refl; channels = refl }
 
   -- a command that only has something told
   reported : (code : ℕ) (layout : Layout) → Stays b (reportedOf code layout b .board)
@@ -190,7 +189,7 @@ module _ (rail : ℤ) (limits : Limits) (b : Board) where
   unfolding turnedDown notThisBoardOf
   turned-down code Refusal.FewerThanFourBytes = leaves-both refl stays
   turned-down code Refusal.InStartup = leaves-both refl stays
-  turned-down code Refusal.NotThisBoard = leaves-both refl (record { profile = refl; phase = refl; channels = refl })
+  turned-down code Refusal.NotThisBoard = leaves-both refl (record { phase = refl; channels = refl })
   turned-down code Refusal.CodeNotListed = leaves-both refl (refused Answer.CodeNotListed code)
   turned-down code Refusal.TooShort = leaves-both refl (refused Answer.TooShort code)
   turned-down code Refusal.WrongKey = leaves-both refl (refused Answer.Wrong code)

@@ -63,7 +63,7 @@ module _ (k : ℕ) (h : k < 32) where
   still-off false x e = e
 
   -- so a channel that is off stays off by it
-  cancelled : (b c : Board) → Becomes (b .phase) (obeying of-channels.command-enabled-off b) b c → OffInTheDark k b → OffInTheDark k c
+  cancelled : (b c : Board) → Becomes (b .phase) (obeying of-channels.command-enabled-off b) c → OffInTheDark k b → OffInTheDark k c
   cancelled b c q w =
       rw (q .phase, q .channels)
       (λ d.
@@ -71,7 +71,7 @@ module _ (k : ℕ) (h : k < 32) where
       ∙ still-off (commandEnabled (has (b .profile .fitted) k) (has (b .profile .forced) k)) (chan (b .channels) k) (w d))
 
   -- nominal is not dark
-  lit : (b c : Board) (s : Channels) → modeOf b ≡ Nominal → Becomes (b .phase) s b c → OffInTheDark k c
+  lit : (b c : Board) (s : Channels) → modeOf b ≡ Nominal → Becomes (b .phase) s c → OffInTheDark k c
   unfolding isDark
   lit b c s n q = rw (q .phase, n) (λ d. absurd (false≢true d))
 

@@ -142,7 +142,7 @@ module _ (s : ModeAge) where
 -- ---- the step at channel k
 module _ (k : ℕ) (b : Board) (fe : ForceEnabledBy (b .profile) k) where
   -- channels in which channel k is as it was
-  moved : (next : ModeAge) (s : Channels) (c : Board) → Becomes next s b c → chan s k ≡ chan (b .channels) k → Moved k next b c
+  moved : (next : ModeAge) (s : Channels) (c : Board) → Becomes next s c → chan s k ≡ chan (b .channels) k → Moved k next b c
   moved next s c q e =
       record {
         phase = q .phase;
@@ -151,7 +151,7 @@ module _ (k : ℕ) (b : Board) (fe : ForceEnabledBy (b .profile) k) where
       }
 
   -- channels in which channel k was switched on
-  lighted : (s : Channels) (c : Board) → modeOf b ≡ Nominal → Becomes (b .phase) s b c → chan s k ≡ onAndCleared (chan (b .channels) k) → Lit k b c
+  lighted : (s : Channels) (c : Board) → modeOf b ≡ Nominal → Becomes (b .phase) s c → chan s k ≡ onAndCleared (chan (b .channels) k) → Lit k b c
   lighted s c n q e =
       record {
         nominal = n;

@@ -48,7 +48,8 @@ pub boundary : (more : ℕ)
 unfolding decodeOf fewerThanFour headerIs isIn listed carried find commandTable
 boundary more = refl
 
--- ---- a NOOP (0x02), a cancel (0x04) and the code 0x03, which no command has, each under two STIDs, by the kind of board
+-- ---- a NOOP (0x02), a cancel (0x04) and the code 0x03, which no command has, each under two STIDs, by the kind of
+-- board
 abbrev six : Kind → List Decoded
 six kind =
     map (decodeOf kind 0x01 false)

@@ -1,7 +1,7 @@
 -- How a whole number lies to a fraction, `above` over `below`, whose nearest whole number it is, held to the ends of
--- int16. A comparison of the fraction with a number is told times `below`, and one with a half times twice that, so that
--- all numbers are whole. `a ⇔ b` says that a and b follow from each other. Assumes nothing: this is what is claimed of
--- each such result, and proofs/Fraction shows it.
+-- int16. A comparison of the fraction with a number is told times `below`, and one with a half times twice that, so
+-- that all numbers are whole. `a ⇔ b` says that a and b follow from each other. Assumes nothing: this is what is
+-- claimed of each such result, and proofs/Fraction shows it.
 use Prim.Native.Nat.{ℕ, _*_, _≤_, _<_}
 use mathlib.Core.Path.{_≡_}
 use mathlib.Core.Bool.{Bool, true, false}

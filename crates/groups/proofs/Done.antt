@@ -99,7 +99,6 @@ module _ (rail : ℤ) (limits : Limits) (s : List ℕ) (b : Board) where
     pub phase : after .phase ≡ b .phase
     pub memory : after .memory ≡ b .memory
     pub channels : after .channels ≡ b .channels
-    pub profile : after .profile ≡ b .profile
 
   -- a command is refused, or accepted with a board of which P holds
   pub data Answers (P : Board → Type 0) (c : Commanded) : Type 0 where
@@ -118,24 +117,24 @@ module _ (rail : ℤ) (limits : Limits) (s : List ℕ) (b : Board) where
   -- ---- refusals: 1 to 5 and 7 of the decoder
   turned-down : (k : ℕ) (r : Refusal) → Does k (turnedDown k r b)
   unfolding turnedDown notThisBoardOf refusedOf
-  turned-down k FewerThanFourBytes = refusing 0 refl (record { phase = refl; memory = refl; channels = refl; profile = refl })
-  turned-down k InStartup = refusing 1 refl (record { phase = refl; memory = refl; channels = refl; profile = refl })
-  turned-down k NotThisBoard = refusing 2 refl (record { phase = refl; memory = refl; channels = refl; profile = refl })
-  turned-down k CodeNotListed = refusing 3 refl (record { phase = refl; memory = refl; channels = refl; profile = refl })
-  turned-down k TooShort = refusing 4 refl (record { phase = refl; memory = refl; channels = refl; profile = refl })
-  turned-down k WrongKey = refusing 6 refl (record { phase = refl; memory = refl; channels = refl; profile = refl })
-  turned-down k WrongParameter = refusing 6 refl (record { phase = refl; memory = refl; channels = refl; profile = refl })
-  turned-down k NotANumber = refusing 6 refl (record { phase = refl; memory = refl; channels = refl; profile = refl })
+  turned-down k FewerThanFourBytes = refusing 0 refl (record { phase = refl; memory = refl; channels = refl })
+  turned-down k InStartup = refusing 1 refl (record { phase = refl; memory = refl; channels = refl })
+  turned-down k NotThisBoard = refusing 2 refl (record { phase = refl; memory = refl; channels = refl })
+  turned-down k CodeNotListed = refusing 3 refl (record { phase = refl; memory = refl; channels = refl })
+  turned-down k TooShort = refusing 4 refl (record { phase = refl; memory = refl; channels = refl })
+  turned-down k WrongKey = refusing 6 refl (record { phase = refl; memory = refl; channels = refl })
+  turned-down k WrongParameter = refusing 6 refl (record { phase = refl; memory = refl; channels = refl })
+  turned-down k NotANumber = refusing 6 refl (record { phase = refl; memory = refl; channels = refl })
 
   -- 6, of a mode
   unavailable : (k : ℕ) → Does k (refusedOf Answer.NotAvailable k b)
   unfolding refusedOf
-  unavailable k = refusing 5 refl (record { phase = refl; memory = refl; channels = refl; profile = refl })
+  unavailable k = refusing 5 refl (record { phase = refl; memory = refl; channels = refl })
 
   -- 7, of a channel or a checksum
   wrong : (k : ℕ) → Does k (refusedOf Answer.Wrong k b)
   unfolding refusedOf
-  wrong k = refusing 6 refl (record { phase = refl; memory = refl; channels = refl; profile = refl })
+  wrong k = refusing 6 refl (record { phase = refl; memory = refl; channels = refl })
 
   -- what a check puts in front of a command
   either : (k : ℕ) (t : Bool) {x y : Commanded} → Does k x → Does k y → Does k (cond t x y)

@@ -91,7 +91,6 @@ module _ (rail : ℤ) (limits : Limits) (s : List ℕ) (b : Board) where
   pub record Made (k : ℕ) (after : Board) : Type 0 where
     pub one-by-one : (c : ℕ) → c < 32 → chan (after .channels) c ≡ madeBy (sentences b s c) k (chan (b .channels) c)
     pub held : Held (b .channels) → Held (after .channels)
-    pub profile : after .profile ≡ b .profile
     pub no-reset : eqb k 0xAA ≡ false → after .phase .mode ≡ Startup → after .phase ≡ b .phase
     pub reset : eqb k 0xAA ≡ true → after ≡ commandResetOf b
 
@@ -126,13 +125,12 @@ module _ (rail : ℤ) (limits : Limits) (s : List ℕ) (b : Board) where
   no-restart cancel = refl
 
   -- channels after one of the laws' commands
-  by-operation : (k : ℕ) (o : channel.Command) (after : Board) → after .channels ≡ operated rail limits s b o → after .profile ≡ b .profile → (after .phase .mode ≡ Startup → after .phase ≡ b .phase)
+  by-operation : (k : ℕ) (o : channel.Command) (after : Board) → after .channels ≡ operated rail limits s b o → (after .phase .mode ≡ Startup → after .phase ≡ b .phase)
       → ((c : ℕ) → c < 32 → channel.obeyedOne fitted forced o c (chan (b .channels) c) ≡ madeBy (sentences b s c) k (chan (b .channels) c)) → eqb k 0xAA ≡ false → Made k after
-  by-operation k o after e same-profile starts says n =
+  by-operation k o after e starts says n =
       record {
         one-by-one = λ c h. ap (λ (x : Channels). chan x c) e ∙ channel.each fitted forced (channel.commanded o) (b .channels) c h ∙ says c h;
         held = λ _. subst Held (sym e) (channel.after-held fitted forced (channel.commanded o) (b .channels));
-        profile = same-profile;
         no-reset = λ _. starts;
         reset = λ r. absurd (false≢true (sym n ∙ r));
       }
@@ -142,12 +140,11 @@ module _ (rail : ℤ) (limits : Limits) (s : List ℕ) (b : Board) where
   NoSentence k = (c : ℕ) → madeBy (sentences b s c) k (chan (b .channels) c) ≡ chan (b .channels) c
 
   -- channels that stay, for a command that no sentence is about
-  untouched : (k : ℕ) (after : Board) → after .channels ≡ b .channels → after .profile ≡ b .profile → (after .phase .mode ≡ Startup → after .phase ≡ b .phase) → NoSentence k → eqb k 0xAA ≡ false → Made k after
-  untouched k after same-channels same-profile starts e n =
+  untouched : (k : ℕ) (after : Board) → after .channels ≡ b .channels → (after .phase .mode ≡ Startup → after .phase ≡ b .phase) → NoSentence k → eqb k 0xAA ≡ false → Made k after
+  untouched k after same-channels starts e n =
       record {
         one-by-one = λ c h. ap (λ (x : Channels). chan x c) same-channels ∙ sym (e c);
         held = λ h. subst Held (sym same-channels) h;
-        profile = same-profile;
         no-reset = λ _. starts;
         reset = λ r. absurd (false≢true (sym n ∙ r));
       }
@@ -160,30 +157,29 @@ module _ (rail : ℤ) (limits : Limits) (s : List ℕ) (b : Board) where
       rw (no 0x10 refl, no 0x12 refl, no 0x14 refl, no 0x16 refl, no 0x18 refl, no 0x04 refl, no 0x32 refl, no 0xAA refl)
 
   -- those on settings
-  remembering : {k : ℕ} {m : Memory} (after : Board) → Remembers rail limits s b k m → after .channels ≡ b .channels → after .profile ≡ b .profile → after .phase ≡ b .phase → Made k after
+  remembering : {k : ℕ} {m : Memory} (after : Board) → Remembers rail limits s b k m → after .channels ≡ b .channels → after .phase ≡ b .phase → Made k after
   unfolding madeBy sentences
-  remembering after (set id v) c p e = untouched 0x84 after c p (λ _. e) (λ _. refl) refl
-  remembering after (reset-one id) c p e = untouched 0x86 after c p (λ _. e) (λ _. refl) refl
-  remembering after defaults c p e = untouched 0x90 after c p (λ _. e) (λ _. refl) refl
-  remembering after load c p e = untouched 0x92 after c p (λ _. e) (λ _. refl) refl
-  remembering after (save given) c p e = untouched 0x94 after c p (λ _. e) (λ _. refl) refl
+  remembering after (set id v) c e = untouched 0x84 after c (λ _. e) (λ _. refl) refl
+  remembering after (reset-one id) c e = untouched 0x86 after c (λ _. e) (λ _. refl) refl
+  remembering after defaults c e = untouched 0x90 after c (λ _. e) (λ _. refl) refl
+  remembering after load c e = untouched 0x92 after c (λ _. e) (λ _. refl) refl
+  remembering after (save given) c e = untouched 0x94 after c (λ _. e) (λ _. refl) refl
 
   -- ---- every command
   made : {k : ℕ} {after : Board} → Done rail limits s b k after → Made k after
   unfolding madeBy sentences isIn commandResetOf freshOf
-  made {k} (replies r w quiet) = untouched k _ refl refl (λ _. refl) (quiet-code k quiet) (other k 0xAA acting quiet refl)
-  made shows-faults = untouched 0x42 _ refl refl (λ _. refl) (λ c. refl) refl
-  made {k} (operates {o = o} r x) = by-operation k o _ refl refl (λ _. refl) (λ c h. sentence-of x c h _) (no-restart x)
-  made (enters r (in-nominal e)) = untouched 0x30 _ refl refl (λ _. refl) (λ c. refl) refl
-  made (enters r (to-nominal e)) = untouched 0x30 _ refl refl (λ m. no-startup Nominal refl m) (λ c. refl) refl
-  made (enters r (in-safety n e)) = untouched 0x32 _ refl refl (λ _. refl) (λ c. rw n) refl
-  made (enters r (to-safety n e)) = by-operation 0x32 channel.command-enabled-off _ refl refl (λ m. no-startup Safety refl m) (λ c h. rw n) refl
-  made (remembers r x) = remembering _ x refl refl refl
+  made {k} (replies r w quiet) = untouched k _ refl (λ _. refl) (quiet-code k quiet) (other k 0xAA acting quiet refl)
+  made shows-faults = untouched 0x42 _ refl (λ _. refl) (λ c. refl) refl
+  made {k} (operates {o = o} r x) = by-operation k o _ refl (λ _. refl) (λ c h. sentence-of x c h _) (no-restart x)
+  made (enters r (in-nominal e)) = untouched 0x30 _ refl (λ _. refl) (λ c. refl) refl
+  made (enters r (to-nominal e)) = untouched 0x30 _ refl (λ m. no-startup Nominal refl m) (λ c. refl) refl
+  made (enters r (in-safety n e)) = untouched 0x32 _ refl (λ _. refl) (λ c. rw n) refl
+  made (enters r (to-safety n e)) = by-operation 0x32 channel.command-enabled-off _ refl (λ m. no-startup Safety refl m) (λ c h. rw n) refl
+  made (remembers r x) = remembering _ x refl refl
   made restarts =
       record {
         one-by-one = λ c h. channel.cleared-each c h;
         held = λ _. channel.cleared-held;
-        profile = refl;
         no-reset = λ r. absurd (false≢true (sym r));
         reset = λ _. refl;
       }

@@ -3,6 +3,7 @@
 use Prim.Native.Nat.{ℕ, _+_, _<_, min}
 use mathlib.Core.Path.{_≡_, refl, sym, ap, _∙_, subst}
 use mathlib.Core.Bool.{Bool, true, false, cond, _&&_, _||_, and-false, false≢true}
+use mathlib.Core.Logic.{⊎-elim}
 use mathlib.Core.List.{List, [], _∷_}
 use native.Mathlib.Omega.{arith}
 use lib.Dec.{eqb}
@@ -26,6 +27,7 @@ use Rattle.memory.specs.Memory.{oneMore}
 use Rattle.state.specs.Parts.{wordCount}
 use Rattle.state.specs.Start.{freshOf, byWatchdog, byCommand, watchdogResetOf, commandResetOf}
 use Rattle.state.specs.declared.parts.Cause.{Cause}
+use Rattle.state.specs.declared.parts.Profile.{Profile}
 use Rattle.state.specs.declared.parts.Resets.{Resets}
 use Rattle.state.specs.declared.parts.Board.{Board}
 use Rattle.answers.specs.Answers.{toldNumber}
@@ -34,6 +36,7 @@ use Rattle.commands.specs.Step.{commandedOf}
 use Rattle.board.specs.Tick.{risenOf, changedOf, trippedOf, watchedAs, watchedIn, tickWith, tickOf}
 use Rattle.unit.specs.Machine.{toldOf}
 use Rattle.unit.specs.declared.Machine.{Machine}
+use Rattle.unit.proofs.Laws.{refused-tick-leaves, tick-profile, tick-form}
 use Rattle.unit.specs.Runs.{Sample, told, happens, afterStep3, afterStep4}
 use Rattle.groups.specs.Resets.{isByWatchdog, isAccepted, tellsWatchdogReset, tellsCommandReset, tellsReset, startsOver, StartedOver, ResetIsTold}
 use Rattle.groups.proofs.Done.{refusing, accepting}
@@ -224,6 +227,43 @@ module _ (m : Machine) (i : Sample) where
   unfolding toldOf tellsReset tellsWatchdogReset tellsCommandReset tickOf tickWith
   not-happened e = rw e
 
+  -- the same, part by part
+  over-by-watchdog : tellsWatchdogReset m i ≡ true → StartedOver (afterStep4 m i) (told m i .machine .board)
+  over-by-watchdog e = subst (StartedOver (afterStep4 m i)) (sym (by-watchdog e)) (watchdog-parts (afterStep4 m i))
+
+  over-by-command : tellsCommandReset m i ≡ true → StartedOver (afterStep3 m i) (told m i .machine .board)
+  over-by-command e = subst (StartedOver (afterStep3 m i)) (sym (by-command e)) (command-parts (afterStep3 m i))
+
+  -- a board that started over is in its own profile's form
+  in-its-form : {before after : Board} → StartedOver before after → after .form ≡ after .profile .form
+  in-its-form parts = parts .form ∙ sym (ap (λ (p : Profile). p .form) (parts .profile))
+
+  reset-form : tellsReset m i ≡ true → told m i .machine .board .form ≡ told m i .machine .board .profile .form
+  unfolding tellsReset
+  reset-form e =
+      cases (tellsWatchdogReset m i)
+      (λ w. in-its-form (over-by-watchdog w))
+      (λ w. in-its-form (over-by-command (rw w at e)))
+
+  unaltered : happens (wordCount (m .board)) i ≡ false → told m i .machine ≡ m
+  unaltered = refused-tick-leaves (i .rail) (i .named) (i .words) (i .sent) (i .transfer) m
+
+  profile : told m i .machine .board .profile ≡ m .board .profile
+  profile =
+      cases (happens (wordCount (m .board)) i) (tick-profile (i .rail) (i .named) (i .words) (i .sent) (i .transfer) m)
+      (λ a. ap (λ (x : Machine). x .board .profile) (unaltered a))
+
+  happened-form : happens (wordCount (m .board)) i ≡ true → told m i .machine .board .form ≡ cond (tellsReset m i) (m .board .profile .form) (m .board .form)
+  happened-form a =
+      cases (tellsReset m i)
+      (λ t. rw t (reset-form t ∙ ap (λ (p : Profile). p .form) profile))
+      (λ t. rw t (⊎-elim (λ e. e) (λ over. failed (sym t ∙ exactly a ∙ ap isOver (over .0))) (tick-form (i .rail) (i .named) (i .words) (i .sent) (i .transfer) m a)))
+
+  form : told m i .machine .board .form ≡ cond (tellsReset m i) (m .board .profile .form) (m .board .form)
+  form =
+      cases (happens (wordCount (m .board)) i) happened-form
+      (λ a. rw (not-happened a) (ap (λ (x : Machine). x .board .form) (unaltered a)))
+
 -- any tick: one that does not happen tells of no reset
 pub reset-is-told : (m : Machine) (i : Sample) → ResetIsTold m i
 reset-is-told m i =
@@ -234,8 +274,10 @@ reset-is-told m i =
       by-watchdog = w;
       by-command = c;
       not-happened = not-happened m i;
-      watchdog-parts = λ e. subst (StartedOver (afterStep4 m i)) (sym (w e)) (watchdog-parts (afterStep4 m i));
+      watchdog-parts = over-by-watchdog m i;
       watchdog-counts = λ e. ap (λ (b : Board). b .resets) (w e) ∙ watchdog-counts (afterStep4 m i);
-      command-parts = λ e. subst (StartedOver (afterStep3 m i)) (sym (c e)) (command-parts (afterStep3 m i));
+      command-parts = over-by-command m i;
       command-counts = λ e. ap (λ (b : Board). b .resets) (c e) ∙ command-counts (afterStep3 m i);
+      profile = profile m i;
+      form = form m i;
     }

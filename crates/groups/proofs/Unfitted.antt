@@ -31,6 +31,7 @@ use Rattle.state.specs.declared.parts.Profile.{Profile}
 use Rattle.answers.specs.declared.Commanded.{Commanded}
 use Rattle.commands.specs.Step.{commandedOf}
 use Rattle.board.specs.Tick.{risenOf, changedOf, trippedOf, watchedAs, watchedIn, tickWith, allowedCount, tickOf}
+use Rattle.board.proofs.Happened.{command-profile}
 use Rattle.reading.specs.Lines.{lineOf}
 use Rattle.reading.specs.declared.Line.{Line}
 use Rattle.reading.specs.declared.Line.the-variants.{Command, Switch, NoFrame, TooLong, NotOfForm, ScratchTooShort}
@@ -106,13 +107,13 @@ made-dark s b code c ch f d =
 pub commanded : (rail : ℤ) (limits : Limits) (sent : Bool) (s : List ℕ) (p : Profile) (b : Board) → Stands p b → Stands p (commandedOf rail limits sent s b .board)
 unfolding commandedOf
 commanded rail limits false s p b u = u
-commanded rail limits true s p b u = go (leaves rail limits s b)
+commanded rail limits true s p b u = go (command-profile rail limits s b true ∙ u .profile) (leaves rail limits s b)
   where
-    go : {k : ℕ} {c : Commanded} → Leaves rail limits s b k c → Stands p (c .board)
-    go (refusing n t kept) = record { profile = kept .profile ∙ u .profile; sound = subst (Sound p) (sym (kept .channels)) (u .sound) }
-    go {k} (accepting t made) =
+    go : {k : ℕ} {c : Commanded} → c .board .profile ≡ p → Leaves rail limits s b k c → Stands p (c .board)
+    go same-profile (refusing n t kept) = record { profile = same-profile; sound = subst (Sound p) (sym (kept .channels)) (u .sound) }
+    go {k} same-profile (accepting t made) =
         record {
-          profile = made .profile ∙ u .profile;
+          profile = same-profile;
           sound = record {
             held = made .held (u .sound .held);
             dark = λ c h f. rw (made .one-by-one c h) (made-dark s b k c (chan (b .channels) c) (rw (u .profile) f) (u .sound .dark c h f));

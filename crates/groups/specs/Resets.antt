@@ -1,15 +1,15 @@
 -- When a tick resets the machine, by what it tells: by a watchdog reset as its event, or by a command 0xAA that it
 -- accepted; and that this is so. Of every machine, reachable or not, a tick that happens leaves the board in startup at
--- age 0 exactly where it tells of a reset, and the board is then the one that document 01 says. A tick refused with 9
--- resets nothing. `m` is the machine before the tick. Assumes nothing: these are definitions.
+-- age 0 exactly where it tells of a reset, and the board is then the one that document 01 says, but in the form of its
+-- profile, as document 02 has it (K12). A tick refused with 9 resets nothing. No tick alters the profile, and none but
+-- a reset the form of the text line. `m` is the machine before the tick. Assumes nothing: these are definitions.
 use Prim.Native.Nat.{ℕ, _+_, _<_, min}
-use mathlib.Core.{Path._≡_, Bool.Bool, Bool.true, Bool.false, Bool._&&_, Bool._||_, List.[]}
+use mathlib.Core.{Path._≡_, Bool.Bool, Bool.true, Bool.false, Bool.cond, Bool._&&_, Bool._||_, List.[]}
 use mathlib.Core.Option.{Option, none, some}
 use lib.{Dec.eqb, ListN.replicate}
 use Rattle.kinds.specs.Kinds.{wordRoom}
 use Rattle.readings.specs.Readings.{rawOf}
 use Rattle.wire.specs.Replies.{shown}
-use Rattle.wire.specs.declared.forms.Form.the-variants.{Raw}
 use Rattle.modes.specs.Table.{same, entered}
 use Rattle.modes.specs.declared.Mode.the-variants.{Startup}
 use Rattle.channels.specs.Chan.{chan}
@@ -57,7 +57,7 @@ pub record StartedOver (before after : Board) : Type 0 where
   pub channels : (c : ℕ) → c < 32 → chan (after .channels) c ≡ record { on = false; latched = false; count = 0 }
   pub profile : after .profile ≡ before .profile
   pub words : after .measured ≡ record { words = replicate wordRoom (rawOf 0); fresh = record { raw = false; engineering = false } }
-  pub form : after .form ≡ Raw
+  pub form : after .form ≡ before .profile .form
 
 pub record ResetIsTold (m : Machine) (i : Sample) : Type 0 where
   pub exactly : happens (wordCount (m .board)) i ≡ true → tellsReset m i ≡ startsOver (told m i .machine .board)
@@ -71,3 +71,7 @@ pub record ResetIsTold (m : Machine) (i : Sample) : Type 0 where
   pub command-parts : tellsCommandReset m i ≡ true → StartedOver (afterStep3 m i) (told m i .machine .board)
   pub command-counts : tellsCommandReset m i ≡ true → told m i .machine .board .resets
       ≡ record { power = afterStep3 m i .resets .power; watchdog = afterStep3 m i .resets .watchdog; command = min (afterStep3 m i .resets .command + 1) 65535; cause = Commanded }
+  -- any tick: the profile stays; the form of the text line stays too, but where the tick tells of a reset it is the
+  -- profile's
+  pub profile : told m i .machine .board .profile ≡ m .board .profile
+  pub form : told m i .machine .board .form ≡ cond (tellsReset m i) (m .board .profile .form) (m .board .form)

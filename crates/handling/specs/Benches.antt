@@ -32,9 +32,9 @@ printed held b text = shown b (typed (page held 0) text)
 
 -- ---- starting
 
--- what a board is started as: the first three numbers of its line, and its kind
+-- what a board is started as: BID, fitted set and forced set of its line, its kind and its form
 abbrev pub profileOf : Start → Profile
-profileOf start = record { fitted = start .fitted; forced = start .forced; bid = start .bid; kind = start .kind }
+profileOf start = record { fitted = start .fitted; forced = start .forced; bid = start .bid; kind = start .kind; form = start .form }
 
 unfoldable pub startedOf : List ℕ → Bench → Begun → Shown
 startedOf held bench s =

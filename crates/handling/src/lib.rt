@@ -45,11 +45,13 @@ pub fn started(mut bench: Bench, start: Start, image: &[u8], out: &mut [u8]) -> 
     ensures { λ r. ⌜ left r (now (out .exit)) ≡ startedOf (now (out .entry)) bench (begunOf (bench .machine) (profileOf start) (storeOf (start .stored) (now (image .entry)) (start .«save_count»))) ⌝ }
 {
     let kind = start.kind;
+    let form = start.form;
     let profile = Profile {
         fitted: start.fitted,
         forced: start.forced,
         bid: start.bid,
         kind,
+        form,
     };
     let store = starting::store_of(start.stored, image, start.save_count);
     let s = unit::start(bench.machine, profile, store);

@@ -4,11 +4,13 @@
 use Prim.Native.Nat.{ℕ, _*_, _%_}
 use mathlib.Core.{Bool.Bool, Bool.true, Bool.false, Bool.cond, Bool._&&_, List.List}
 use lib.{Dec.eqb, Dec.leb, ListN.getD, ListN.drop}
+use Rattle.wire.specs.declared.forms.Form.{Form}
+use Rattle.wire.specs.declared.forms.Form.the-variants.{Raw, Ascii}
 use Rattle.script.specs.{Reading.fieldOf, Reading.sound, declared.reading.Field.Field, declared.reading.Count.Count}
 use Rattle.lines.specs.{Tails.tailOf, Tails.stringLength, Tails.sentBy, declared.tails.Tail.Tail, declared.tails.Sent.Sent}
 use Rattle.kinds.specs.{Kinds.boardOf, declared.Kind.Kind}
 use Rattle.kinds.specs.declared.Kind.the-variants.{Distribution, Battery}
-use Rattle.lines.specs.{declared.boards.Which.Which, declared.fields.Named.Named, declared.Asked.Asked, declared.Look.Look}
+use Rattle.lines.specs.{declared.boards.Which.Which, declared.boards.Starts.Starts, declared.fields.Named.Named, declared.Asked.Asked, declared.Look.Look}
 
 -- ---- fields
 
@@ -32,29 +34,29 @@ limited most Field.Bad = Field.Bad
 unfoldable pub sizeOf : ℕ → List ℕ → Field
 sizeOf most line = cond (spaceAt 1 line) (limited most (numberAt 2 4 line)) Field.Bad
 
--- ---- B bb ffffffff gggggggg: a distribution board
+-- ---- B bb ffffffff gggggggg: a distribution board whose profile names raw
 
-abbrev pub profileFrom : Kind → Field → Field → Field → Named
-profileFrom kind Field.Bad second third = Named.Bad
-profileFrom kind (Field.Number bid) Field.Bad third = Named.Bad
-profileFrom kind (Field.Number bid) (Field.Number fitted) Field.Bad = Named.Bad
-profileFrom kind (Field.Number bid) (Field.Number fitted) (Field.Number forced) = Named.Profile (bid % 256) fitted forced kind
+abbrev pub profileFrom : Kind → Form → Field → Field → Field → Named
+profileFrom kind form Field.Bad second third = Named.Bad
+profileFrom kind form (Field.Number bid) Field.Bad third = Named.Bad
+profileFrom kind form (Field.Number bid) (Field.Number fitted) Field.Bad = Named.Bad
+profileFrom kind form (Field.Number bid) (Field.Number fitted) (Field.Number forced) = Named.Profile (bid % 256) fitted forced kind form
 
-unfoldable pub profileOf : Kind → List ℕ → Named
-profileOf kind line = cond (separated 1 4 13 line) (profileFrom kind (numberAt 2 2 line) (numberAt 5 8 line) (numberAt 14 8 line)) Named.Bad
+unfoldable pub profileOf : Kind → Form → List ℕ → Named
+profileOf kind form line = cond (separated 1 4 13 line) (profileFrom kind form (numberAt 2 2 line) (numberAt 5 8 line) (numberAt 14 8 line)) Named.Bad
 
 abbrev pub startFrom : Named → Asked
 startFrom Named.Bad = Asked.Bad
-startFrom (Named.Profile bid fitted forced kind) =
-    Asked.Start (record { bid = bid; fitted = fitted; forced = forced; stored = false; «save_count» = 0; kind = kind })
+startFrom (Named.Profile bid fitted forced kind form) =
+    Asked.Start (record { bid = bid; fitted = fitted; forced = forced; stored = false; «save_count» = 0; kind = kind; form = form })
 
 -- ---- P bb ffffffff gggggggg cccc STORED: the same, and behind it a save count and 268 bytes
 
 abbrev pub storedFrom : Named → Field → Asked
 storedFrom Named.Bad count = Asked.Bad
-storedFrom (Named.Profile bid fitted forced kind) Field.Bad = Asked.Bad
-storedFrom (Named.Profile bid fitted forced kind) (Field.Number n) =
-    Asked.Start (record { bid = bid; fitted = fitted; forced = forced; stored = true; «save_count» = n % 65536; kind = kind })
+storedFrom (Named.Profile bid fitted forced kind form) Field.Bad = Asked.Bad
+storedFrom (Named.Profile bid fitted forced kind form) (Field.Number n) =
+    Asked.Start (record { bid = bid; fitted = fitted; forced = forced; stored = true; «save_count» = n % 65536; kind = kind; form = form })
 
 abbrev pub storedIn : Named → List ℕ → Count → Asked
 storedIn profile behind Count.Bad = Asked.Bad
@@ -79,20 +81,25 @@ kindFrom Field.Bad option = Which.Bad
 kindFrom (Field.Number stid) Field.Bad = Which.Bad
 kindFrom (Field.Number stid) (Field.Number option) = kindOf stid option
 
--- the option digit is `0` to `3`; the form is `R` (82), which names raw, and no other yet
+-- the option digit is `0` to `3`
 unfoldable pub kindIn : List ℕ → Which
 kindIn line =
     cond (separated 1 25 27 line)
-    (cond (eqb (getD line 28 0) 82) (kindFrom (numberAt 2 2 line) (limited 3 (numberAt 26 1 line))) Which.Bad)
+    (kindFrom (numberAt 2 2 line) (limited 3 (numberAt 26 1 line)))
     Which.Bad
 
+-- the form is `R` (82), which names raw, or `-` (45), which names none: the board then starts in ASCII form
+abbrev pub formOf : ℕ → Starts
+formOf letter = cond (eqb letter 82) (Starts.In Raw) (cond (eqb letter 45) (Starts.In Ascii) Starts.Bad)
+
 -- BID, fitted set and forced set stand behind the STID as they stand behind the letter of a B line
-abbrev pub boardFrom : Which → List ℕ → Named
-boardFrom Which.Bad profile = Named.Bad
-boardFrom (Which.Board kind) profile = profileOf kind profile
+abbrev pub boardFrom : Which → Starts → List ℕ → Named
+boardFrom Which.Bad starts profile = Named.Bad
+boardFrom (Which.Board kind) Starts.Bad profile = Named.Bad
+boardFrom (Which.Board kind) (Starts.In form) profile = profileOf kind form profile
 
 unfoldable pub boardIn : List ℕ → Named
-boardIn line = boardFrom (kindIn line) (drop 3 line)
+boardIn line = boardFrom (kindIn line) (formOf (getD line 28 0)) (drop 3 line)
 
 -- ---- W COUNT WORDS: at most 512 words of two bytes
 
@@ -149,8 +156,8 @@ bare asked Tail.Bad = Asked.Bad
 -- B, P, W, T, R, L, F, S, Q, V
 unfoldable pub lineBy : ℕ → List ℕ → Tail → Asked
 lineBy letter line end =
-    cond (eqb letter 66) (bare (startFrom (profileOf Distribution line)) end)
-    (cond (eqb letter 80) (storedIn (profileOf Distribution line) (drop 22 line) (stringLength end))
+    cond (eqb letter 66) (bare (startFrom (profileOf Distribution Raw line)) end)
+    (cond (eqb letter 80) (storedIn (profileOf Distribution Raw line) (drop 22 line) (stringLength end))
     (cond (eqb letter 87) (lendIn line (stringLength end))
     (cond (eqb letter 84) (tickIn line (sentBy end))
     (cond (eqb letter 82) (bare (readFrom (sizeOf 512 line)) end)

@@ -13,6 +13,7 @@ use script::reading::Count;
 use script::reading::Field;
 use script::reading::is_at;
 use script::reading::number;
+use wire::Form;
 
 // Whether spaces stand at three places.
 pub fn separated(line: &[u8], first: usize, second: usize, third: usize) -> bool
@@ -51,20 +52,21 @@ pub fn size(line: &[u8], most: u32) -> Field
     Field::Bad
 }
 
-// BID, fitted set, forced set and kind of the board that a line starts.
+// BID, fitted set, forced set, kind and form of the board that a line starts.
 pub enum Named {
     Profile {
         bid: u8,
         fitted: u32,
         forced: u32,
         kind: Kind,
+        form: Form,
     },
     Bad,
 }
 
-// A profile of a kind of board from its three numbers.
-fn profile_from(kind: Kind, first: Field, second: Field, third: Field) -> Named
-    ensures { λ r. ⌜ r ≡ profileFrom kind first second third ⌝ }
+// A profile of a kind of board and a form from its three numbers.
+fn profile_from(kind: Kind, form: Form, first: Field, second: Field, third: Field) -> Named
+    ensures { λ r. ⌜ r ≡ profileFrom kind form first second third ⌝ }
 {
     let Field::Number(bid) = first else {
         return Named::Bad;
@@ -80,18 +82,19 @@ fn profile_from(kind: Kind, first: Field, second: Field, third: Field) -> Named
         fitted,
         forced,
         kind,
+        form,
     }
 }
 
-// The profile of a line that starts a board of a kind.
-pub fn profile_of(kind: Kind, line: &[u8]) -> Named
-    ensures { λ r. ⌜ r ≡ profileOf kind (now (line .entry)) ⌝ }
+// The profile of a line that starts a board of a kind in a form.
+pub fn profile_of(kind: Kind, form: Form, line: &[u8]) -> Named
+    ensures { λ r. ⌜ r ≡ profileOf kind form (now (line .entry)) ⌝ }
 {
     if separated(line, 1, 4, 13) {
         let bid = number(line, 2, 2);
         let fitted = number(line, 5, 8);
         let forced = number(line, 14, 8);
-        return profile_from(kind, bid, fitted, forced);
+        return profile_from(kind, form, bid, fitted, forced);
     }
     Named::Bad
 }
@@ -106,6 +109,7 @@ pub fn start(profile: Named) -> Asked
             fitted,
             forced,
             kind,
+            form,
         } => Asked::Start(Start {
             bid,
             fitted,
@@ -113,6 +117,7 @@ pub fn start(profile: Named) -> Asked
             stored: false,
             save_count: 0,
             kind,
+            form,
         }),
         Named::Bad => Asked::Bad,
     }
@@ -127,6 +132,7 @@ fn stored_from(profile: Named, count: Field) -> Asked
         fitted,
         forced,
         kind,
+        form,
     } = profile
     else {
         return Asked::Bad;
@@ -141,6 +147,7 @@ fn stored_from(profile: Named, count: Field) -> Asked
         stored: true,
         save_count: (n % 65536) as u16,
         kind,
+        form,
     })
 }
 

@@ -20,9 +20,10 @@ use kinds::Kind;
 use script::reading::Field;
 use tails::Tail;
 use tails::tail_of;
+use wire::Form;
 
-// What a start is given: BID, fitted set and forced set, whether settings are stored and under which save count, and
-// the kind of board.
+// What a start is given: BID, fitted set and forced set, whether settings are stored and under which save count, the
+// kind of board, and the form in which it starts.
 pub struct Start {
     pub bid: u8,
     pub fitted: u32,
@@ -30,6 +31,7 @@ pub struct Start {
     pub stored: bool,
     pub save_count: u16,
     pub kind: Kind,
+    pub form: Form,
 }
 
 // What a line asks for. The bytes of its byte string are at the front of the buffer that it was read into, `count` of
@@ -117,9 +119,9 @@ fn by_letter(letter: u8, line: &[u8], end: Tail) -> Asked
     ensures { λ r. ⌜ r ≡ lineBy letter (now (line .entry)) end ⌝ }
 {
     match letter {
-        b'B' => bare(start(profile_of(Kind::Distribution, line)), end),
+        b'B' => bare(start(profile_of(Kind::Distribution, Form::Raw, line)), end),
         b'P' => stored_start(
-            profile_of(Kind::Distribution, line),
+            profile_of(Kind::Distribution, Form::Raw, line),
             wire::rest(line, 22),
             end,
         ),

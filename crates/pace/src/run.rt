@@ -6,10 +6,10 @@ use state::Measured;
 use state::Resets;
 use unit::Machine;
 
-// A machine that has just been started, all of its channels fitted and nothing stored.
+// A machine that has just been started in raw form, all of its channels fitted and nothing stored.
 // argued: an instrument; its digest is compared with the second program's
 fn started() -> Machine {
-    let profile = state::distribution(1, 0xFFFFFFFF, 0x0000000F);
+    let profile = state::naming_raw(state::distribution(1, 0xFFFFFFFF, 0x0000000F));
     let begun = unit::start(unit::unstarted(), profile, Store::empty());
     begun.machine
 }

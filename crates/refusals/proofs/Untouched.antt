@@ -57,12 +57,17 @@ eight =
     record {
       none-or-8 = λ there p store. cases (keepsTheRules p store) (λ e. inl (start-number there p store ∙ rw e)) (λ e. inr (start-number there p store ∙ rw e));
       kept = λ there p store k. start-number there p store ∙ rw (rules-kept p store k);
-      only-kept = λ there p store e. kept-rules p store (held p store (sym (start-number there p store) ∙ e));
+      only-kept = λ there p store e. kept-rules p store (accepted there p store e);
       leaves = λ there p store e. unit.refused-start-leaves there p store (broken p store (sym (start-number there p store) ∙ e));
+      profile = λ there p store e. unit.started-of-the-profile there p store (accepted there p store e);
+      form = λ there p store e. unit.started-in-the-profiles-form there p store (accepted there p store e);
     }
   where
     held : (p : Profile) (store : Store) → cond {A = ℕ} (keepsTheRules p store) 0 8 ≡ 0 → keepsTheRules p store ≡ true
     held p store e = cases (keepsTheRules p store) (λ h. h) (λ h. let q = rw h at e in absurd (omega arith))
+
+    accepted : (there : Machine) (p : Profile) (store : Store) → startTold there p store ≡ 0 → keepsTheRules p store ≡ true
+    accepted there p store e = held p store (sym (start-number there p store) ∙ e)
 
     broken : (p : Profile) (store : Store) → cond {A = ℕ} (keepsTheRules p store) 0 8 ≡ 8 → keepsTheRules p store ≡ false
     broken p store e = cases (keepsTheRules p store) (λ h. let q = rw h at e in absurd (omega arith)) (λ h. h)
@@ -105,6 +110,8 @@ reading =
       given = λ m received scratch. read.given (m .board .form) received (length scratch);
       only = λ m received scratch line g. sym (read.given-only (m .board .form) received (length scratch) line g);
       leaves = λ m received scratch n. (unit.refused-line-leaves received (length scratch) m n, refused-leaves scratch (m .board .form) received n);
+      command = λ m received scratch. unit.command-leaves received (length scratch) m;
+      switch = λ m received scratch to behind e. unit.switch-takes received (length scratch) m to behind e .0;
     }
 
 framing : Frames

@@ -100,8 +100,8 @@ valueShort Unknown t = false
 abbrev pub shorterThanNeeded : Sent → Bool
 shorterThanNeeded t = t has-fewer-than neededBy lengths (code t) bytes || eqb (code t) 0x84 && valueShort (parameterOf (id t)) t
 
--- ---- 6: the five channel commands outside nominal; 0x32 in emergency; 0x30 in emergency, and in safety unless the rail
--- is at least safety low
+-- ---- 6: the five channel commands outside nominal; 0x32 in emergency; 0x30 in emergency, and in safety unless the
+-- rail is at least safety low
 infix 70 _in-mode_
 abbrev pub _in-mode_ : Sent → Mode → Bool
 t in-mode m = same (modeOf (t .board)) m

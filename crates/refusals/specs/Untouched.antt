@@ -9,9 +9,12 @@ use lib.ListN.{length}
 use Rattle.hex.specs.Hex.{laid}
 use Rattle.watchdog.specs.declared.Event.the-variants.{NoEvent}
 use Rattle.memory.specs.{Memory.emptyStore, declared.Store.Store}
-use Rattle.state.specs.{Parts.wordCount, Start.startNumber, declared.parts.Profile.Profile}
+use Rattle.wire.specs.declared.forms.Form.{Form}
+use Rattle.state.specs.{Parts.wordCount, Parts.withForm, Start.startNumber, declared.parts.Profile.Profile}
 use Rattle.reading.specs.{Answers.lineNumber, Given.GivenWhen, Lines.lineHeld, declared.Line.Line}
+use Rattle.reading.specs.declared.Line.the-variants.{Command, Switch}
 use Rattle.framing.specs.{Answers.framedNumber, Framing.framedOf}
+use Rattle.framing.specs.declared.Due.the-variants.{Echo}
 use Rattle.unit.specs.{Machine.begunOf, Machine.heardOf, Machine.dueOf, declared.Machine.Machine, Runs.Sample, Runs.told}
 use Rattle.script.specs.Printing.{page}
 use Rattle.transcript.specs.Transcript.{openedNumber}
@@ -19,7 +22,8 @@ use Rattle.transcript.specs.declared.Answer.the-variants.{ProfileBreaksARule, N
 use Rattle.session.specs.Sessions.{profileIn, Open, opens, noSession, openedOf}
 use Rattle.refusals.specs.{Conditions.tickAnswer, Rules.KeepsAllRules, Rules.OfTheForm}
 
--- 8, of a start: a profile that breaks a rule; the machine that was there stays
+-- 8, of a start: a profile that breaks a rule; the machine that was there stays. Else the board is of that profile, and
+-- in its form
 abbrev pub startTold : Machine → Profile → Store → ℕ
 startTold there profile store = startNumber (begunOf there profile store .answer)
 
@@ -28,6 +32,8 @@ pub record Eight : Type 0 where
   pub kept : (there : Machine) (profile : Profile) (store : Store) → KeepsAllRules profile store → startTold there profile store ≡ 0
   pub only-kept : (there : Machine) (profile : Profile) (store : Store) → startTold there profile store ≡ 0 → KeepsAllRules profile store
   pub leaves : (there : Machine) (profile : Profile) (store : Store) → startTold there profile store ≡ 8 → begunOf there profile store .machine ≡ there
+  pub profile : (there : Machine) (profile : Profile) (store : Store) → startTold there profile store ≡ 0 → begunOf there profile store .machine .board .profile ≡ profile
+  pub form : (there : Machine) (profile : Profile) (store : Store) → startTold there profile store ≡ 0 → begunOf there profile store .machine .board .form ≡ profile .form
 
 -- 9, of a tick: the words lent are neither none nor as many as the board has; nothing of the tick takes place
 abbrev pub NeitherNoneNorAll : Machine → Sample → Type 0
@@ -39,12 +45,17 @@ pub record Nine : Type 0 where
   pub leaves : (m : Machine) (i : Sample) → tickAnswer m i ≡ some 9 → (told m i .machine ≡ m) × (told m i .event ≡ NoEvent)
 
 -- 10 to 13, of a read of the text line: each answer is given where `GivenWhen` says, and a refused read leaves the
--- machine and the scratch buffer
+-- machine and the scratch buffer. A command leaves the machine too; a switch changes the form in force, and not the
+-- profile, and its echo is due
 pub record Reads : Type 0 where
   pub given : (m : Machine) (received scratch : List ℕ) → GivenWhen (m .board .form) received (length scratch) (heardOf received (length scratch) m .line)
   pub only : (m : Machine) (received scratch : List ℕ) (line : Line) → GivenWhen (m .board .form) received (length scratch) line → heardOf received (length scratch) m .line ≡ line
   pub leaves : (m : Machine) (received scratch : List ℕ) → (lineNumber (heardOf received (length scratch) m .line) ≡ 0 → ⊥)
       → (heardOf received (length scratch) m .machine ≡ m) × (lineHeld (m .board .form) received scratch ≡ scratch)
+  pub command : (m : Machine) (received scratch : List ℕ) (start end behind : ℕ) → heardOf received (length scratch) m .line ≡ Command start end behind
+      → heardOf received (length scratch) m .machine ≡ m
+  pub switch : (m : Machine) (received scratch : List ℕ) (to : Form) (behind : ℕ) → heardOf received (length scratch) m .line ≡ Switch to behind
+      → heardOf received (length scratch) m .machine ≡ record { board = withForm to (m .board); due = Echo to }
 
 -- 13, of framing: an output that is too short for the frame; it stays, and the machine is not handed back at all
 pub record Frames : Type 0 where

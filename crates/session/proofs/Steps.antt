@@ -15,7 +15,8 @@ use Rattle.memory.specs.Memory.{emptyStore}
 use Rattle.unit.specs.Machine.{begunOf}
 use Rattle.unit.specs.declared.Machine.{Machine}
 use Rattle.grammar.specs.Grammar.{Read, fails, reads, times}
-use Rattle.sheet.specs.Form.{Tick, tickLine, Sheet, sheet, sheetIn}
+use Rattle.wire.specs.declared.forms.Form.the-variants.{Raw}
+use Rattle.sheet.specs.Form.{Top, Tick, tickLine, Sheet, sheet, sheetIn}
 use Rattle.sheet.specs.Answers.{headBy, sheetHead}
 use Rattle.sheet.proofs.Behind.{times-turn, times-none}
 use Rattle.sheet.proofs.Sheets.{Accepted, accepted}
@@ -146,3 +147,7 @@ answerIn (opens session answer p) = answer
 
 pub with-number : (r : Opened) (held after s : List ℕ) → opened r after ≡ openedOf held s → (opened r after ≡ openedOf held s) × (openedNumber (r .answer) ≡ sheetRefusal s)
 with-number r held after s e = (e, ap (λ (o : Open). openedNumber (answerIn o)) (e ∙ open-is held s) ∙ number-is s)
+
+-- the profile of a sheet names raw
+pub sheet-names-raw : (top : Top) → profileIn top .form ≡ Raw
+sheet-names-raw top = refl

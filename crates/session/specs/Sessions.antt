@@ -4,7 +4,7 @@ use Prim.Native.Nat.{ℕ, zero, suc, _+_, _-_}
 use mathlib.Core.{Bool.Bool, Bool.cond, Bool._||_, List.List, List.[], List._∷_, List._++_}
 use lib.{Dec.eqb, Dec.ltb, IntN.ℤ, ListN.length}
 use Rattle.memory.specs.Memory.{emptyStore}
-use Rattle.state.specs.{Parts.distributionBoard, Start.keepsTheRules, declared.parts.Profile.Profile}
+use Rattle.state.specs.{Parts.distributionBoard, Parts.namingRaw, Start.keepsTheRules, declared.parts.Profile.Profile}
 use Rattle.state.specs.declared.starting.StartAnswer as start
 use Rattle.unit.specs.{Machine.noMachine, Machine.begunOf, Machine.toldOf, declared.Machine.Machine, declared.Begun.Begun}
 use Rattle.unit.specs.declared.Told.{Told}
@@ -29,9 +29,9 @@ unfoldable pub linesFrom : ℕ → Machine → List Tick → List ℕ
 linesFrom n m [] = []
 linesFrom n m (t ∷ ts) = lineOf n (tickOn m t) ++ linesFrom (n + 1) (tickOn m t .machine) ts
 
--- a sheet's board is a distribution board, and nothing is stored
+-- a sheet's board is a distribution board whose profile names raw, and nothing is stored
 abbrev pub profileIn : Top → Profile
-profileIn top = distributionBoard (top .bid) (top .fitted) (top .forced)
+profileIn top = namingRaw (distributionBoard (top .bid) (top .fitted) (top .forced))
 
 abbrev pub beginning : Profile → Begun
 beginning profile = begunOf noMachine profile emptyStore

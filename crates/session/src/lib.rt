@@ -10,6 +10,7 @@ use sheet::TickLine;
 use state::Profile;
 use state::StartAnswer;
 use state::distribution;
+use state::naming_raw;
 use transcript::Answer;
 use transcript::tick_line;
 use transcript::ticks_line;
@@ -95,7 +96,8 @@ pub fn open(s: &[u8], out: &mut [u8]) -> Opened
             printed: 0,
         };
     };
-    started(distribution(bid, fitted, forced), ticks, first, out)
+    let profile = naming_raw(distribution(bid, fitted, forced));
+    started(profile, ticks, first, out)
 }
 
 // Runs one tick of a session, and prints its line.

@@ -4,6 +4,7 @@ use denote.Ref.{now}
 use Rattle.single.specs.Single.{Single}
 use Rattle.state.proofs.distribution.Reads as distribution
 use Rattle.state.proofs.battery.Reads as battery
+use Rattle.state.proofs.naming_raw.Reads as naming-raw
 use Rattle.state.proofs.read.Reads as read
 use Rattle.state.proofs.with_form.Reads as with-form
 use Rattle.state.proofs.unstarted.Reads as unstarted
@@ -16,6 +17,9 @@ single-distribution κ a r r′ s s′ p q = p ∙ sym q
 
 pub single-battery : Single battery.Post (λ κ r s. r)
 single-battery κ a r r′ s s′ p q = p ∙ sym q
+
+pub single-naming-raw : Single naming-raw.Post (λ κ r s. r)
+single-naming-raw κ a r r′ s s′ p q = p ∙ sym q
 
 pub held-read : Single read.Post (λ κ r s. now (s .1 .0))
 held-read κ a r r′ s s′ p q = p ∙ sym q

@@ -1,11 +1,12 @@
--- A profile of a distribution board and of a battery board; the measured words of a board as its replies tell them; and
--- a board with one part changed and all others as they were, which there is no shorter way to write. Assumes nothing:
--- these are definitions.
+-- A profile of a distribution board and of a battery board, and one that names raw; the measured words of a board as
+-- its replies tell them; and a board with one part changed and all others as they were, which there is no shorter way
+-- to write. Assumes nothing: these are definitions.
 use Prim.Native.Nat.{ℕ}
 use mathlib.Core.Bool.{Bool}
 use mathlib.Core.List.{List}
 use lib.ListN.{take}
 use Rattle.wire.specs.{declared.reply.Reply.Reply, declared.forms.Form.Form}
+use Rattle.wire.specs.declared.forms.Form.the-variants.{Raw, Ascii}
 use Rattle.channels.specs.declared.Channels.{Channels}
 use Rattle.kinds.specs.{Kinds.boardOf, declared.Kind.Kind}
 use Rattle.kinds.specs.declared.Kind.the-variants.{Distribution, Battery}
@@ -17,12 +18,17 @@ use Rattle.state.specs.declared.parts.Profile.{Profile}
 use Rattle.state.specs.declared.parts.Resets.{Resets}
 use Rattle.state.specs.declared.parts.Cause.the-variants.{PowerOn, Watchdog, Commanded, Emergency}
 
+-- a new profile of a distribution board: it names no form, and so the board starts in ASCII form
 abbrev pub distributionBoard : ℕ → ℕ → ℕ → Profile
-distributionBoard bid fitted forced = record { fitted = fitted; forced = forced; bid = bid; kind = Distribution }
+distributionBoard bid fitted forced = record { fitted = fitted; forced = forced; bid = bid; kind = Distribution; form = Ascii }
 
--- and of a battery board, which fits no channel, with whether its ABF is placed
+-- and one of a battery board, which fits no channel, with whether its ABF is placed; it names none either
 abbrev pub batteryBoard : ℕ → Bool → Profile
-batteryBoard bid abf = record { fitted = 0; forced = 0; bid = bid; kind = Battery abf }
+batteryBoard bid abf = record { fitted = 0; forced = 0; bid = bid; kind = Battery abf; form = Ascii }
+
+-- a profile may name raw
+abbrev pub namingRaw : Profile → Profile
+namingRaw p = record { fitted = p .fitted; forced = p .forced; bid = p .bid; kind = p .kind; form = Raw }
 
 -- how many measured words a board has, and those of the room that count, as they were measured
 abbrev pub wordCount : Board → ℕ

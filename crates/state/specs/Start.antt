@@ -13,7 +13,6 @@ use Rattle.memory.specs.{Memory.oneMore, Memory.emptyStore, Memory.loadedFrom, 
 use Rattle.state.specs.{Parts.distributionBoard, declared.parts.Board.Board, declared.parts.Fresh.Fresh, declared.parts.Measured.Measured, declared.parts.Profile.Profile}
 use Rattle.state.specs.{declared.parts.Resets.Resets, declared.starting.StartAnswer.StartAnswer, declared.starting.Started.Started}
 use Rattle.state.specs.declared.parts.Cause.the-variants.{PowerOn, Watchdog, Commanded}
-use Rattle.wire.specs.declared.forms.Form.the-variants.{Raw}
 use Rattle.state.specs.declared.starting.StartAnswer.the-variants.{Accepted, ProfileBreaksARule}
 
 -- ---- what a start and a reset have in common
@@ -25,7 +24,7 @@ abbrev pub unmeasured : Measured
 unmeasured = record { words = noneMeasured; fresh = noneNew }
 
 -- a board with nothing behind it: startup just entered, the timer at 0, no reply, what the store holds in force or else
--- the defaults of its kind, channels that are off, unlatched and uncounted, no words, the raw form
+-- the defaults of its kind, channels that are off, unlatched and uncounted, no words, the profile's form
 unfoldable pub freshOf : Profile → Store → Resets → Board
 freshOf profile store resets =
     record {
@@ -37,7 +36,7 @@ freshOf profile store resets =
       profile = profile;
       measured = unmeasured;
       resets = resets;
-      form = Raw;
+      form = profile .form;
     }
 
 -- ---- a reset: the count of its kind goes up by one, to the top at most, and its kind becomes the cause

@@ -10,6 +10,7 @@ pub use parts::Profile;
 pub use parts::Resets;
 pub use parts::battery;
 pub use parts::distribution;
+pub use parts::naming_raw;
 pub use parts::read;
 pub use parts::with_form;
 pub use starting::StartAnswer;

@@ -2,7 +2,7 @@
 ghost use mathlib.Core.Path.{_≡_};
 ghost use lib.ListN.{length};
 ghost use Rattle.wire.specs.Replies.{found};
-ghost use Rattle.state.specs.Parts.{distributionBoard, batteryBoard, withForm};
+ghost use Rattle.state.specs.Parts.{distributionBoard, batteryBoard, namingRaw, withForm};
 use channels::Channels;
 use kinds::Kind;
 use memory::Memory;
@@ -11,12 +11,13 @@ use readings::Raw;
 use wire::Form;
 use wire::Reply;
 
-// What a board was started as.
+// What a board was started as. Its form is the one in which the text line starts, and starts over after a reset.
 pub struct Profile {
     pub fitted: u32,
     pub forced: u32,
     pub bid: u8,
     pub kind: Kind,
+    pub form: Form,
 }
 
 // Why a board last started over, or that it left emergency since.
@@ -59,7 +60,7 @@ pub struct Board {
     pub form: Form,
 }
 
-// The profile of a distribution board.
+// The profile of a distribution board. It names no form, so that the board starts in ASCII form.
 pub fn distribution(bid: u8, fitted: u32, forced: u32) -> Profile
     ensures { λ r. ⌜ r ≡ distributionBoard bid fitted forced ⌝ }
 {
@@ -69,10 +70,11 @@ pub fn distribution(bid: u8, fitted: u32, forced: u32) -> Profile
         forced,
         bid,
         kind,
+        form: Form::Ascii,
     }
 }
 
-// The profile of a battery board, which fits no channel, with whether its ABF is placed.
+// The profile of a battery board, which fits no channel, with whether its ABF is placed. It names no form either.
 pub fn battery(bid: u8, abf: bool) -> Profile
     ensures { λ r. ⌜ r ≡ batteryBoard bid abf ⌝ }
 {
@@ -82,6 +84,21 @@ pub fn battery(bid: u8, abf: bool) -> Profile
         forced: 0,
         bid,
         kind,
+        form: Form::Ascii,
+    }
+}
+
+// The same profile, and it names raw.
+pub fn naming_raw(profile: Profile) -> Profile
+    ensures { λ r. ⌜ r ≡ namingRaw profile ⌝ }
+{
+    let kind = profile.kind;
+    Profile {
+        fitted: profile.fitted,
+        forced: profile.forced,
+        bid: profile.bid,
+        kind,
+        form: Form::Raw,
     }
 }
 

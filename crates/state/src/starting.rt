@@ -13,7 +13,6 @@ use channels::Channels;
 use memory::Memory;
 use memory::Store;
 use modes::ModeAge;
-use wire::Form;
 use wire::Reply;
 
 // What a start answers.
@@ -46,6 +45,7 @@ fn fresh(profile: Profile, store: Store, resets: Resets) -> Board
 {
     let phase = ModeAge::start();
     let reply = Reply::none();
+    let form = profile.form;
     let kind = profile.kind;
     let memory = Memory::loaded(kind, store);
     let channels = Channels::clear();
@@ -65,7 +65,7 @@ fn fresh(profile: Profile, store: Store, resets: Resets) -> Board
         profile,
         measured,
         resets,
-        form: Form::Raw,
+        form,
     }
 }
 

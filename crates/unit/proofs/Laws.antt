@@ -12,7 +12,6 @@ use Rattle.laws.proofs.Cases.{cases}
 use Rattle.wire.specs.Replies.{shown}
 use Rattle.wire.specs.declared.reply.Reply as reply
 use Rattle.wire.specs.declared.forms.Form.{Form}
-use Rattle.wire.specs.declared.forms.Form.the-variants.{Raw}
 use Rattle.hex.specs.Hex.{laid}
 use Rattle.watchdog.specs.Watchdog as dog
 use Rattle.watchdog.specs.declared.Event.{Event}
@@ -35,7 +34,7 @@ use Rattle.commands.specs.Step.{commandedOf}
 use Rattle.commands.proofs.Stepwise.{turnedDown, decodedOf, steppedOf}
 use Rattle.commands.proofs.Told.{stepwise}
 use Rattle.board.specs.Tick.{risenOf, changedOf, trippedOf, watchedAs, watchedIn, tickWith, allowedCount, tickOf}
-use Rattle.board.proofs.Happened.{told, found, own-reply, form-after, reset-form}
+use Rattle.board.proofs.Happened.{told, found, own-reply, profile-after, InForm, form-after}
 use Rattle.reading.specs.Answers.{lineNumber}
 use Rattle.reading.specs.Lines.{lineOf, switchText}
 use Rattle.reading.specs.declared.Line.{Line}
@@ -96,14 +95,15 @@ module _ (rail : ℤ) (named : ℕ) (words : List ℕ) (sent : Bool) (s : List �
     answered-tick-frames-its-reply replied r =
         rw (due-told ∙ ap dueBy replied, own-reply rail named words sent s (m .board) allowed r replied)
 
-    -- the form of the text line stays, or is raw; it is raw after a reset by the watchdog
-    pub tick-form : (after .board .form ≡ m .board .form) ⊎ (after .board .form ≡ Raw)
+    -- no tick alters the profile
+    pub tick-profile : after .board .profile ≡ m .board .profile
+    unfolding toldOf
+    tick-profile = profile-after rail named words sent s (m .board) allowed
+
+    -- the form of the text line stays, or the board starts over in the profile's
+    pub tick-form : InForm (m .board) (after .board)
     unfolding toldOf
     tick-form = form-after rail named words sent s (m .board) allowed
-
-    pub reset-in-raw-form : toldOf rail named words sent s m .event ≡ WatchdogReset → after .board .form ≡ Raw
-    unfolding toldOf
-    reset-in-raw-form e = reset-form rail named words sent s (m .board) allowed e
 
     -- a reset by the watchdog loses the reply
     pub reset-loses-the-reply : toldOf rail named words sent s m .event ≡ WatchdogReset → toldOf rail named words sent s m .replied ≡ false
@@ -156,14 +156,22 @@ module _ (received : List ℕ) (room : ℕ) (m : Machine) where
       go (NotOfForm behind) n = refl
       go (ScratchTooShort behind) n = refl
 
+  pub command-leaves : (start end behind : ℕ) → heardOf received room m .line ≡ Command start end behind → heardOf received room m .machine ≡ m
+  unfolding heardOf
+  command-leaves start end behind e = ap (λ (line : Line). afterLine line m) e
+
   pub refused-line-leaves : (lineNumber (heardOf received room m .line) ≡ 0 → ⊥) → heardOf received room m .machine ≡ m
   refused-line-leaves n = read-leaves (λ to behind e. n (ap lineNumber e))
 
 -- ---- a start
 module _ (there : Machine) (profile : Profile) (store : Store) where
-  pub started-in-raw-form : keepsTheRules profile store ≡ true → begunOf there profile store .machine .board .form ≡ Raw
+  pub started-of-the-profile : keepsTheRules profile store ≡ true → begunOf there profile store .machine .board .profile ≡ profile
   unfolding begunOf startOf freshOf
-  started-in-raw-form kept = rw kept
+  started-of-the-profile kept = rw kept
+
+  pub started-in-the-profiles-form : keepsTheRules profile store ≡ true → begunOf there profile store .machine .board .form ≡ profile .form
+  unfolding begunOf startOf freshOf
+  started-in-the-profiles-form kept = rw kept
 
   pub started-says-nothing : keepsTheRules profile store ≡ true → begunOf there profile store .machine .due ≡ Nothing
   unfolding begunOf startOf

@@ -9,7 +9,6 @@ use crate::model::Model;
 use crate::readings::{battery_word, BatteryWord};
 use crate::replay::{Latest, Replay};
 use crate::settings::{Settings, SIZE};
-use crate::text::Form;
 
 const ANSWERS: [char; 7] = ['0', '2', '3', '4', '5', '6', '7'];
 
@@ -72,7 +71,7 @@ const CHANGES: [&str; 6] = ["U N", "U F", "N F", "F N", "F E", "E F"];
 
 /// What a reset wipes, and what entering and leaving emergency leave alone.
 const HELD: [&str; 5] =
-    ["a waiting reply", "words", "words new to 60", "words new to 62", "ascii form"];
+    ["a waiting reply", "words", "words new to 60", "words new to 62", "a form switched to"];
 
 /// The name of a code; those that no board knows are told apart by their last bit.
 fn name(code: u8) -> String {
@@ -228,7 +227,7 @@ fn held(tick: &Ticked) -> [bool; 5] {
         tick.brought_words || tick.before.words().iter().any(|word| *word != 0),
         raw,
         engineering,
-        tick.before.form() == Form::Ascii,
+        tick.before.form() != tick.before.form_of_profile(),
     ]
 }
 

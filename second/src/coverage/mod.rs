@@ -5,6 +5,7 @@
 
 mod battery;
 mod channels;
+mod forms;
 mod modes;
 mod parameters;
 mod readings;
@@ -16,6 +17,7 @@ use crate::mode::Mode;
 use std::collections::HashMap;
 use std::fmt::{Arguments, Write};
 
+pub use forms::WRONG_FORMS;
 pub use modes::rails;
 pub use parameters::{needed, value_classes, STRANGERS};
 pub use script::Watched;

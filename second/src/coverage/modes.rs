@@ -5,7 +5,6 @@ use super::script::Ticked;
 use super::{letter, Coverage, MODES};
 use crate::board::Board;
 use crate::mode::{Limits, Mode, STARTUP_TICKS};
-use crate::text::Form;
 
 const CELLS: [&str; 30] = [
     "startup one tick short",
@@ -42,7 +41,7 @@ const CELLS: [&str; 30] = [
 
 /// What entering and leaving emergency leave alone.
 const KEPT: [&str; 8] = [
-    "ascii form",
+    "a form switched to",
     "waiting reply",
     "words",
     "words new to 50",
@@ -161,7 +160,7 @@ impl Coverage {
         let stored = board.store().map(|store| store.settings);
         let [raw, engineering] = untold(board);
         let here = [
-            board.form() == Form::Ascii,
+            board.form() != board.form_of_profile(),
             !board.waiting_reply().is_empty(),
             board.words().iter().any(|word| *word != 0),
             raw,

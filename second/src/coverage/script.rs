@@ -1,12 +1,12 @@
 //! What a replay script reaches: lines, starts, commands, events.
 
 use super::battery::{self, is_battery};
+use super::forms::{self, Since};
 use super::{channels, letter, modes, parameters, readings, text, Coverage, CODES, MODES};
 use crate::board::Board;
 use crate::mode::Mode;
 use crate::model::Model;
 use crate::replay::{bad, parse, Bytes, Line, Replay};
-use crate::text::Form;
 
 const ANSWERS: [char; 7] = ['0', '2', '3', '4', '5', '6', '7'];
 
@@ -25,8 +25,7 @@ const LINES: [(char, &[&str]); 10] = [
 ];
 
 /// What a reset may wipe.
-const LOST: [&str; 6] =
-    ["waiting", "words", "words new to 50", "words new to 52", "latches", "ascii form"];
+const LOST: [&str; 5] = ["waiting", "words", "words new to 50", "words new to 52", "latches"];
 
 /// Watchdogs by size: a short one, and those whose ticks are more than 8, 15
 /// and 16 bits hold.
@@ -84,9 +83,7 @@ pub fn universe(coverage: &mut Coverage) {
         coverage.add(format!("line {what}"));
     }
     for letter in ['Q', 'V'] {
-        for fault in ["of a board that has not come", "of a form that has not come"] {
-            coverage.add(format!("line {letter} {fault}"));
-        }
+        coverage.add(format!("line {letter} of a board that has not come"));
     }
     command_universe(coverage);
     event_universe(coverage);
@@ -103,6 +100,7 @@ pub fn universe(coverage: &mut Coverage) {
     channels::universe(coverage);
     text::universe(coverage);
     battery::universe(coverage);
+    forms::universe(coverage);
 }
 
 /// Adds the cells of commands by code, length and header.
@@ -186,7 +184,7 @@ fn mode_found(board: &Board, rail: i16) -> Mode {
 }
 
 /// The event and the answer that a tick line tells; none for a tick that was refused.
-fn event_and_answer(printed: &[u8]) -> Option<(char, char)> {
+pub fn event_and_answer(printed: &[u8]) -> Option<(char, char)> {
     let mut fields = printed.split(|byte| *byte == b' ').skip(5);
     let mut field = || fields.next().map(|field| char::from(field[0]));
     field().zip(field())
@@ -196,6 +194,7 @@ fn event_and_answer(printed: &[u8]) -> Option<(char, char)> {
 #[derive(Default)]
 pub struct Watched {
     replay: Replay,
+    since: Since,
     printed: Vec<u8>,
 }
 
@@ -214,6 +213,8 @@ impl Watched {
         coverage.see_line(line, &self.printed, early);
         if let Some(parsed) = parsed {
             coverage.see_form(&before, &parsed, &bytes, &self.replay, &self.printed);
+            let scripts = (&before, &self.replay);
+            self.since.see(scripts, &parsed, &bytes, &self.printed, coverage);
         }
     }
 
@@ -246,24 +247,20 @@ impl Coverage {
         self.hit(format_args!("line {} {result}", char::from(*letter)));
         if b"QV".contains(letter) && result == "bad" {
             self.see_not_come(line);
+            self.see_wrong_form(line);
         }
     }
 
-    /// A start of a board, or with a form, that has not come; all else is of the form.
+    /// A start of a board that has not come; all else is of the form.
     fn see_not_come(&mut self, line: &[u8]) {
         let mut fields: Vec<&[u8]> = line.split(|byte| *byte == b' ').collect();
-        let (stid, form) = (fields.get(1).copied(), fields.get(6).copied());
-        for (field, found, others, fault) in [
-            (1, stid == Some(b"1A"), &b"12"[..], "of a board that has not come"),
-            (6, form == Some(b"-"), &b"R"[..], "of a form that has not come"),
-        ] {
-            if found {
-                fields[field] = others;
-                let mut bytes: Bytes = [0; 1024];
-                if parse(&fields.join(&b' '), &mut bytes).is_some() {
-                    self.hit(format_args!("line {} {fault}", char::from(line[0])));
-                }
-            }
+        if fields.get(1) != Some(&&b"1A"[..]) {
+            return;
+        }
+        fields[1] = b"12";
+        let mut bytes: Bytes = [0; 1024];
+        if parse(&fields.join(&b' '), &mut bytes).is_some() {
+            self.hit(format_args!("line {} of a board that has not come", char::from(line[0])));
         }
     }
 
@@ -276,7 +273,7 @@ impl Coverage {
         after: &Replay,
         printed: &[u8],
     ) {
-        if let Line::Start { model, bid, fitted, forced, abf, save_count } = *line {
+        if let Line::Start { model, bid, fitted, forced, abf, save_count, .. } = *line {
             let stored = save_count.zip(bytes.first_chunk());
             return match model {
                 Model::Distribution => self.see_start(bid, fitted, forced, stored),
@@ -493,7 +490,6 @@ impl Coverage {
             raw,
             engineering,
             tick.before.channels().latched() != 0,
-            tick.before.form() == Form::Ascii,
         ];
         for (what, _) in LOST.iter().zip(lost).filter(|(_, was)| *was) {
             self.hit(format_args!("lost {what} {by}"));

@@ -16,14 +16,14 @@ pub const DEEP: i16 = 11_999;
 pub const FITTED: u32 = 0x0003_000F;
 pub const FORCED: u32 = 0x0001_0001;
 
-/// The profile of most tests.
+/// The profile of most tests, which names raw.
 pub fn profile() -> Profile<'static> {
-    Profile::distribution(1, FITTED, FORCED)
+    Profile::distribution(1, FITTED, FORCED).naming_raw()
 }
 
-/// A board in the first tick of startup.
+/// A board in the first tick of startup. Its profile names raw.
 pub fn started(fitted: u32, forced: u32) -> Board {
-    Board::start(&Profile::distribution(1, fitted, forced)).unwrap()
+    Board::start(&Profile::distribution(1, fitted, forced).naming_raw()).unwrap()
 }
 
 /// A tick with all that it may bring.

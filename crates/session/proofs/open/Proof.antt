@@ -6,12 +6,6 @@ use Rattle.session.proofs.Steps.{with-number}
 use borrow.Author.Needs.{needs}
 use Rattle.session.proofs.open.Statement.{statement}
 use Rattle.session.proofs.open.Tie as tie
-use Rattle.session.proofs.open.Reads as reads
-use Rattle.session.proofs.open.Lts as lts
-use Rattle.session.proofs.none.Reads as none-reads
-use Rattle.session.proofs.started.Reads as started-reads
-use Rattle.sheet.proofs.read.Reads as read-reads
-use Rattle.state.proofs.distribution.Reads as distribution-reads
 
 read-requires : tie.Need-read-requires
 read-requires c κs = search needs
@@ -35,6 +29,9 @@ returns c =
 distribution-requires : tie.Need-distribution-requires
 distribution-requires c κs = search needs
 
+naming-raw-requires : tie.Need-naming-raw-requires
+naming-raw-requires c κs = search needs
+
 started-requires : tie.Need-started-requires
 started-requires c κs = search needs
 
@@ -44,9 +41,9 @@ same-length c = search needs
 returns-2 : tie.Need-returns-2
 unfolding openedOf
 returns-2 c =
-    let called = c .before .before .before .before .before .before .before .before .before .before .before .args in
-    let a = accepted (called .s .now) _ _ _ _ _ (sym (c .before .before .before .before .before .before .bid .given .1) ∙ c .before .before .before .before .before .before .before .before .read .ensures .0) in
-    let begun = rw (c .before .before .before .before .distribution .ensures) at (c .before .before .started .ensures) in
+    let called = c .before .before .before .before .before .before .before .before .before .before .before .before .args in
+    let a = accepted (called .s .now) _ _ _ _ _ (sym (c .before .before .before .before .before .before .before .bid .given .1) ∙ c .before .before .before .before .before .before .before .before .before .read .ensures .0) in
+    let begun = rw (c .before .before .before .before .naming-raw .ensures, c .before .before .before .before .before .distribution .ensures) at (c .before .before .started .ensures) in
     with-number _ (called .out .now) _ (called .s .now) (rw (a .read, a .its-bid, a .its-fitted, a .its-forced, a .its-count, a .its-first) begun)
 
 pub open-spec : {M : Type 1} → statement M
@@ -59,6 +56,7 @@ open-spec =
     none-requires
     returns
     distribution-requires
+    naming-raw-requires
     started-requires
     same-length
     returns-2)

@@ -6,6 +6,7 @@ use second::board::{Board, EMERGENCY_HIGH, EMERGENCY_LOW};
 use second::hex;
 use second::mode::Mode;
 use second::replay::Replay;
+use second::text::Form;
 use std::io::{self, Write};
 
 /// Bytes of a script that are worth a write of their own.
@@ -23,6 +24,8 @@ pub struct Wish {
 
 pub struct Author {
     pub rng: Rng,
+    /// A lot of its own for the forms, so that what they are leaves all other draws alone.
+    pub forms: Rng,
     brief: bool,
     with_text: bool,
     replay: Replay,
@@ -38,6 +41,7 @@ impl Author {
     pub fn new(wish: Wish) -> Author {
         Author {
             rng: Rng::new(wish.seed),
+            forms: Rng::new(!wish.seed),
             brief: wish.brief,
             with_text: wish.with_text,
             replay: Replay::new(),
@@ -56,6 +60,16 @@ impl Author {
     /// Whether a step is left out: two of three are in a brief script, by lot.
     pub fn skips(&mut self) -> bool {
         self.brief && !self.rng.once_in(3)
+    }
+
+    /// Either form, by lot.
+    pub fn either_form(&mut self) -> Form {
+        self.forms.pick(&[Form::Raw, Form::Ascii])
+    }
+
+    /// What a start names, by lot: raw or nothing.
+    pub fn named(&mut self) -> &'static str {
+        named(self.either_form())
     }
 
     /// How many lines the script has so far, those left out among them.
@@ -260,6 +274,14 @@ impl Author {
         } else {
             self.give(0x06, &[]);
         }
+    }
+}
+
+/// What a start names for its board to have this form.
+pub fn named(form: Form) -> &'static str {
+    match form {
+        Form::Raw => "R",
+        Form::Ascii => "-",
     }
 }
 

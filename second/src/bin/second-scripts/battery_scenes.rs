@@ -6,16 +6,17 @@ use crate::commands;
 use crate::data_scenes::TELLING_WORDS;
 use crate::data_scenes::{lend, lend_all, lend_telling, lend_words, telling, told_apart};
 use crate::mode_scenes;
-use crate::starts::with_of;
+use crate::starts::{by_stid, stored_by_stid, with_of};
 use crate::text_scenes;
 use second::coverage::{BATTERY_CODES, CODES};
 use second::mode::Mode;
 use second::model::{Model, BATTERY_WORDS};
 use second::text::Form;
 
-const PLACED: &str = "Q 12 02 00000000 00000000 1 R";
-const NOT_PLACED: &str = "Q 12 04 00000000 00000000 2 R";
-const DISTRIBUTION: &str = "Q 11 01 00FF00FF 00030003 1 R";
+/// Profiles up to the form that they name.
+const PLACED: &str = "12 02 00000000 00000000 1";
+const NOT_PLACED: &str = "12 04 00000000 00000000 2";
+const DISTRIBUTION: &str = "11 01 00FF00FF 00030003 1";
 
 /// The commands of 0x44, 0x60 and 0x62.
 const OWN: [u8; 3] = [0x44, 0x60, 0x62];
@@ -23,7 +24,7 @@ const OWN: [u8; 3] = [0x44, 0x60, 0x62];
 /// Everything that a battery board does, and what it refuses.
 pub fn all(author: &mut Author) {
     starts(author);
-    author.say(PLACED);
+    by_stid(author, PLACED);
     in_startup(author);
     in_nominal(author);
     packs_by_line(author);
@@ -47,25 +48,20 @@ pub fn all(author: &mut Author) {
     author.show();
 }
 
-/// The line that starts a board of a profile with stored values.
-fn stored_start(profile: &str, save_count: u16, stored: &[u8]) -> String {
-    format!("V {profile} R {save_count:04X} {}", hex(stored))
-}
-
 /// Starts that are refused or not of a form, and sound ones beside them.
 const STARTS: [&str; 46] = [
     "Q 12 00 00000000 00000000 0 R",
-    "Q 12 05 00000000 00000000 1 R",
+    "Q 12 05 00000000 00000000 1 -",
     "Q 12 08 00000000 00000000 1 R",
-    "Q 12 FF 00000000 00000000 1 R",
+    "Q 12 FF 00000000 00000000 1 -",
     "Q 12 01 00000001 00000000 1 R",
-    "Q 12 01 80000000 80000000 0 R",
+    "Q 12 01 80000000 80000000 0 -",
     "Q 12 02 FFFFFFFF FFFFFFFF 0 R",
-    "Q 12 03 00000000 00000001 1 R",
+    "Q 12 03 00000000 00000001 1 -",
     "Q 12 04 00000000 80000000 0 R",
-    "Q 11 00 00000001 00000000 0 R",
+    "Q 11 00 00000001 00000000 0 -",
     "Q 11 09 00000001 00000001 0 R",
-    "Q 11 01 00000000 00000000 0 R",
+    "Q 11 01 00000000 00000000 0 -",
     "Q 11 01 00000001 00000002 0 R",
     "Q 1A 01 00000001 00000000 0 R",
     "Q 1A 01 00000001 00000000 3 R",
@@ -95,10 +91,10 @@ const STARTS: [&str; 46] = [
     "V 12 01 00000000 00000000 0 R 0000 -",
     "Q 12 01 00000000 00000000 0 R",
     "Q 12 04 00000000 00000000 1 R",
-    "Q 11 08 abcdefAB 00000000 2 R",
+    "Q 11 08 abcdefAB 00000000 2 -",
     "Q 12 02 00000000 00000000 2 R",
     "Q 11 01 00000001 00000001 3 R",
-    "Q 12 03 00000000 00000000 3 R",
+    "Q 12 03 00000000 00000000 3 -",
     "Q 12 06 00000000 00000000 3 R",
 ];
 
@@ -122,7 +118,7 @@ fn starts(author: &mut Author) {
         ("11 08 000F000F 00010001 0", 8, &stored),
         ("12 03 00000000 00000000 0", 0xFFFE, &stored),
     ] {
-        author.say(&stored_start(profile, count, bytes));
+        stored_by_stid(author, profile, count, bytes);
     }
     author.say(&format!("V 12 01 00000000 00000000 0 - 0001 {}", hex(&stored)));
     author.show();
@@ -375,7 +371,7 @@ fn calibrations(author: &mut Author) {
 /// A board without an ABF that starts from a store, into safety.
 fn another(author: &mut Author) {
     let stored = with_of(Model::Battery, &[(0x6004, 0x0000_0111), (0x4042, 5_000)]);
-    author.say(&stored_start("12 01 00000000 00000000 0", 7, &stored));
+    stored_by_stid(author, "12 01 00000000 00000000 0", 7, &stored);
     author.startup_at(4_999);
     author.give(0x44, &[]);
     author.give(0x62, &[]);
@@ -384,7 +380,7 @@ fn another(author: &mut Author) {
     author.give(0x82, &[0x01, 0x48]);
     author.show();
     if !author.is_brief() {
-        author.say(NOT_PLACED);
+        by_stid(author, NOT_PLACED);
         for mode in [Mode::Nominal, Mode::Safety] {
             author.reach(mode);
             author.give(0x44, &[]);
@@ -410,7 +406,7 @@ fn watchdog(author: &mut Author) {
             author.idle();
         }
         if round % 2 == 0 {
-            text_scenes::switch(author, Form::Ascii);
+            text_scenes::switch_by_lot(author);
             lend_all(author);
             author.idle();
         }
@@ -466,7 +462,7 @@ fn text(author: &mut Author) {
 
 /// The distribution board refuses the battery board's codes and words.
 fn distribution(author: &mut Author) {
-    author.say(DISTRIBUTION);
+    by_stid(author, DISTRIBUTION);
     author.reach(Mode::Nominal);
     strangers(author);
     for count in [39, 122, 512] {
@@ -486,8 +482,8 @@ fn distribution(author: &mut Author) {
 }
 
 /// All 256 codes at every length from 0 to 12, in nominal.
-fn every_code_at_every_length(author: &mut Author, start: &str) {
-    author.say(start);
+fn every_code_at_every_length(author: &mut Author, profile: &str) {
+    by_stid(author, profile);
     for code in 0..=255 {
         for length in 0..=12 {
             author.reach(Mode::Nominal);
@@ -499,7 +495,7 @@ fn every_code_at_every_length(author: &mut Author, start: &str) {
 
 /// Every id by get, set and reset.
 fn parameters(author: &mut Author) {
-    author.say(NOT_PLACED);
+    by_stid(author, NOT_PLACED);
     commands::all_parameters(author);
     author.give(0xAA, &[0xA6]);
     author.show();
@@ -507,7 +503,7 @@ fn parameters(author: &mut Author) {
 
 /// Every edge rail in the modes that are near.
 fn rails(author: &mut Author) {
-    author.say(PLACED);
+    by_stid(author, PLACED);
     mode_scenes::out_of_startup(author);
     for mode in [Mode::Startup, Mode::Nominal, Mode::Safety] {
         author.reach(mode);
@@ -518,34 +514,16 @@ fn rails(author: &mut Author) {
 /// Into emergency with words unread, every code in it, and out by the rail; once
 /// more with nothing placed, and a reset in it.
 fn emergency(author: &mut Author) {
-    author.say(PLACED);
+    by_stid(author, PLACED);
     author.reach(Mode::Safety);
     lend_all(author);
     author.idle();
     author.give(0x62, &[]);
-    text_scenes::switch(author, Form::Ascii);
+    text_scenes::switch_away(author);
     author.reach(Mode::Emergency);
     author.show();
-    for code in [0x44, 0x60, 0x62, 0x60] {
-        author.give(code, &[]);
-    }
-    told_apart(author);
-    for code in telling(author) {
-        lend_all(author);
-        author.give(code, &[]);
-    }
-    lend(author, 122);
-    author.give(0x60, &[]);
-    commands::all_in(author, Mode::Emergency, false);
-    strangers(author);
-    text_scenes::some(author);
-    author.give(0x30, &[]);
-    author.give(0x32, &[]);
-    commands::status(author);
-    author.give(0xAA, &[0xA5]);
-    let reset = author.command(0xAA, &[]);
-    author.send(&reset);
-    author.send(&[0x11, 7, 0xAA, 2, 0xA6]);
+    in_emergency(author);
+    text_scenes::switch_away(author);
     lend_all(author);
     author.idle();
     author.tick(12_400, u32::MAX, None);
@@ -563,15 +541,40 @@ fn emergency(author: &mut Author) {
     author.give(0x62, &[]);
     author.give(0xAA, &[0xA6]);
     author.show();
-    author.say(DISTRIBUTION);
+    by_stid(author, DISTRIBUTION);
     author.reach(Mode::Emergency);
     strangers(author);
+}
+
+/// Every code in emergency, words that come in it, and the text line.
+fn in_emergency(author: &mut Author) {
+    for code in [0x44, 0x60, 0x62, 0x60] {
+        author.give(code, &[]);
+    }
+    told_apart(author);
+    for code in telling(author) {
+        lend_all(author);
+        author.give(code, &[]);
+    }
+    lend(author, 122);
+    author.give(0x60, &[]);
+    commands::all_in(author, Mode::Emergency, false);
+    strangers(author);
+    text_scenes::switch(author, Form::Ascii);
+    text_scenes::some(author);
+    author.give(0x30, &[]);
+    author.give(0x32, &[]);
+    commands::status(author);
+    author.give(0xAA, &[0xA5]);
+    let reset = author.command(0xAA, &[]);
+    author.send(&reset);
+    author.send(&[0x11, 7, 0xAA, 2, 0xA6]);
 }
 
 /// Into every mode without a transfer, with words that nothing has told.
 fn never_spoken_to(author: &mut Author) {
     for rail in [12_400, -1] {
-        author.say(NOT_PLACED);
+        by_stid(author, NOT_PLACED);
         author.startup_at(rail);
         lend_all(author);
         author.tick(rail, 0, None);
@@ -589,18 +592,18 @@ fn never_spoken_to(author: &mut Author) {
 /// passes over.
 fn across_boards(author: &mut Author) {
     for (first, then) in [(PLACED, DISTRIBUTION), (DISTRIBUTION, NOT_PLACED)] {
-        author.say(first);
+        by_stid(author, first);
         author.reach(Mode::Nominal);
         lend_all(author);
         for code in telling(author) {
             author.give(code, &[]);
         }
-        text_scenes::switch(author, Form::Ascii);
+        text_scenes::switch_by_lot(author);
         for count in [39, 122] {
             lend(author, count);
             author.say("Q 12 09 00000000 00000000 0 R");
             author.say("Q 1A 01 00000001 00000000 0 R");
-            author.say(then);
+            by_stid(author, then);
             author.say("T 3A98 00000000 -");
             author.say("F 0017");
             author.say("R 0006");

@@ -56,12 +56,14 @@ fn words(author: &mut Author) {
     author.show();
 }
 
-/// Safety before any transfer.
+/// Nominal and safety before any transfer.
 fn never_spoken_to(author: &mut Author) {
-    author.say(SOUND);
-    author.startup_at(-1);
-    author.say("R 0004");
-    author.say("F 0004");
+    for rail in [32_767, -1].into_iter().skip(if author.is_brief() { 1 } else { 0 }) {
+        author.say(SOUND);
+        author.startup_at(rail);
+        author.say("R 0004");
+        author.say("F 0004");
+    }
 }
 
 /// An echo outlives all but a tick that happens and a start that is not refused.

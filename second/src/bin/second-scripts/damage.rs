@@ -6,9 +6,10 @@ use crate::starts::{stored_start, with, with_of};
 use second::model::Model;
 
 /// Lines of each form, the limits among them.
-fn whole(rng: &mut Rng) -> String {
+fn whole(author: &mut Author) -> String {
     let bytes = |count: usize| "5A".repeat(count);
-    match rng.below(16) {
+    let named = author.named();
+    match author.rng.below(16) {
         0 => "B 01 0000000F 00000001".to_string(),
         1 => stored_start("02 0000000F 00000001", 7, &with(&[])),
         2 => "W 0000 -".to_string(),
@@ -20,11 +21,11 @@ fn whole(rng: &mut Rng) -> String {
         8 => format!("L 0200 {}", bytes(600)),
         9 => "L 0000 -".to_string(),
         10 => "F 0400".to_string(),
-        11 => "Q 12 01 00000000 00000000 1 R".to_string(),
-        12 => "Q 11 03 0000000F 00000001 2 R".to_string(),
+        11 => format!("Q 12 01 00000000 00000000 1 {named}"),
+        12 => format!("Q 11 03 0000000F 00000001 2 {named}"),
         13 => {
             let stored = hex(&with_of(Model::Battery, &[]));
-            format!("V 12 04 00000000 00000000 0 R 0007 {stored}")
+            format!("V 12 04 00000000 00000000 0 {named} 0007 {stored}")
         }
         14 => format!("W 0200 {}", bytes(1024)),
         _ => "S".to_string(),
@@ -51,7 +52,7 @@ fn damaged(mut line: Vec<u8>, rng: &mut Rng) -> Vec<u8> {
 
 /// Says a line with one fault.
 pub fn random(author: &mut Author) {
-    let line = whole(&mut author.rng).into_bytes();
+    let line = whole(author).into_bytes();
     let line = damaged(line, &mut author.rng);
     author.say_bytes(&line);
 }

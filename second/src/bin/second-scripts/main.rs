@@ -8,6 +8,7 @@ mod commands;
 mod damage;
 mod data_scenes;
 mod emergency_scenes;
+mod form_scenes;
 mod mode_scenes;
 mod reset_scenes;
 mod rng;
@@ -27,7 +28,7 @@ use std::process::ExitCode;
 const USAGE: &str = "usage: second-scripts replay SEED LINES   a mixed script of about LINES lines
        second-scripts KIND SEED           one thing gone through: codes, parameters, text,
                                           board, watchdog, damage, stores, ranges, carries,
-                                          battery;
+                                          battery, forms;
                                           or one long stretch: lingers, period, counts,
                                           emergency, timeouts, resets, bites
        second-scripts KIND SEED brief     the same by samples
@@ -105,7 +106,7 @@ fn mixed(wish: Wish, lines: usize) -> io::Result<()> {
 
 /// One scene drawn by lot.
 fn scene(author: &mut Author) {
-    match author.rng.below(44) {
+    match author.rng.below(46) {
         0..=7 => commands::random(author),
         8..=11 if author.board().model() == Model::Battery => battery_scenes::packs(author),
         8..=11 => channel_scenes::channels(author),
@@ -122,6 +123,7 @@ fn scene(author: &mut Author) {
         38 => mode_scenes::out_of_startup(author),
         39 => commands::status(author),
         40..=41 => battery_scenes::strangers(author),
+        42..=43 => form_scenes::random(author),
         _ => starts::any(author),
     }
 }
@@ -139,6 +141,7 @@ fn go_through(kind: &str, author: &mut Author) -> Option<()> {
         "ranges" => starts::stored_ends(author),
         "carries" => carry_scenes::all(author),
         "battery" => battery_scenes::all(author),
+        "forms" => form_scenes::all(author),
         "lingers" => stretches::lingers(author),
         "period" => stretches::period(author),
         "emergency" => emergency_scenes::all(author),
@@ -159,15 +162,19 @@ fn parameters(author: &mut Author) {
 
 /// Every kind of read and framing.
 fn text(author: &mut Author) {
-    author.say("B 02 000000FF 00000003");
+    starts::distribution(author, "02 000000FF 00000003", None);
     author.reach(Mode::Nominal);
     text_scenes::all(author);
 }
 
-/// The shortest watchdog in every setting.
+/// The shortest watchdog in every setting, on a board that names raw and on one that names nothing.
 fn watchdog(author: &mut Author) {
-    author.say("B 07 0FF000FF 00300003");
-    reset_scenes::all_bites(author);
+    for start in ["B 07 0FF000FF 00300003", "Q 11 07 0FF000FF 00300003 0 -"] {
+        if start.starts_with('B') || !author.is_brief() {
+            author.say(start);
+            reset_scenes::all_bites(author);
+        }
+    }
     author.show();
 }
 
@@ -194,7 +201,7 @@ fn board(author: &mut Author) {
     starts::start(author);
     mode_scenes::out_of_startup(author);
     mode_scenes::switches(author);
-    author.say("B 04 00FF00FF 00030003");
+    starts::distribution(author, "04 00FF00FF 00030003", None);
     commands::all_saves(author);
     commands::zero_checksum(author);
     data_scenes::all_words(author);

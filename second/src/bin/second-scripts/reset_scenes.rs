@@ -3,9 +3,8 @@
 use crate::author::Author;
 use crate::commands;
 use crate::data_scenes::{lend_all, telling};
-use crate::text_scenes;
+use crate::text_scenes::switch_by_lot;
 use second::mode::Mode;
-use second::text::Form;
 
 /// A short watchdog left to bite, with something happening near each edge.
 pub fn watchdog(author: &mut Author) {
@@ -82,7 +81,7 @@ fn one_bite(author: &mut Author, last: usize) {
 /// The tick in which the watchdog bites, with one kind of last transfer.
 fn before_the_bite(author: &mut Author, last: usize) {
     if last < 2 {
-        text_scenes::switch(author, Form::Ascii);
+        switch_by_lot(author);
         lend_all(author);
     }
     let rail = author.steady();
@@ -109,7 +108,7 @@ fn bite(author: &mut Author, timeout: u64) {
     }
     run_timer(author, timeout - 1);
     if author.rng.once_in(2) {
-        text_scenes::switch(author, Form::Ascii);
+        switch_by_lot(author);
     }
     if author.rng.once_in(2) {
         lend_all(author);
@@ -144,7 +143,7 @@ pub fn reset(author: &mut Author) {
     author.give(0x02, &[]);
     let (rail, tripped) = (author.steady(), author.rng.channels());
     author.tick(rail, tripped, None);
-    text_scenes::switch(author, Form::Ascii);
+    switch_by_lot(author);
     lend_all(author);
     let command = author.command(0xAA, &[0xA6]);
     author.tick(rail, u32::MAX, Some(&command));

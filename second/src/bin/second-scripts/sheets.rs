@@ -269,7 +269,7 @@ fn sound(rng: &mut Rng, ticks: usize) -> Draft {
     let fitted = (rng.next() | rng.next()) as u32 & 0x7FFF_FFFF | 0x0001_0003;
     let forced = if rng.once_in(6) { 0 } else { (rng.next() & rng.next()) as u32 & fitted };
     let bid = rng.between(1, 8) as u8;
-    let mut board = Board::start(&Profile::distribution(bid, fitted, forced))
+    let mut board = Board::start(&Profile::distribution(bid, fitted, forced).naming_raw())
         .expect("the draft's profile is sound");
     let lines = (0..ticks).map(|_| tick_line(&mut board, rng)).collect();
     let (fitted_count, fitted) = list(fitted);

@@ -15,14 +15,29 @@ pub fn start(author: &mut Author) {
     };
     let forced = (rng.next() & rng.next()) as u32 & fitted;
     let bid = rng.between(1, 8);
+    let profile = format!("{bid:02X} {fitted:08X} {forced:08X}");
     if rng.once_in(3) {
         let count = rng.pick(&[0u16, 1, 7, 0x00FF, 0x0100, 0xFFFD, 0xFFFE, 0xFFFF]);
         let stored = stored(author);
-        let profile = format!("{bid:02X} {fitted:08X} {forced:08X}");
-        author.say(&stored_start(&profile, count, &stored));
+        distribution(author, &profile, Some((count, &stored)));
         author.show();
     } else {
-        author.say(&format!("B {bid:02X} {fitted:08X} {forced:08X}"));
+        distribution(author, &profile, None);
+    }
+}
+
+/// Starts a distribution board with its BID and its two sets. Of the lines that do so
+/// the short one names raw, and the long one names raw or nothing by lot.
+pub fn distribution(author: &mut Author, profile: &str, stored: Option<(u16, &[u8])>) {
+    let (short, long, stored) = match stored {
+        None => ("B", "Q", String::new()),
+        Some((count, bytes)) => ("P", "V", format!(" {count:04X} {}", hex(bytes))),
+    };
+    let named = author.named();
+    if named == "R" && author.forms.once_in(2) {
+        author.say(&format!("{short} {profile}{stored}"));
+    } else {
+        author.say(&format!("{long} 11 {profile} 0 {named}{stored}"));
     }
 }
 
@@ -62,22 +77,22 @@ pub fn any(author: &mut Author) {
 /// Starts that are refused or not of a form, or of what has not come.
 const NO_START: [&str; 22] = [
     "Q 12 00 00000000 00000000 0 R",
-    "Q 12 05 00000000 00000000 1 R",
+    "Q 12 05 00000000 00000000 1 -",
     "Q 12 08 00000000 00000000 2 R",
-    "Q 12 FF 00000000 00000000 3 R",
+    "Q 12 FF 00000000 00000000 3 -",
     "Q 12 01 00000001 00000000 1 R",
-    "Q 12 04 FFFFFFFF 00000001 0 R",
+    "Q 12 04 FFFFFFFF 00000001 0 -",
     "Q 12 02 00000000 80000000 0 R",
-    "Q 11 00 00000001 00000000 0 R",
+    "Q 11 00 00000001 00000000 0 -",
     "Q 11 09 00000001 00000000 1 R",
-    "Q 11 01 00000000 00000000 2 R",
+    "Q 11 01 00000000 00000000 2 -",
     "Q 11 01 00000001 00000003 3 R",
     "Q 1A 01 00000001 00000000 0 R",
-    "Q 1A 01 00000001 00000000 2 R",
+    "Q 1A 01 00000001 00000000 2 -",
     "Q 10 01 00000000 00000000 0 R",
-    "Q 13 01 00000000 00000000 0 R",
-    "Q 12 01 00000000 00000000 0 -",
-    "Q 11 01 00000001 00000000 0 -",
+    "Q 13 01 00000000 00000000 0 -",
+    "Q 12 01 00000000 00000000 0 r",
+    "Q 11 01 00000001 00000000 0 0",
     "Q 12 01 00000000 00000000 4 R",
     "Q 12 01 00000000 00000000 0 A",
     "Q 12 01 00000000 00000000 0",
@@ -103,14 +118,25 @@ fn distribution_by_stid(author: &mut Author) {
 /// A start of a profile that names its STID, with or without a store.
 fn start_by_stid(author: &mut Author, profile: &str) {
     if author.rng.once_in(2) {
-        author.say(&format!("Q {profile} R"));
-        return;
+        return by_stid(author, profile);
     }
     let model = if profile.starts_with("12") { Model::Battery } else { Model::Distribution };
     let count = author.rng.pick(&[0u16, 1, 0x00FF, 0xFFFE, 0xFFFF]);
     let stored = stored_of(author, model);
-    author.say(&format!("V {profile} R {count:04X} {}", hex(&stored)));
+    stored_by_stid(author, profile, count, &stored);
     author.show();
+}
+
+/// Starts a board with its STID, BID, two sets and options; it names raw or nothing by lot.
+pub fn by_stid(author: &mut Author, profile: &str) {
+    let named = author.named();
+    author.say(&format!("Q {profile} {named}"));
+}
+
+/// The same with stored values.
+pub fn stored_by_stid(author: &mut Author, profile: &str, save_count: u16, stored: &[u8]) {
+    let named = author.named();
+    author.say(&format!("V {profile} {named} {save_count:04X} {}", hex(stored)));
 }
 
 /// The line that starts from a profile with stored values.

@@ -4,10 +4,9 @@
 use crate::author::Author;
 use crate::commands;
 use crate::data_scenes::lend;
-use crate::starts::{stored_start, with};
-use crate::text_scenes;
+use crate::starts::{distribution, with};
+use crate::text_scenes::switch_by_lot;
 use second::mode::Mode;
-use second::text::Form;
 
 /// Everything that a store may do.
 pub fn all(author: &mut Author) {
@@ -25,7 +24,7 @@ pub fn all(author: &mut Author) {
 
 /// Starts with the defaults stored but for some values, and shows the state.
 fn start_with(author: &mut Author, save_count: u16, values: &[(u16, i64)]) {
-    author.say(&stored_start("02 00FF00FF 00110011", save_count, &with(values)));
+    distribution(author, "02 00FF00FF 00110011", Some((save_count, &with(values))));
     author.show();
 }
 
@@ -55,7 +54,7 @@ fn all_three_stored(author: &mut Author) {
     author.tick(499, 0, Some(&nominal));
     author.tick(500, 0, Some(&nominal));
     // The watchdog speaks up at 65 parts and alters nothing; at 100 it bites.
-    text_scenes::switch(author, Form::Ascii);
+    switch_by_lot(author);
     lend(author, 122);
     let counts = author.command(0x42, &[]);
     author.tick(500, 0x0011_0000, Some(&counts));
@@ -79,7 +78,7 @@ fn ends_stored(author: &mut Author) {
 
 /// Each of the three changed, saved, reset and loaded.
 fn saved_and_loaded(author: &mut Author) {
-    author.say("B 04 0000FFFF 0000000F");
+    distribution(author, "04 0000FFFF 0000000F", None);
     author.reach(Mode::Nominal);
     // Nothing is stored yet: a load gives the defaults.
     author.give(0x84, &[0x02, 0x10, 0x55]);

@@ -6,12 +6,12 @@ use crate::rng::Rng;
 use second::text::{Form, CLOSE, OPEN};
 
 /// A payload between its tags.
-fn framed(payload: &[u8]) -> Vec<u8> {
+pub fn framed(payload: &[u8]) -> Vec<u8> {
     [OPEN, payload, CLOSE].concat()
 }
 
 /// A read of these bytes with a scratch buffer of this size.
-fn receive(author: &mut Author, scratch: usize, received: &[u8]) {
+pub fn receive(author: &mut Author, scratch: usize, received: &[u8]) {
     author.say(&format!("L {scratch:04X} {}", hex(received)));
 }
 
@@ -19,6 +19,21 @@ fn receive(author: &mut Author, scratch: usize, received: &[u8]) {
 pub fn switch(author: &mut Author, form: Form) {
     let scratch = author.rng.below(3);
     receive(author, scratch, &framed(form.text()));
+}
+
+/// A read that switches to either form.
+pub fn switch_by_lot(author: &mut Author) {
+    let form = author.either_form();
+    switch(author, form);
+}
+
+/// A read that switches to the form that the profile does not have.
+pub fn switch_away(author: &mut Author) {
+    let form = match author.board().form_of_profile() {
+        Form::Raw => Form::Ascii,
+        Form::Ascii => Form::Raw,
+    };
+    switch(author, form);
 }
 
 /// Bytes in ASCII form, digits of either case.

@@ -1,4 +1,4 @@
--- By the spaces between the fields, and the form. Assumes nothing.
+-- By the spaces between the fields. Assumes nothing.
 use Rattle.lines.specs.Lines.{kindIn}
 use borrow.Author.Needs.{needs}
 use Rattle.lines.proofs.boards.kind_in.Statement.{statement}
@@ -6,9 +6,6 @@ use Rattle.lines.proofs.boards.kind_in.Tie as tie
 
 separated-requires : tie.Need-separated-requires
 separated-requires c κs = search needs
-
-is-at-requires : tie.Need-is-at-requires
-is-at-requires c κs = search needs
 
 number-requires : tie.Need-number-requires
 number-requires c κs = search needs
@@ -24,26 +21,20 @@ kind-from-requires c κs = search needs
 
 returns : tie.Need-returns
 unfolding kindIn
-returns c = rw (← c .before .before .before .before .before .before .before .separated .ensures, c .before .before .before .before .before .before .if1 .taken, ← c .before .before .before .before .before .is-at .ensures, c .before .before .before .before .if2 .taken, c .kind-from .ensures, c .before .limited .ensures, c .before .before .number2 .ensures, c .before .before .before .number .ensures)
+returns c = rw (← c .before .before .before .before .before .separated .ensures, c .before .before .before .before .if1 .taken, c .kind-from .ensures, c .before .limited .ensures, c .before .before .number2 .ensures, c .before .before .before .number .ensures)
 
 returns-2 : tie.Need-returns-2
 unfolding kindIn
-returns-2 c = rw (← c .before .before .before .separated .ensures, c .before .before .if1 .taken, ← c .before .is-at .ensures, c .if2 .left)
-
-returns-3 : tie.Need-returns-3
-unfolding kindIn
-returns-3 c = rw (← c .before .separated .ensures, c .if1 .left)
+returns-2 c = rw (← c .before .separated .ensures, c .if1 .left)
 
 pub kind-in-spec : {M : Type 1} → statement M
 kind-in-spec =
     tie.close
     (tie.spec
     separated-requires
-    is-at-requires
     number-requires
     number-requires-2
     limited-requires
     kind-from-requires
     returns
-    returns-2
-    returns-3)
+    returns-2)

@@ -30,8 +30,8 @@ enum-told-3 c = search needs
 returns-3 : tie.Need-returns-3
 returns-3 c = search needs
 
-cast-t9 : tie.Need-cast-t9
-cast-t9 c = search needs
+cast-t10 : tie.Need-cast-t10
+cast-t10 c = search needs
 
 returns-4 : tie.Need-returns-4
 returns-4 c = rw (c .before .before .before .before .before .before .before .first .given .1, c .before .before .before .before .second .given .1, c .before .third .given .1)
@@ -49,5 +49,5 @@ profile-from-spec =
     enum-known-third
     enum-told-3
     returns-3
-    cast-t9
+    cast-t10
     returns-4)

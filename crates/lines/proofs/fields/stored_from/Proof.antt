@@ -21,8 +21,8 @@ enum-told-2 c = search needs
 returns-2 : tie.Need-returns-2
 returns-2 c = rw (c .before .before .before .profile .given .1, c .enum-told2 .given .1)
 
-cast-t9 : tie.Need-cast-t9
-cast-t9 c = search needs
+cast-t10 : tie.Need-cast-t10
+cast-t10 c = search needs
 
 returns-3 : tie.Need-returns-3
 returns-3 c = rw (c .before .before .before .before .profile .given .1, c .before .count .given .1)
@@ -37,5 +37,5 @@ stored-from-spec =
     enum-known-count
     enum-told-2
     returns-2
-    cast-t9
+    cast-t10
     returns-3)
