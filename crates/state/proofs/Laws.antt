@@ -1,8 +1,9 @@
--- The number of a start. Assumes nothing.
+-- The number of a start, and that a profile which names raw is held to its own rules. Assumes nothing.
 use mathlib.Core.Bool.{Bool, true, false, cond}
 use mathlib.Core.Path.{_≡_, refl, ap, _∙_}
 use Rattle.memory.specs.declared.Store.{Store}
-use Rattle.state.specs.Start.{keepsTheRules, startOf, startNumber}
+use Rattle.state.specs.Parts.{namingRaw}
+use Rattle.state.specs.Start.{bidInRange, channelsInPlace, keepsTheRules, startOf, startNumber}
 use Rattle.state.specs.declared.parts.Board.{Board}
 use Rattle.state.specs.declared.parts.Profile.{Profile}
 use Rattle.state.specs.declared.starting.Started.{Started}
@@ -23,3 +24,9 @@ with-number-8 there p store e = (e, ap (λ (s : Started). startNumber (s .answer
 pub refused-leaves : (there : Board) (p : Profile) (store : Store) → keepsTheRules p store ≡ false → startOf there p store .board ≡ there
 unfolding startOf
 refused-leaves there p store broken = rw broken
+
+-- a profile that names raw keeps the rules exactly where it keeps them without: no rule goes by the form, and each of
+-- the other parts, which the rules go by, is as it was
+pub raw-by-the-same-rules : (p : Profile) (store : Store) → keepsTheRules (namingRaw p) store ≡ keepsTheRules p store
+unfolding keepsTheRules bidInRange channelsInPlace
+raw-by-the-same-rules p store = refl
