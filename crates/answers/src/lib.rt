@@ -1,5 +1,6 @@
 // What a transfer may be answered, with the status code of each answer, what a board is called by, and what a parameter
 // reads.
+#![tactic(auto)]
 ghost use Rattle.std.specs.Prelude.{◌≡◌};
 ghost use Rattle.answers.specs.Answers.{received_in, header_of, stat_of};
 
@@ -10,7 +11,7 @@ pub use parameters::{cause_number, value_read};
 use state::{Board, Profile};
 
 // What a transfer is answered.
-#[derive(Drop)]
+#[derive(Clone, Copy)]
 pub enum Answer {
     Accepted,
     FewerThanFourBytes,
@@ -24,7 +25,7 @@ pub enum Answer {
 
 // What a tick tells of its transfer: that the words lent are neither none nor all, so that the tick did not happen;
 // that there was no transfer; or its answer.
-#[derive(Drop)]
+#[derive(Clone, Copy)]
 pub enum Outcome {
     WrongWordCount,
     NoTransfer,
@@ -32,7 +33,7 @@ pub enum Outcome {
 }
 
 // The board after its command, what the tick tells of it, and whether a reply was made.
-#[derive(Drop)]
+#[derive(Clone, Copy)]
 pub struct Commanded {
     pub board: Board,
     pub outcome: Outcome,
@@ -40,7 +41,7 @@ pub struct Commanded {
 }
 
 // The four bytes that a transfer starts with.
-#[derive(Drop)]
+#[derive(Clone, Copy)]
 pub struct Received {
     pub stid: u8,
     pub ivid: u8,

@@ -1,5 +1,6 @@
 // What a transfer asks of a board: the checks that need no more of it than its kind, its BID and its mode, and what
 // comes of them.
+#![tactic(auto)]
 ghost use Rattle.std.specs.Prelude.{◌≡◌};
 ghost use Rattle.asking.specs.Checks.{is_startup};
 ghost use Rattle.asking.specs.Asked.{refused_by, asked_number, asked_of, number_asked};
@@ -11,7 +12,7 @@ use modes::Mode;
 
 // What a transfer comes to: no reply, with what is told instead; a reply that refuses it; or a command to run, which
 // may still be refused for the mode, its channel or its checksum.
-#[derive(Drop)]
+#[derive(Clone, Copy)]
 pub enum Asked {
     Silence(Outcome),
     Refusal(Answer),

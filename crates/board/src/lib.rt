@@ -1,4 +1,5 @@
 // One tick of a board: five steps, one after another.
+#![tactic(auto)]
 ghost use Rattle.std.specs.Prelude.{cond, ◌&&◌, [], ◌≡◌};
 ghost use Rattle.kinds.specs.Kinds.{board_of};
 ghost use Rattle.watchdog.specs.Watchdog.{watched_of};
@@ -18,7 +19,7 @@ use watchdog::Event;
 
 // The board after a tick, what the tick tells of its transfer, what the watchdog did, and whether the tick made a reply
 // that is still there.
-#[derive(Drop)]
+#[derive(Clone, Copy)]
 pub struct Ticked {
     pub board: Board,
     pub outcome: Outcome,
@@ -27,7 +28,7 @@ pub struct Ticked {
 }
 
 // The parts of a board that steps 1 to 3 change, but for the measured words.
-#[derive(Drop)]
+#[derive(Clone, Copy)]
 struct Settled {
     phase: ModeAge,
     timer: u64,

@@ -1,5 +1,6 @@
 // The 32 output channels: which are on, which are latched, and how often overcurrent turned each one off. Channel c is
 // bit c of a set.
+#![tactic(auto)]
 ghost use Rattle.std.specs.Prelude.{◌≡◌, not};
 ghost use Rattle.channels.specs.Sets.{has, is_within, with_channel};
 ghost use Rattle.channels.specs.Counting.{count_one, count_all};
@@ -7,7 +8,7 @@ ghost use Rattle.channels.specs.Operations.{overcurrent_at, group_on, group_off,
 
 // The fields are private, so that no other crate writes a count: overcurrent raises it, a reset sets it to 0, and
 // nothing else changes it.
-#[derive(Drop)]
+#[derive(Clone, Copy)]
 pub struct Channels {
     on: u32,
     latched: u32,

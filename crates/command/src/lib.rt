@@ -1,5 +1,6 @@
 // Any transfer, decoded to a command or a refusal, for the checks that need no more of a board than its kind, its BID
 // and whether it is in startup.
+#![tactic(auto)]
 ghost use Rattle.std.specs.Prelude.{◌≡◌};
 ghost use Rattle.command.specs.Table.{command_table, find};
 ghost use Rattle.command.specs.Decode.{fewer_than_four, header_of, header_is, group_in, getting, valued, setting, resetting, carried, listed, decode_of};
@@ -11,7 +12,7 @@ use settings::Parameter;
 use value::{ParamValue, Parsed};
 
 // What a board is called by: its system type, its interface version and its board identifier.
-#[derive(Drop)]
+#[derive(Clone, Copy)]
 pub struct Header {
     pub stid: u8,
     pub ivid: u8,
@@ -19,14 +20,14 @@ pub struct Header {
 }
 
 // The channels of a group command: those in the mask, and those that the command speaks of at all.
-#[derive(Drop)]
+#[derive(Clone, Copy)]
 pub struct Group {
     pub mask: u32,
     pub spoken: u32,
 }
 
 // The commands that the decoder knows, by short names after their ICD pages.
-#[derive(Drop)]
+#[derive(Clone, Copy)]
 enum Name {
     SystemReset,
     NoOperation,
@@ -54,7 +55,7 @@ enum Name {
 }
 
 // What the table of commands says of a code: the command and the bytes it needs, with its key where it has one.
-#[derive(Drop)]
+#[derive(Clone, Copy)]
 enum Listed {
     Plain(Name, usize),
     Keyed(Name, usize, u8),
@@ -64,7 +65,7 @@ enum Listed {
 // How a reply is laid out, by what it tells: nothing more than its 5 bytes, the overcurrent faults, the measured words
 // as raw readings, a parameter, or the measured words as engineering readings; and of a battery board whether its ABF
 // is placed, and its measured words as raw and as engineering readings.
-#[derive(Drop)]
+#[derive(Clone, Copy)]
 pub enum Layout {
     Short,
     Faults,
@@ -79,7 +80,7 @@ pub enum Layout {
 // A command with what it carries: a group, a channel, a parameter's id, an id and a value, or a checksum. The commands
 // that change neither mode, channels nor memory are one case with the layout of their reply: 0x02, 0x06, 0x42, 0x44,
 // 0x82, and 0x50, 0x52, 0x60 and 0x62, each of which ends its own NEW besides.
-#[derive(Drop)]
+#[derive(Clone, Copy)]
 pub enum Command {
     SystemReset,
     CancelOperation,
@@ -99,7 +100,7 @@ pub enum Command {
 }
 
 // Why a transfer is no command.
-#[derive(Drop)]
+#[derive(Clone, Copy)]
 pub enum Refusal {
     FewerThanFourBytes,
     InStartup,
@@ -112,7 +113,7 @@ pub enum Refusal {
 }
 
 // What a transfer is.
-#[derive(Drop)]
+#[derive(Clone, Copy)]
 pub enum Decoded {
     Run(Command),
     Refused(Refusal),

@@ -8,7 +8,7 @@ use value::ParamValue;
 
 // Mode and age, timer, channels, and whether the words are new, as a transfer leaves them; what the tick tells of it,
 // and whether a reply was made. What else a restart changes is left to `state`.
-#[derive(Drop)]
+#[derive(Clone, Copy)]
 pub struct Obeyed {
     pub phase: ModeAge,
     pub timer: u64,
@@ -19,7 +19,7 @@ pub struct Obeyed {
 }
 
 // What a command does to the settings and to what is stored of them; a restart loads them with all else.
-#[derive(Drop)]
+#[derive(Clone, Copy)]
 pub enum MemoryChange {
     AsBefore,
     Set(u16, ParamValue),

@@ -1,10 +1,11 @@
 // The frame in what the text line received: the first <cmd>, and the first </cmd> after it.
+#![tactic(auto)]
 ghost use Rattle.std.specs.Prelude.{◌≡◌, ◌≤◌, length, drop};
 ghost use Rattle.frames.specs.Frames.{first_at, place_of, Sits, frame_of, Inside};
 ghost use Rattle.frames.specs.Answers.{frame_number, scan_number};
 
 // Where a tag stands: it begins at start, and behind is the place after it.
-#[derive(Drop)]
+#[derive(Clone, Copy)]
 pub enum Place {
     At { start: usize, behind: usize },
     Nowhere,
@@ -42,7 +43,7 @@ fn find(s: &[u8], tag: &[u8], from: usize) -> Place
 }
 
 // A frame: its payload is what lies from start up to end, and behind is the place after its closing tag.
-#[derive(Drop)]
+#[derive(Clone, Copy)]
 pub enum Frame {
     Found {
         start: usize,

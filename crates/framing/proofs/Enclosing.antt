@@ -11,9 +11,9 @@ use lib.Seq.{sets, sets-eq, length-take-le, take-append_seam, drop-append-add, d
 use borrow.Author.Tests.{le-leb, lt-leb}
 use borrow.Rule.Slice.PartMut.{mid_of, put_mid, mid_len, put_same, same_len_mid}
 use Rattle.laws.proofs.Lists.{lt_or_le, sets_front}
-use Rattle.hex.specs.Hex.{laid, written_of}
-use Rattle.hex.specs.declared.Written.{Written as Digits}
-use Rattle.hex.specs.declared.Written.TheVariants.{Length, NoRoom}
+use Rattle.hexadecimal.specs.Hex.{laid, written_of}
+use Rattle.hexadecimal.specs.declared.Written.{Written as Digits}
+use Rattle.hexadecimal.specs.declared.Written.TheVariants.{Length, NoRoom}
 use Rattle.framing.specs.Framing.{reply_tag, reply_end, reply_frame, framed_of, Fits, enclosed_of, enclosed_held}
 use Rattle.framing.specs.declared.Framed.{Framed}
 use Rattle.framing.specs.declared.Framed.TheVariants.{Written, OutputTooShort}

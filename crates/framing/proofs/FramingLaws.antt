@@ -11,8 +11,8 @@ use lib.Seq.{take_at, drop_at}
 use Rattle.laws.proofs.Lists.{lt_or_le}
 use Rattle.wire.specs.declared.forms.Form.{Form}
 use Rattle.wire.specs.declared.forms.Form.TheVariants.{Raw, Ascii}
-use Rattle.hex.specs.Hex.{payload_of, text_of, laid}
-use Rattle.hex.proofs.RoundTrip.{reads_back}
+use Rattle.hexadecimal.specs.Hex.{payload_of, text_of, laid}
+use Rattle.hexadecimal.proofs.RoundTrip.{reads_back}
 use Rattle.reading.specs.Lines.{part, switch_text}
 use Rattle.framing.specs.Framing.{reply_end, reply_frame, unframed, due_text, framed_of}
 use Rattle.framing.specs.Answers.{framed_number}

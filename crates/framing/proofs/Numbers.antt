@@ -6,7 +6,7 @@ use mathlib.Core.List.{List}
 use lib.ListN.{length}
 use borrow.Author.Tests.{lt-ltb, le-ltb}
 use Rattle.laws.proofs.Lists.{lt_or_le}
-use Rattle.hex.specs.Answers as hex
+use Rattle.hexadecimal.specs.Answers as hex
 use Rattle.framing.specs.Framing.{framed_of}
 use Rattle.framing.specs.Answers.{framed_number}
 use Rattle.framing.specs.declared.Framed.{Framed}

@@ -4,7 +4,7 @@ use mathlib.Core.{Bool.cond, List.List, List.[], List.◌∷◌, List.◌++◌}
 use lib.{Dec.leb, ListN.length, Seq.sets}
 use Rattle.wire.specs.declared.forms.Form.{Form}
 use Rattle.wire.specs.declared.forms.Form.TheVariants.{Raw, Ascii}
-use Rattle.hex.specs.Hex.{text_of}
+use Rattle.hexadecimal.specs.Hex.{text_of}
 use Rattle.reading.specs.Lines.{part, switch_text}
 use Rattle.framing.specs.{declared.Due.Due, declared.Framed.Framed}
 use Rattle.framing.specs.declared.Due.TheVariants.{Nothing, Reply, Echo}
@@ -36,7 +36,7 @@ due_text Nothing form reply = []
 due_text Reply form reply = reply_frame (written form reply)
 due_text (Echo to) form reply = reply_frame (switch_text to)
 
--- 13 where the output is too short for all of it; what the output then holds is `hex::laid`
+-- 13 where the output is too short for all of it; what the output then holds is `hexadecimal::laid`
 abbrev pub framed_of : List ℕ → ℕ → Framed
 framed_of text room = cond (leb (length text) room) (Written (length text)) OutputTooShort
 

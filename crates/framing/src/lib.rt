@@ -1,18 +1,19 @@
 // What the text line says: the frame of a reply, which is <rsp>, the reply, </rsp>, CR, LF, or the same of the echo of
 // a switch. Functions on slices and a form.
+#![tactic(auto)]
 ghost use Rattle.std.specs.Prelude.{◌≡◌, ◌+◌, ◌≤◌, length};
 ghost use Rattle.std.proofs.lemmas.List.Edits.{sets};
-ghost use Rattle.hex.specs.Hex.{laid};
-ghost use Rattle.hex.specs.Answers.{short_number};
+ghost use Rattle.hexadecimal.specs.Hex.{laid};
+ghost use Rattle.hexadecimal.specs.Answers.{short_number};
 ghost use Rattle.reading.specs.Lines.{switch_text};
 ghost use Rattle.framing.specs.Framing.{reply_frame, written, due_text, framed_of, Fits, enclosed_of, enclosed_held};
 ghost use Rattle.framing.specs.Answers.{framed_number};
 
-use hex::Written;
+use hexadecimal::Written;
 use wire::Form;
 
 // What the text line has to say: nothing, the reply, or the echo of a switch to a form.
-#[derive(Drop)]
+#[derive(Clone, Copy)]
 pub enum Due {
     Nothing,
     Reply,
@@ -20,7 +21,7 @@ pub enum Due {
 }
 
 // What framing answers: how many bytes were written, or that the buffer has no room for the frame.
-#[derive(Drop)]
+#[derive(Clone, Copy)]
 pub enum Framed {
     Written(usize),
     OutputTooShort,
@@ -60,7 +61,7 @@ fn in_form(form: Form, reply: &[u8], out: &mut [u8]) -> Framed
 {
     match form {
         Form::Raw => copy(reply, out),
-        Form::Ascii => match hex::write(reply, out) {
+        Form::Ascii => match hexadecimal::write(reply, out) {
             Written::Length(n) => Framed::Written(n),
             Written::NoRoom => Framed::OutputTooShort,
         },

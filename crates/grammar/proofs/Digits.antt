@@ -8,8 +8,8 @@ use native.Mathlib.Omega.{arith}
 use lib.Dec.{leb, leb-zero}
 use lib.ListN.{length, drop}
 use borrow.Author.Tests.{ne_eqb, le-leb, lt-leb, leb-true}
-use Rattle.hex.specs.Hex.{between}
-use Rattle.hex.proofs.Tests.{between_yes, between_low, between_high}
+use Rattle.hexadecimal.specs.Hex.{between}
+use Rattle.hexadecimal.proofs.Tests.{between_yes, between_low, between_high}
 use Rattle.laws.proofs.Lists.{drop_end, lt_or_le}
 use Rattle.grammar.specs.Grammar.{Read, fails, reads, peek_at}
 use Rattle.grammar.specs.Numbers.{digits, spells, plain, within, number, digit_at}

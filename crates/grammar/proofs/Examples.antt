@@ -2,7 +2,7 @@
 use mathlib.Core.Path.{◌≡◌, refl}
 use mathlib.Core.List.{[], ◌∷◌}
 use lib.IntN.{pos, negsuc}
-use Rattle.hex.specs.Hex.{between}
+use Rattle.hexadecimal.specs.Hex.{between}
 use Rattle.grammar.specs.Grammar.{fails, reads, peek_at, byte, text, first_from, up_to}
 use Rattle.grammar.specs.Numbers.{digits, spells, number, signed, hex_digit, word}
 

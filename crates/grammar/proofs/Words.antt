@@ -4,10 +4,10 @@ use mathlib.Core.Path.{◌≡◌, ap}
 use mathlib.Core.List.{List}
 use native.Mathlib.Omega.{arith}
 use lib.Pow.{pow_mono, pow-add}
-use Rattle.hex.specs.Hex.{digit_of}
-use Rattle.hex.specs.declared.Hex.{Hex}
-use Rattle.hex.specs.declared.Hex.TheVariants.{Value, Bad}
-use Rattle.hex.proofs.Tests.{between_high}
+use Rattle.hexadecimal.specs.Hex.{digit_of}
+use Rattle.hexadecimal.specs.declared.Hex.{Hex}
+use Rattle.hexadecimal.specs.declared.Hex.TheVariants.{Value, Bad}
+use Rattle.hexadecimal.proofs.Tests.{between_high}
 use Rattle.grammar.specs.Grammar.{fails, reads, on, peek_at}
 use Rattle.grammar.specs.Numbers.{value_at, hex_digit, word}
 

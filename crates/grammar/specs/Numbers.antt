@@ -2,8 +2,8 @@
 use Rattle.std.specs.Prelude.{ℕ, zero, suc, ◌+◌, ◌-◌, ◌*◌}
 use mathlib.Core.{Bool.Bool, Bool.true, Bool.false, Bool.cond, Bool.not, List.List, List.[], List.◌∷◌}
 use lib.{Dec.eqb, Dec.leb, IntN.ℤ, IntN.pos, IntN.negsuc, ListN.length, ListN.drop}
-use Rattle.hex.specs.{Hex.between, Hex.digit_of, declared.Hex.Hex}
-use Rattle.hex.specs.declared.Hex.TheVariants.{Value, Bad}
+use Rattle.hexadecimal.specs.{Hex.between, Hex.digit_of, declared.Hex.Hex}
+use Rattle.hexadecimal.specs.declared.Hex.TheVariants.{Value, Bad}
 use Rattle.grammar.specs.Grammar.{Read, fails, reads, Parser, ◌>>=◌, ◌>>◌, pure, ◌<|>◌, peek_at, byte}
 
 -- ---- decimal

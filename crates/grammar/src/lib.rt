@@ -1,5 +1,6 @@
 // The parts of which a sheet is put together, each read at a place of a text. A place may be any: past the end nothing
 // is read.
+#![tactic(auto)]
 ghost use Rattle.std.specs.Prelude.{◌≡◌, ◌<◌, ◌≤◌, length};
 ghost use Rattle.grammar.specs.Grammar.{peek_at, text, up_to};
 ghost use Rattle.grammar.specs.Numbers.{digit_at, number, signed, word};
@@ -15,7 +16,7 @@ pub fn peek(s: &[u8], at: usize) -> u16
 }
 
 // Whether bytes stand at a place, and the place behind them.
-#[derive(Drop)]
+#[derive(Clone, Copy)]
 pub enum Next {
     To(usize),
     Not,
@@ -41,7 +42,7 @@ pub fn literal(s: &[u8], at: usize, wanted: &[u8]) -> Next
 }
 
 // Where a byte first comes.
-#[derive(Drop)]
+#[derive(Clone, Copy)]
 pub enum Place {
     At(usize),
     Never,
@@ -80,7 +81,7 @@ fn decimal(s: &[u8], at: usize) -> u64
 }
 
 // A number and the place behind it.
-#[derive(Drop)]
+#[derive(Clone, Copy)]
 pub enum Number {
     Is { value: u32, next: usize },
     Not,
@@ -126,7 +127,7 @@ pub fn read_number(s: &[u8], at: usize, limit: u32) -> Number
 }
 
 // A number with a sign and the place behind it.
-#[derive(Drop)]
+#[derive(Clone, Copy)]
 pub enum Signed {
     Is { value: i16, next: usize },
     Not,
@@ -161,7 +162,7 @@ pub fn read_signed(s: &[u8], at: usize) -> Signed
 }
 
 // The number of eight hex digits and the place behind them.
-#[derive(Drop)]
+#[derive(Clone, Copy)]
 pub enum Word {
     Is { value: u32, next: usize },
     Not,
@@ -180,7 +181,7 @@ pub fn read_word(s: &[u8], at: usize) -> Word
         if 255 < x {
             return Word::Not;
         }
-        let hex::Hex::Value(d) = hex::digit(x as u8) else {
+        let hexadecimal::Hex::Value(d) = hexadecimal::digit(x as u8) else {
             return Word::Not;
         };
         v = v * 16 + (d as u64);

@@ -1,4 +1,5 @@
 // A machine on the bench, and what each kind of line that changes it does.
+#![tactic(auto)]
 ghost use Rattle.std.specs.Prelude.{◌≡◌, take};
 ghost use Rattle.wire.specs.Numbers.{signed};
 ghost use Rattle.unit.specs.Machine.{begun_of, told_of};
@@ -14,7 +15,7 @@ use state::Profile;
 use unit::Machine;
 
 // A machine on the bench, once one was started, and the words for its next tick.
-#[derive(Drop)]
+#[derive(Clone, Copy)]
 pub struct Bench {
     pub machine: Machine,
     pub lent: [u16; 512],
@@ -23,7 +24,7 @@ pub struct Bench {
 }
 
 // A bench after a line, and how many characters the line printed.
-#[derive(Drop)]
+#[derive(Clone, Copy)]
 pub struct Ran {
     pub bench: Bench,
     pub printed: usize,

@@ -1,12 +1,13 @@
 // The kinds of board, and what goes by the kind: the table of specs/Kinds.antt, with a function for each column that
 // code asks for, and which kinds can be started.
+#![tactic(auto)]
 ghost use Rattle.std.specs.Prelude.{◌≡◌, false};
 ghost use Rattle.kinds.specs.Kinds.{board_of, is_in, is_served};
 ghost use Rattle.kinds.specs.declared.Kind.TheVariants.{Distribution, Battery, Integrated};
 
 // A kind of board: the battery board with whether its ABF is placed, the integrated board with whether it has a
 // daughterboard.
-#[derive(Drop)]
+#[derive(Clone, Copy)]
 pub enum Kind {
     Distribution,
     Battery { abf: bool },

@@ -3,7 +3,7 @@ use Prim.Native.Nat.{ℕ}
 use mathlib.Core.Path.{◌≡◌, refl}
 use mathlib.Core.{Bool.true, Bool.false, List.List, List.[], List.◌∷◌, List.◌++◌, List.map}
 use Rattle.wire.specs.declared.forms.Form.TheVariants.{Raw, Ascii}
-use Rattle.hex.specs.Hex.{between}
+use Rattle.hexadecimal.specs.Hex.{between}
 use Rattle.kinds.specs.declared.Kind.TheVariants.{Distribution, Battery}
 use Rattle.script.specs.Reading.{field_of}
 use Rattle.lines.specs.Lines.{separated, profile_of, kind_in, board_in, line_by}

@@ -8,14 +8,14 @@ use script::reading::{Field, number};
 use wire::Form;
 
 // What kind of board is named.
-#[derive(Drop)]
+#[derive(Clone, Copy)]
 pub enum Which {
     Board(Kind),
     Bad,
 }
 
 // In which form a board starts.
-#[derive(Drop)]
+#[derive(Clone, Copy)]
 pub enum Starts {
     In(Form),
     Bad,

@@ -47,7 +47,7 @@ pub fn size(line: &[u8], most: u32) -> Field
 }
 
 // BID, fitted set, forced set, kind and form of the board that a line starts.
-#[derive(Drop)]
+#[derive(Clone, Copy)]
 pub enum Named {
     Profile {
         bid: u8,

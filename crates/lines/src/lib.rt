@@ -1,5 +1,6 @@
 // What a line of a replay script asks for: its letter, the fields of fixed width behind it, and its tail. No board is
 // looked at here.
+#![tactic(auto)]
 mod boards;
 mod fields;
 mod tails;
@@ -17,7 +18,7 @@ use wire::Form;
 
 // What a start is given: BID, fitted set and forced set, whether settings are stored and under which save count, the
 // kind of board, and the form in which it starts.
-#[derive(Drop)]
+#[derive(Clone, Copy)]
 pub struct Start {
     pub bid: u8,
     pub fitted: u32,
@@ -30,7 +31,7 @@ pub struct Start {
 
 // What a line asks for. The bytes of its byte string are at the front of the buffer that it was read into, `count` of
 // them; those of a start are the stored settings.
-#[derive(Drop)]
+#[derive(Clone, Copy)]
 pub enum Asked {
     Start(Start),
     Lend {
@@ -51,7 +52,7 @@ pub enum Asked {
 }
 
 // What a line asks for that changes nothing: a bus read, a framing, or the state.
-#[derive(Drop)]
+#[derive(Clone, Copy)]
 pub enum Look {
     Read { count: usize },
     Frame { room: usize },

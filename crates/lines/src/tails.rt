@@ -7,7 +7,7 @@ ghost use Rattle.lines.specs.Tails.{sign_of, string_of, tail_of, string_length, 
 use script::reading::{Count, pairs};
 
 // What stands behind a line's fields.
-#[derive(Drop)]
+#[derive(Clone, Copy)]
 pub enum Tail {
     Absent,
     Dash,
@@ -68,7 +68,7 @@ pub fn string_length(end: Tail) -> Count
 }
 
 // The transfer that a tick brings.
-#[derive(Drop)]
+#[derive(Clone, Copy)]
 pub enum Sent {
     Nothing,
     Bytes(usize),

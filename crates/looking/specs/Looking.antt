@@ -3,7 +3,7 @@
 use Rattle.std.specs.Prelude.{ℕ, min, length, take}
 use mathlib.Core.{List.List, List.[], List.◌∷◌, List.◌++◌}
 use Rattle.wire.specs.{Replies.found, declared.forms.Form.Form}
-use Rattle.hex.specs.Hex.{laid}
+use Rattle.hexadecimal.specs.Hex.{laid}
 use Rattle.reading.specs.{Lines.payload_in, declared.Line.Line}
 use Rattle.framing.specs.Framing.{framed_of}
 use Rattle.unit.specs.{Machine.due_of, declared.Machine.Machine}

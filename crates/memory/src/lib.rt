@@ -1,4 +1,5 @@
 // What a board keeps of its settings: those in force, what it shows of the last save or load, and its store.
+#![tactic(auto)]
 ghost use Rattle.std.specs.Prelude.{◌≡◌};
 ghost use Rattle.memory.specs.Memory.{one_more, empty_store, loaded_from, load_of, defaulted_of, set_in, reset_in, stored_count, saved_of};
 ghost use Rattle.memory.specs.Limits.{safety_low, safety_high, timeout_of, limits_of};
@@ -9,21 +10,21 @@ use settings::Settings;
 use value::ParamValue;
 
 // The two read-only values of a save.
-#[derive(Drop)]
+#[derive(Clone, Copy)]
 pub struct Shown {
     pub save_count: u16,
     pub checksum: u16,
 }
 
 // Nothing, or settings with their save count. Where nothing is held the other two fields are not looked at.
-#[derive(Drop)]
+#[derive(Clone, Copy)]
 pub struct Store {
     pub settings: Settings,
     pub save_count: u16,
     pub held: bool,
 }
 
-#[derive(Drop)]
+#[derive(Clone, Copy)]
 pub struct Memory {
     pub current: Settings,
     pub store: Store,
@@ -31,7 +32,7 @@ pub struct Memory {
 }
 
 // What a save answers: whether its checksum was right, and the memory after it.
-#[derive(Drop)]
+#[derive(Clone, Copy)]
 pub struct Saved {
     pub memory: Memory,
     pub right: bool,

@@ -1,11 +1,12 @@
 // The modes of the board: how long it has been in one, the table by which it leaves, and the two commands that change
 // it.
+#![tactic(auto)]
 ghost use Rattle.std.specs.Prelude.{◌≡◌, cond};
 ghost use Rattle.modes.specs.Table.{◌at_least◌, ◌above◌, ◌below◌, entered, older_of, step_of};
 ghost use Rattle.modes.specs.Commands.{to_safety, to_nominal, mode_number, safety_unavailable, nominal_unavailable};
 ghost use Rattle.modes.specs.declared.Mode.TheVariants.{Startup};
 
-#[derive(Drop)]
+#[derive(Clone, Copy)]
 pub enum Mode {
     Startup,
     Nominal,
@@ -15,7 +16,7 @@ pub enum Mode {
 
 // A mode, and the ticks since it was entered. The fields are private, so that the two change together, and only as this
 // crate has it.
-#[derive(Drop)]
+#[derive(Clone, Copy)]
 pub struct ModeAge {
     age: u64,
     mode: Mode,
@@ -23,7 +24,7 @@ pub struct ModeAge {
 
 // What the table compares with: times in ticks, thresholds in millivolts. A threshold is wider than the rail, so that
 // an unsigned one counts by value.
-#[derive(Drop)]
+#[derive(Clone, Copy)]
 pub struct Limits {
     pub linger: u64,
     pub period: u64,
@@ -34,7 +35,7 @@ pub struct Limits {
 }
 
 // What a commanded change answers: the mode and age that it leaves, or that it is not available in this mode.
-#[derive(Drop)]
+#[derive(Clone, Copy)]
 pub enum ModeAnswer {
     Accepted(ModeAge),
     Unavailable,

@@ -1,5 +1,6 @@
 // Runs the pattern of the speed measurement over the proved board, and prints a digest of all that it made;
 // docs/SPEED.md describes both.
+#![tactic(auto)]
 mod run;
 
 use libc::{STDIN_FILENO, STDOUT_FILENO};
@@ -8,7 +9,7 @@ use pattern::Asked;
 // Prints a digest.
 // argued: an instrument; its digest is compared with the second program's
 fn print(digest: u32) {
-    let text = hex::write_word(digest);
+    let text = hexadecimal::write_word(digest);
     io::write_all(STDOUT_FILENO, b"digest ");
     io::write_all(STDOUT_FILENO, &text);
     io::write_all(STDOUT_FILENO, b"\n");

@@ -3,14 +3,14 @@ ghost use Rattle.std.specs.Prelude.{◌≡◌};
 ghost use Rattle.pattern.specs.Line.{is_kind, count_in, count_of, asked_of};
 
 // The run that a line asks for, or that the line is not of the form.
-#[derive(Drop)]
+#[derive(Clone, Copy)]
 pub enum Asked {
     Run(u8, u64),
     Bad,
 }
 
 // The number that digits make, or that they make none.
-#[derive(Drop)]
+#[derive(Clone, Copy)]
 enum Count {
     Of(u64),
     Bad,

@@ -6,7 +6,7 @@ ghost use Rattle.pattern.specs.Ticks.{mixed_of, kind_of, named_of, framed_of, se
 use kinds::Kind;
 
 // The bytes of a transfer, of which so many are sent; there is no transfer where that is none.
-#[derive(Drop)]
+#[derive(Clone, Copy)]
 struct Transfer {
     length: usize,
     bytes: [u8; 8],
@@ -15,7 +15,7 @@ struct Transfer {
 // The kind of a turn's tick and what it brings besides its words, from what was drawn as number x of the row: the rail
 // in millivolts, the channels that report overcurrent and the bytes of a transfer, of which so many are sent; there is
 // none where `length` is 0.
-#[derive(Drop)]
+#[derive(Clone, Copy)]
 pub struct Brought {
     pub x: u64,
     pub length: usize,

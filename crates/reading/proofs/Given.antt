@@ -10,8 +10,8 @@ use lib.ListN.{length}
 use borrow.Author.Tests.{eqb-true, leb-true, leb-false, ltb-true, ltb-false, lt-ltb, le-ltb, le-leb, lt-leb}
 use Rattle.wire.specs.declared.forms.Form.{Form}
 use Rattle.wire.specs.declared.forms.Form.TheVariants.{Raw, Ascii}
-use Rattle.hex.specs.Hex.{payload_of, read_of}
-use Rattle.hex.specs.declared.Payload.{Payload}
+use Rattle.hexadecimal.specs.Hex.{payload_of, read_of}
+use Rattle.hexadecimal.specs.declared.Payload.{Payload}
 use Rattle.frames.specs.Frames.{starts_with, frame_of}
 use Rattle.frames.specs.First.{FrameAt}
 use Rattle.frames.specs.declared.Frame.{Frame}

@@ -12,8 +12,8 @@ use lib.Seq.{take_at}
 use borrow.Author.Tests.{le-ltb, le-leb}
 use Rattle.wire.specs.declared.forms.Form.{Form}
 use Rattle.wire.specs.declared.forms.Form.TheVariants.{Raw, Ascii}
-use Rattle.hex.specs.Hex.{payload_of, read_of, held_after}
-use Rattle.hex.specs.declared.Payload.{Payload}
+use Rattle.hexadecimal.specs.Hex.{payload_of, read_of, held_after}
+use Rattle.hexadecimal.specs.declared.Payload.{Payload}
 use Rattle.frames.specs.Frames.{opening_tag, closing_tag, frame_of}
 use Rattle.frames.specs.First.{StandsAt, FrameAt, Complete}
 use Rattle.frames.specs.declared.Frame.{Frame}

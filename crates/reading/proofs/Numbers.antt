@@ -10,10 +10,10 @@ use lib.ListN.{length}
 use Rattle.laws.proofs.Cases.{cases}
 use Rattle.wire.specs.declared.forms.Form.{Form}
 use Rattle.wire.specs.declared.forms.Form.TheVariants.{Raw, Ascii}
-use Rattle.hex.specs.Hex.{payload_of, read_of}
-use Rattle.hex.specs.Answers as hex
-use Rattle.hex.specs.declared.Payload.{Payload}
-use Rattle.hex.proofs.Numbers.{payload_number_lem}
+use Rattle.hexadecimal.specs.Hex.{payload_of, read_of}
+use Rattle.hexadecimal.specs.Answers as hex
+use Rattle.hexadecimal.specs.declared.Payload.{Payload}
+use Rattle.hexadecimal.proofs.Numbers.{payload_number_lem}
 use Rattle.frames.specs.Frames.{frame_of}
 use Rattle.frames.specs.Answers.{frame_number, has_frame, scan_number}
 use Rattle.frames.specs.declared.Frame.{Frame}

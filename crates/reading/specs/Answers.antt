@@ -5,7 +5,7 @@ use mathlib.Core.{List.List, List.[], Option.Option, Option.none, Option.some}
 use lib.{Dec.ltb, ListN.length}
 use Rattle.wire.specs.declared.forms.Form.{Form}
 use Rattle.wire.specs.declared.forms.Form.TheVariants.{Raw, Ascii}
-use Rattle.hex.specs.{Hex.payload_of, Answers.is_of_form, Answers.bytes_in}
+use Rattle.hexadecimal.specs.{Hex.payload_of, Answers.is_of_form, Answers.bytes_in}
 use Rattle.frames.specs.{Frames.frame_of, Answers.has_frame, declared.Frame.Frame}
 use Rattle.frames.specs.declared.Frame.TheVariants.{Found, NotThere}
 use Rattle.reading.specs.{Lines.part, Lines.switch_text, Lines.same, declared.Line.Line}

@@ -4,7 +4,7 @@ use Rattle.std.specs.Prelude.{ℕ, ◌≤◌, ◌<◌, length}
 use mathlib.Core.{Path.◌≡◌, Option.none, Option.some, List.List}
 use Rattle.wire.specs.declared.forms.Form.{Form}
 use Rattle.wire.specs.declared.forms.Form.TheVariants.{Raw, Ascii}
-use Rattle.hex.specs.Hex.{payload_of}
+use Rattle.hexadecimal.specs.Hex.{payload_of}
 use Rattle.frames.specs.First.{FrameAt, Complete}
 use Rattle.reading.specs.{Lines.part, Lines.switch_text, declared.Line.Line}
 use Rattle.reading.specs.declared.Line.TheVariants.{Command, Switch, NoFrame, TooLong, NotOfForm, ScratchTooShort}

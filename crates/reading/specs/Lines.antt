@@ -5,7 +5,7 @@ use mathlib.Core.{Bool.Bool, Bool.cond, Bool.◌&&◌, List.List, List.[], List.
 use lib.{Dec.eqb, Dec.ltb, ListN.length, ListN.take, ListN.drop}
 use Rattle.wire.specs.declared.forms.Form.{Form}
 use Rattle.wire.specs.declared.forms.Form.TheVariants.{Raw, Ascii}
-use Rattle.hex.specs.{Hex.payload_of, Hex.read_of, Hex.held_after, declared.Payload.Payload}
+use Rattle.hexadecimal.specs.{Hex.payload_of, Hex.read_of, Hex.held_after, declared.Payload.Payload}
 use Rattle.frames.specs.{Frames.starts_with, Frames.frame_of, declared.Frame.Frame}
 use Rattle.frames.specs.declared.Frame.TheVariants.{Found, NotThere}
 use Rattle.reading.specs.{declared.Line.Line, declared.Switched.Switched}

@@ -1,15 +1,16 @@
 // A read of the text line: the form switch, what else it answers, and the payload that it hands on. Functions on slices
 // and a form.
+#![tactic(auto)]
 ghost use Rattle.std.specs.Prelude.{◌≡◌, length};
 ghost use Rattle.std.proofs.Math.Option.{some};
-ghost use Rattle.hex.specs.Hex.{payload_of, held_after};
-ghost use Rattle.hex.specs.Answers.{payload_number};
+ghost use Rattle.hexadecimal.specs.Hex.{payload_of, held_after};
+ghost use Rattle.hexadecimal.specs.Answers.{payload_number};
 ghost use Rattle.frames.specs.Frames.{frame_of};
 ghost use Rattle.reading.specs.Lines.{same, switch_of, part, ascii_line, command_line, command_held, line_of, line_held, payload_in};
 ghost use Rattle.reading.specs.Answers.{line_number, line_tells, place_behind, command_number, reading_number};
 
 use frames::{Frame, scan};
-use hex::Payload;
+use hexadecimal::Payload;
 use wire::Form;
 
 // The most received bytes that a payload may have, in either form.
@@ -17,7 +18,7 @@ const MOST: usize = 256;
 
 // What a read of the text line answers. A command's payload lies from start up to end, of what was received in raw form
 // and of the scratch buffer in ASCII form; behind is the place after the closing tag.
-#[derive(Drop)]
+#[derive(Clone, Copy)]
 pub enum Line {
     Command {
         start: usize,
@@ -59,7 +60,7 @@ fn is_same(s: &[u8], text: &[u8]) -> bool
 }
 
 // Whether a payload switches the form, and to which.
-#[derive(Drop)]
+#[derive(Clone, Copy)]
 enum Switched {
     To(Form),
     No,
@@ -85,7 +86,7 @@ fn ascii_line(payload: &[u8], behind: usize, scratch: &mut [u8]) -> Line
     ensures number { line_number result ≡ payload_number payload.now (length scratch.old) }
     ensures place { line_tells result ≡ some behind }
 {
-    match hex::read(payload, scratch) {
+    match hexadecimal::read(payload, scratch) {
         Payload::Bytes(n) => Line::Command {
             start: 0,
             end: n,

@@ -16,11 +16,11 @@ use crate::table::{Row, units};
 use wire::Reply;
 
 // A word as it was measured.
-#[derive(Drop)]
+#[derive(Clone, Copy)]
 pub struct Raw(u16);
 
 // A whole number of the unit of its field.
-#[derive(Drop)]
+#[derive(Clone, Copy)]
 pub struct Engineering(i16);
 
 // The raw readings before any words came: all 0.

@@ -5,7 +5,7 @@ ghost use Rattle.readings.specs.Table.{factors_of, is_vipd, number_of, engineeri
 
 // The rows of the table that have numbers, by their fields. VIP CURR and VIP POWE are two rows each: one of the input,
 // the outputs and the voltage domains, and one of the channels.
-#[derive(Drop)]
+#[derive(Clone, Copy)]
 pub enum Row {
     VoltBrdsup,
     PduTemp,
@@ -22,7 +22,7 @@ pub enum Row {
 }
 
 // The numbers of a row: what is added to the raw value, and what the sum is multiplied with and divided by.
-#[derive(Drop)]
+#[derive(Clone, Copy)]
 struct Factors {
     bias: i32,
     premul: u32,

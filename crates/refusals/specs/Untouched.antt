@@ -5,7 +5,7 @@
 -- are definitions and the statement of the claim.
 use Rattle.std.specs.Prelude.{ℕ, ◌<◌, length}
 use mathlib.Core.{Path.◌≡◌, Logic.◌⊎◌, List.List, Option.some}
-use Rattle.hex.specs.Hex.{laid}
+use Rattle.hexadecimal.specs.Hex.{laid}
 use Rattle.watchdog.specs.declared.Event.TheVariants.{NoEvent}
 use Rattle.memory.specs.{Memory.empty_store, declared.Store.Store}
 use Rattle.wire.specs.declared.forms.Form.{Form}

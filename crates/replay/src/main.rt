@@ -1,9 +1,10 @@
 // Runs a replay script from standard input over the proved board, and prints what it then holds. A test instrument.
+#![tactic(auto)]
 use handling::Bench;
 use libc::{STDIN_FILENO, STDOUT_FILENO};
 
 // The bench, how much of a line was taken from the input, and whether the line is too long and more input is to come.
-#[derive(Drop)]
+#[derive(Clone, Copy)]
 struct Turn {
     bench: Bench,
     filled: usize,

@@ -11,9 +11,9 @@ use borrow.Author.Tests.{lt-ltb, le-ltb}
 use mathlib.Core.Bool.{cond}
 use mathlib.Core.Logic.{⊎_elim}
 use Rattle.laws.proofs.Lists.{lt_or_le, drop_step, drop_two, drop_end}
-use Rattle.hex.specs.Hex.{capital_of, digit_of, pair_of}
-use Rattle.hex.specs.Passes.{worth}
-use Rattle.hex.specs.declared.Hex.{Hex}
+use Rattle.hexadecimal.specs.Hex.{capital_of, digit_of, pair_of}
+use Rattle.hexadecimal.specs.Passes.{worth}
+use Rattle.hexadecimal.specs.declared.Hex.{Hex}
 use Rattle.script.specs.Printing.{Page, page, and, typed, over, digits_of, row, hex_of}
 use Rattle.script.specs.Reading.{where_one, field_of, count_of, sound, words_of}
 use Rattle.script.specs.declared.reading.Field.{Field}

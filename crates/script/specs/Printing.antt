@@ -4,7 +4,7 @@
 use Rattle.std.specs.Prelude.{ℕ, zero, suc, ◌+◌, ◌/◌, ◌%◌}
 use mathlib.Core.{Bool.cond, List.List, List.[], List.◌∷◌, List.◌++◌}
 use lib.{Dec.ltb, ListN.length, ListN.set}
-use Rattle.hex.specs.Hex.{capital_of}
+use Rattle.hexadecimal.specs.Hex.{capital_of}
 
 pub data Page : Type 0 where
   page : List ℕ → ℕ → Page

@@ -3,8 +3,8 @@
 use Rattle.std.specs.Prelude.{ℕ, zero, suc, ◌+◌, ◌*◌, ◌%◌}
 use mathlib.Core.{Bool.cond, List.List, List.[], List.◌∷◌}
 use lib.{Dec.ltb, ListN.get_or, ListN.drop}
-use Rattle.hex.specs.{Hex.digit_of, Hex.pair_of, Passes.worth, declared.Hex.Hex}
-use Rattle.hex.specs.declared.Hex.TheVariants.{Value, Bad}
+use Rattle.hexadecimal.specs.{Hex.digit_of, Hex.pair_of, Passes.worth, declared.Hex.Hex}
+use Rattle.hexadecimal.specs.declared.Hex.TheVariants.{Value, Bad}
 use Rattle.script.specs.{declared.reading.Field.Field, declared.reading.Count.Count}
 
 -- what holds where a digit is one

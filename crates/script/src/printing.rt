@@ -1,6 +1,6 @@
 // A printed line, put together in a buffer: each function answers the place behind what it put there.
 ghost use Rattle.std.specs.Prelude.{◌≡◌, [], ◌∷◌, ◌++◌, ◌%◌, take};
-ghost use Rattle.hex.specs.Hex.{capital_of};
+ghost use Rattle.hexadecimal.specs.Hex.{capital_of};
 ghost use Rattle.script.specs.Printing.{page, typed, over, digits_of, row, hex_of};
 
 // What was printed.

@@ -3,17 +3,17 @@ ghost use Rattle.std.specs.Prelude.{◌≡◌, [], cond, eqb, length, get_or, ta
 ghost use Rattle.std.proofs.lemmas.List.Edits.{sets};
 ghost use Rattle.script.specs.Reading.{field_of, count_of, sound, words_of};
 
-use hex::Hex;
+use hexadecimal::Hex;
 
 // What a field is.
-#[derive(Drop)]
+#[derive(Clone, Copy)]
 pub enum Field {
     Number(u32),
     Bad,
 }
 
 // How many bytes a byte string is.
-#[derive(Drop)]
+#[derive(Clone, Copy)]
 pub enum Count {
     Bytes(usize),
     Bad,
@@ -45,7 +45,7 @@ pub fn number(line: &[u8], at: usize, digits: usize) -> Field
     let mut left = digits;
     let mut i = 0;
     while 0 < left {
-        let Hex::Value(d) = hex::digit(wire::byte(text, i)) else {
+        let Hex::Value(d) = hexadecimal::digit(wire::byte(text, i)) else {
             return Field::Bad;
         };
         n = n % 268435456 * 16 + d as u32;
@@ -63,7 +63,7 @@ pub fn pairs(text: &[u8], out: &mut [u8]) -> Count
     let n = text.len() / 2;
     let mut k = 0;
     while k < n {
-        let Hex::Value(b) = hex::pair(text[2 * k], text[2 * k + 1]) else {
+        let Hex::Value(b) = hexadecimal::pair(text[2 * k], text[2 * k + 1]) else {
             return Count::Bad;
         };
         if out.len() <= k {

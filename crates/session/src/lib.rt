@@ -1,5 +1,6 @@
 // A session: the board of a sheet is started, and its ticks run one after another, each with its line of the
 // transcript.
+#![tactic(auto)]
 ghost use Rattle.std.specs.Prelude.{◌≡◌, ◌<◌, ◌≤◌};
 ghost use Rattle.transcript.specs.Transcript.{opened_number};
 ghost use Rattle.session.specs.Sessions.{no_session, ended_step, opened, stepped, started_of, opened_of, stepped_of, ticked_of, sheet_refusal};
@@ -11,7 +12,7 @@ use transcript::{Answer, tick_line, ticks_line};
 use unit::Machine;
 
 // The machine of a sheet, how many ticks the sheet has and how many are left, and the place of the next tick's line.
-#[derive(Drop)]
+#[derive(Clone, Copy)]
 pub struct Session {
     pub machine: Machine,
     pub count: u32,
@@ -20,7 +21,7 @@ pub struct Session {
 }
 
 // The session of a sheet, the answer, and how many characters were printed.
-#[derive(Drop)]
+#[derive(Clone, Copy)]
 pub struct Opened {
     pub session: Session,
     pub answer: Answer,
@@ -28,7 +29,7 @@ pub struct Opened {
 }
 
 // A session after one step, and how many characters were printed.
-#[derive(Drop)]
+#[derive(Clone, Copy)]
 pub struct Stepped {
     pub session: Session,
     pub printed: usize,

@@ -1,4 +1,5 @@
 // The read/write parameters of Table 3-25: what an id is, and its value read, set and reset.
+#![tactic(auto)]
 ghost use Rattle.std.specs.Prelude.{◌≡◌, ◌+◌, ◌<◌, pos};
 ghost use Rattle.settings.specs.Table.{lies, parameter_of, low_of, high_of, clamp_of, inside_of, from};
 ghost use Rattle.settings.specs.Values.{get_of, set_of, reset_of, defaults_of, all_inside, in_range_of};
@@ -11,7 +12,7 @@ use kinds::Kind;
 use value::{ParamValue, ValueType};
 
 // The values of the 140 parameters, an array for each type, from the lowest id of the type on.
-#[derive(Drop)]
+#[derive(Clone, Copy)]
 pub struct Settings {
     pub u32s: [u32; 6],
     pub u16s: [u16; 68],
@@ -21,7 +22,7 @@ pub struct Settings {
 }
 
 // What an id is: a parameter of Table 3-25, one of Table 3-26, or none.
-#[derive(Drop)]
+#[derive(Clone, Copy)]
 pub enum Parameter {
     ReadWrite(ValueType),
     ReadOnly(ValueType),
@@ -29,7 +30,7 @@ pub enum Parameter {
 }
 
 // What is read of an id: its value, or that it is read-only or no parameter.
-#[derive(Drop)]
+#[derive(Clone, Copy)]
 pub enum Got {
     Value(ParamValue),
     ReadOnly(ValueType),
@@ -37,7 +38,7 @@ pub enum Got {
 }
 
 // Where an id's value stands: the array of its type, and the place in it.
-#[derive(Drop)]
+#[derive(Clone, Copy)]
 enum Place {
     Int8(usize),
     Uint8(usize),

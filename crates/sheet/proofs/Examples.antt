@@ -3,7 +3,7 @@ use Prim.Native.Nat.{ℕ}
 use mathlib.Core.Path.{◌≡◌, refl}
 use mathlib.Core.List.{List, [], ◌∷◌, ◌++◌}
 use lib.IntN.{negsuc}
-use Rattle.hex.specs.Hex.{between, pair_of, payload_of}
+use Rattle.hexadecimal.specs.Hex.{between, pair_of, payload_of}
 use Rattle.channels.specs.Sets.{has, set_of, with_channel}
 use Rattle.grammar.specs.Grammar.{fails, reads, peek_at, byte, end, times, text, first_from, up_to}
 use Rattle.grammar.specs.Numbers.{digits, spells, number, signed, hex_digit, word}

@@ -7,9 +7,9 @@ use mathlib.Core.List.{List, [], ◌∷◌, ◌++◌}
 use lib.Dec.{leb, leb-zero}
 use lib.IntN.{ℤ}
 use lib.ListN.{length, drop}
-use Rattle.hex.specs.Hex.{payload_of, read_of, laid, held_after}
-use Rattle.hex.specs.declared.Payload.{Payload}
-use Rattle.hex.specs.declared.Payload.TheVariants.{Bytes, NotOfForm, TooShort}
+use Rattle.hexadecimal.specs.Hex.{payload_of, read_of, laid, held_after}
+use Rattle.hexadecimal.specs.declared.Payload.{Payload}
+use Rattle.hexadecimal.specs.declared.Payload.TheVariants.{Bytes, NotOfForm, TooShort}
 use Rattle.grammar.specs.Grammar.{Read, fails, reads, on, text, up_to}
 use Rattle.grammar.proofs.Bytes.{up_to_byte}
 use Rattle.sheet.specs.Form.{where_true, Transfer, silence, bytes, bytes_of, spells, command, Tick, any_tick_line, within, tick_line}

@@ -3,7 +3,7 @@
 use Rattle.std.specs.Prelude.{ℕ}
 use mathlib.Core.{Bool.Bool, Bool.true, Bool.false, Bool.cond, List.List, List.[]}
 use lib.{Dec.leb, ListN.length}
-use Rattle.hex.specs.Hex.{laid}
+use Rattle.hexadecimal.specs.Hex.{laid}
 use Rattle.grammar.specs.Grammar.{Read, fails, reads, on, times, end}
 use Rattle.sheet.specs.Form.{Top, Transfer, silence, bytes, bytes_of, Tick, any_tick_line, within, tick_line, Sheet}
 use Rattle.sheet.specs.{declared.head.Head.Head, declared.ticks.TickLine.TickLine, declared.ticks.Command.Command}

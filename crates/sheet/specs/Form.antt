@@ -4,7 +4,7 @@
 use Rattle.std.specs.Prelude.{ℕ, zero, suc, ◌+◌}
 use mathlib.Core.{Bool.Bool, Bool.cond, List.List, List.[], List.◌∷◌, Option.Option, Option.none, Option.some}
 use lib.{Dec.leb, IntN.ℤ, ListN.length}
-use Rattle.hex.specs.Hex.{payload_of}
+use Rattle.hexadecimal.specs.Hex.{payload_of}
 use Rattle.channels.specs.Sets.{with_channel}
 use Rattle.grammar.specs.Grammar.{Read, fails, reads, Parser, ◌>>=◌, ◌>>◌, ◌<|>◌, pure, byte, end, times, text, up_to}
 use Rattle.grammar.specs.Numbers.{number, signed, word}

@@ -7,7 +7,7 @@ ghost use Rattle.sheet.specs.Answers.{head_of, head_number};
 use grammar::{Next, Number, Word, literal, read_number};
 
 // The profile's parts, how many ticks there are, and the place of the first.
-#[derive(Drop)]
+#[derive(Clone, Copy)]
 pub enum Head {
     Is {
         bid: u8,

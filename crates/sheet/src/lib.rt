@@ -1,4 +1,5 @@
 // The session sheet, as it is read: a profile, and ticks one after another. No board is here.
+#![tactic(auto)]
 mod head;
 mod ticks;
 mod whole;

@@ -1,14 +1,14 @@
 // One tick line of a sheet.
 ghost use Rattle.std.specs.Prelude.{◌≡◌, length};
-ghost use Rattle.hex.specs.Hex.{payload_of};
+ghost use Rattle.hexadecimal.specs.Hex.{payload_of};
 ghost use Rattle.sheet.specs.Form.{spells, command, any_tick_line};
 ghost use Rattle.sheet.specs.Answers.{command_of, command_held, tick_of, tick_held, tick_number, tick_refusal};
 
 use grammar::{Next, Place, Signed, Word, find_byte, literal, read_signed, read_word};
-use hex::Payload;
+use hexadecimal::Payload;
 
 // What a tick line says, with how many bytes of a transfer it spells and the place behind it.
-#[derive(Drop)]
+#[derive(Clone, Copy)]
 pub enum TickLine {
     Is {
         rail: i16,
@@ -22,7 +22,7 @@ pub enum TickLine {
 }
 
 // Whether there is a transfer, how many bytes it has, and the place behind the line.
-#[derive(Drop)]
+#[derive(Clone, Copy)]
 enum Command {
     Is {
         sent: bool,
@@ -38,7 +38,7 @@ fn spelt(text: &[u8], next: usize, transfer: &mut [u8]) -> Command
     ensures answer { result ≡ command_of (length transfer.old) (spells (payload_of text.now) next) }
     ensures held { transfer.new ≡ command_held (spells (payload_of text.now) next) transfer.old }
 {
-    match hex::read(text, transfer) {
+    match hexadecimal::read(text, transfer) {
         Payload::Bytes(count) => Command::Is {
             sent: true,
             count,

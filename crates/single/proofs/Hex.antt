@@ -1,12 +1,12 @@
 -- Pairs of digits, payloads and words. Assumes nothing.
 use mathlib.Core.Path.{sym, ◌∙◌}
 use Rattle.single.specs.Single.{Single}
-use Rattle.hex.proofs.digit.Reads as digit
-use Rattle.hex.proofs.pair.Reads as pair
-use Rattle.hex.proofs.read.Reads as read
-use Rattle.hex.proofs.write.Reads as write
-use Rattle.hex.proofs.read_word.Reads as read_word
-use Rattle.hex.proofs.write_word.Reads as write_word
+use Rattle.hexadecimal.proofs.digit.Reads as digit
+use Rattle.hexadecimal.proofs.pair.Reads as pair
+use Rattle.hexadecimal.proofs.read.Reads as read
+use Rattle.hexadecimal.proofs.write.Reads as write
+use Rattle.hexadecimal.proofs.read_word.Reads as read_word
+use Rattle.hexadecimal.proofs.write_word.Reads as write_word
 
 pub single_digit : Single digit.Post (λ κ r s. r)
 single_digit κ a r r' s s' p q = p.0 ∙ sym q.0

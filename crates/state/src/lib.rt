@@ -1,4 +1,5 @@
 // What a board is made of, how it starts and starts over.
+#![tactic(auto)]
 mod parts;
 mod starting;
 

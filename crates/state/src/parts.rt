@@ -11,7 +11,7 @@ use readings::Raw;
 use wire::{Form, Reply};
 
 // What a board was started as. Its form is the one in which the text line starts, and starts over after a reset.
-#[derive(Drop)]
+#[derive(Clone, Copy)]
 pub struct Profile {
     pub fitted: u32,
     pub forced: u32,
@@ -21,7 +21,7 @@ pub struct Profile {
 }
 
 // Why a board last started over, or that it left emergency since.
-#[derive(Drop)]
+#[derive(Clone, Copy)]
 pub enum Cause {
     PowerOn,
     Watchdog,
@@ -30,7 +30,7 @@ pub enum Cause {
 }
 
 // How often each kind of reset happened, and the cause of the latest.
-#[derive(Drop)]
+#[derive(Clone, Copy)]
 pub struct Resets {
     pub power: u16,
     pub watchdog: u16,
@@ -39,20 +39,20 @@ pub struct Resets {
 }
 
 // Whether the measured words are still new, brought and not yet told: as raw readings, and as engineering readings.
-#[derive(Drop)]
+#[derive(Clone, Copy)]
 pub struct Fresh {
     pub raw: bool,
     pub engineering: bool,
 }
 
 // The measured words, raw, of which as many count as the kind of board has, and whether they are still new.
-#[derive(Drop)]
+#[derive(Clone, Copy)]
 pub struct Measured {
     pub words: [Raw; 130],
     pub fresh: Fresh,
 }
 
-#[derive(Drop)]
+#[derive(Clone, Copy)]
 pub struct Board {
     pub phase: ModeAge,
     pub timer: u64,

@@ -9,14 +9,14 @@ use modes::ModeAge;
 use wire::Reply;
 
 // What a start answers.
-#[derive(Drop)]
+#[derive(Clone, Copy)]
 pub enum StartAnswer {
     Accepted,
     ProfileBreaksARule,
 }
 
 // The board after a start, and the answer.
-#[derive(Drop)]
+#[derive(Clone, Copy)]
 pub struct Started {
     pub board: Board,
     pub answer: StartAnswer,

@@ -10,9 +10,9 @@ use lib.ListN.{length, take, drop, length-take}
 use lib.Seq.{take_at}
 use borrow.Author.Tests.{le-leb}
 use Rattle.laws.proofs.Lists.{lt_or_le}
-use Rattle.hex.specs.Hex.{text_of, laid, written_of}
-use Rattle.hex.specs.declared.Written.TheVariants.{Length, NoRoom}
-use Rattle.hex.proofs.Writing.{text_length, text_none}
+use Rattle.hexadecimal.specs.Hex.{text_of, laid, written_of}
+use Rattle.hexadecimal.specs.declared.Written.TheVariants.{Length, NoRoom}
+use Rattle.hexadecimal.proofs.Writing.{text_length, text_none}
 use Rattle.transcript.specs.Transcript.{digit_for, digits_for}
 
 -- ---- a turn over the powers of ten

@@ -10,7 +10,7 @@ use lib.ListN.{length, take, drop, set, length-set, length-append}
 use lib.Seq.{sets}
 use borrow.Author.Tests.{lt-ltb}
 use Rattle.laws.proofs.Lists.{sets_step, sets_front}
-use Rattle.hex.specs.Hex.{word_text}
+use Rattle.hexadecimal.specs.Hex.{word_text}
 use Rattle.wire.specs.Replies.{shown}
 use Rattle.wire.specs.declared.reply.Reply.{Reply}
 use Rattle.state.specs.declared.parts.Board.{Board}

@@ -2,7 +2,7 @@
 -- `-`, 10 ends a line, 48 to 57 are the digits. Assumes nothing: these are definitions.
 use Rattle.std.specs.Prelude.{ℕ, zero, suc, ◌+◌, ◌/◌, ◌%◌, ◌^◌, ltb}
 use mathlib.Core.{Bool.Bool, Bool.cond, List.List, List.[], List.◌∷◌, List.◌++◌}
-use Rattle.hex.specs.Hex.{text_of, word_text}
+use Rattle.hexadecimal.specs.Hex.{text_of, word_text}
 use Rattle.wire.specs.{Replies.shown, declared.reply.Reply.Reply}
 use Rattle.state.specs.{Parts.mode_of, declared.parts.Board.Board}
 use Rattle.naming.specs.Naming.{mode_letter}

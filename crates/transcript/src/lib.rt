@@ -1,18 +1,19 @@
 // The lines of a transcript and the line of a refused sheet, put together in a buffer: each function answers the place
 // behind what it put there.
+#![tactic(auto)]
 ghost use Rattle.std.specs.Prelude.{◌≡◌, ◌∷◌, ◌<◌};
-ghost use Rattle.hex.specs.Hex.{word_text, text_of};
+ghost use Rattle.hexadecimal.specs.Hex.{word_text, text_of};
 ghost use Rattle.wire.specs.Replies.{shown};
 ghost use Rattle.script.specs.Printing.{page, typed};
 ghost use Rattle.transcript.specs.Transcript.{digit_for, decimal, made_text, ticks_text, tick_text, refusal_text};
 
-use hex::Written;
+use hexadecimal::Written;
 use script::printing::{put, text};
 use state::Board;
 use wire::Reply;
 
 // What opening a sheet answers.
-#[derive(Drop)]
+#[derive(Clone, Copy)]
 pub enum Answer {
     Running,
     ProfileBreaksARule,
@@ -51,7 +52,7 @@ fn set(out: &mut [u8], at: usize, channels: u32) -> usize
     ensures { page out.new result ≡ typed (page out.old at) (32 ∷ word_text channels) }
 {
     let place = put(out, at, 32);
-    let digits = hex::write_word(channels);
+    let digits = hexadecimal::write_word(channels);
     text(out, place, &digits)
 }
 
@@ -62,7 +63,7 @@ fn reply(out: &mut [u8], at: usize, r: Reply) -> usize
     let bytes = r.bytes;
     let len = r.len;
     let mut digits = [0u8; 1024];
-    match hex::write(wire::first(&bytes, len), &mut digits) {
+    match hexadecimal::write(wire::first(&bytes, len), &mut digits) {
         Written::Length(n) => text(out, at, wire::first(&digits, n)),
         Written::NoRoom => at,
     }

@@ -5,7 +5,7 @@ use mathlib.Core.Bool.{Bool, true}
 use mathlib.Core.List.{List, [], ◌∷◌}
 use Rattle.wire.specs.declared.forms.Form.{Form}
 use Rattle.wire.specs.declared.forms.Form.TheVariants.{Raw, Ascii}
-use Rattle.hex.specs.Hex.{between, pair_of, payload_of}
+use Rattle.hexadecimal.specs.Hex.{between, pair_of, payload_of}
 use Rattle.memory.specs.declared.Store.{Store}
 use Rattle.state.specs.Parts.{distribution_board, battery_board, naming_raw}
 use Rattle.state.specs.Start.{keeps_the_rules}

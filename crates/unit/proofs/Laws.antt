@@ -12,7 +12,7 @@ use Rattle.laws.proofs.Cases.{cases}
 use Rattle.wire.specs.Replies.{shown}
 use Rattle.wire.specs.declared.reply.Reply as reply
 use Rattle.wire.specs.declared.forms.Form.{Form}
-use Rattle.hex.specs.Hex.{laid}
+use Rattle.hexadecimal.specs.Hex.{laid}
 use Rattle.watchdog.specs.Watchdog as dog
 use Rattle.watchdog.specs.declared.Event.{Event}
 use Rattle.watchdog.specs.declared.Event.TheVariants.{NoEvent, PeripheralReset, WatchdogReset}

@@ -1,8 +1,9 @@
 // What a bench calls, in one place. Every call takes a machine by value, and hands it back where it changes.
+#![tactic(auto)]
 ghost use Rattle.std.specs.Prelude.{◌≡◌, cond, length};
 ghost use Rattle.wire.specs.Replies.{found};
-ghost use Rattle.hex.specs.Hex.{laid};
-ghost use Rattle.hex.specs.Answers.{short_number};
+ghost use Rattle.hexadecimal.specs.Hex.{laid};
+ghost use Rattle.hexadecimal.specs.Answers.{short_number};
 ghost use Rattle.frames.specs.Frames.{frame_of};
 ghost use Rattle.reading.specs.Lines.{line_held, payload_in};
 ghost use Rattle.reading.specs.Answers.{line_number, line_tells, place_behind, reading_number};
@@ -21,14 +22,14 @@ use state::{Board, Profile, StartAnswer};
 use watchdog::Event;
 
 // A board, and what its text line has to say.
-#[derive(Drop)]
+#[derive(Clone, Copy)]
 pub struct Machine {
     pub board: Board,
     pub due: Due,
 }
 
 // The machine after a start, and the answer.
-#[derive(Drop)]
+#[derive(Clone, Copy)]
 pub struct Begun {
     pub machine: Machine,
     pub answer: StartAnswer,
@@ -37,7 +38,7 @@ pub struct Begun {
 // The machine after a tick, what the tick tells of its transfer, what the watchdog did, and whether the tick made a
 // reply that is still there. After a tick that was refused none was made in it, and the machine still has to say what
 // it had to say before.
-#[derive(Drop)]
+#[derive(Clone, Copy)]
 pub struct Told {
     pub machine: Machine,
     pub outcome: Outcome,
@@ -46,7 +47,7 @@ pub struct Told {
 }
 
 // The machine after a read of its text line, and what the read answers.
-#[derive(Drop)]
+#[derive(Clone, Copy)]
 pub struct Heard {
     pub machine: Machine,
     pub line: Line,

@@ -1,4 +1,5 @@
 // A parameter's value as it travels: the ten types of the ICD's Table 3-24.
+#![tactic(auto)]
 ghost use Rattle.std.specs.Prelude.{◌≡◌, ◌<◌, ◌^◌};
 ghost use Rattle.value.specs.Types.{width, type_of};
 ghost use Rattle.value.specs.Values.{spelt, value_bytes, value_of, read_of};
@@ -7,7 +8,7 @@ ghost use Rattle.value.specs.Answers.{read_number, spelt_number, value_number};
 use wire::{Float32, Float64};
 
 // A type of Table 3-24.
-#[derive(Drop)]
+#[derive(Clone, Copy)]
 pub enum ValueType {
     Int8,
     Uint8,
@@ -22,7 +23,7 @@ pub enum ValueType {
 }
 
 // A value that keeps its type.
-#[derive(Drop)]
+#[derive(Clone, Copy)]
 pub enum ParamValue {
     Int8(i8),
     Uint8(u8),
@@ -37,14 +38,14 @@ pub enum ParamValue {
 }
 
 // A value's bytes: the first `len` of them, the rest 0.
-#[derive(Drop)]
+#[derive(Clone, Copy)]
 pub struct ValueBytes {
     pub len: usize,
     pub bytes: [u8; 8],
 }
 
 // What the front of some bytes holds of a type.
-#[derive(Drop)]
+#[derive(Clone, Copy)]
 pub enum Parsed {
     Value(ParamValue),
     TooShort,

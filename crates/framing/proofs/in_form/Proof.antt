@@ -1,6 +1,6 @@
 -- A reply's bytes are copied, or its digits are written. Assumes nothing.
 use lib.ListN.{length}
-use Rattle.hex.specs.Hex.{text_of}
+use Rattle.hexadecimal.specs.Hex.{text_of}
 use mathlib.Core.Path.{sym, ap, ◌∙◌}
 use Rattle.framing.proofs.Enclosing.{framed, framed_digits}
 use borrow.Author.Rules.{rules}

@@ -5,8 +5,8 @@ use native.Mathlib.Omega.{arith}
 use Prim.Native.Nat.{ℕ, ◌*◌, ◌^◌, ◌≤◌, ◌<◌, ◌-◌}
 use mathlib.Core.Path.{◌≡◌, sym, ap, ◌∙◌}
 use mathlib.Core.List.{List}
-use Rattle.hex.specs.Hex.{digit_of}
-use Rattle.hex.specs.Passes.{worth}
+use Rattle.hexadecimal.specs.Hex.{digit_of}
+use Rattle.hexadecimal.specs.Passes.{worth}
 use Rattle.grammar.specs.Numbers.{word}
 use Rattle.grammar.proofs.Refusals.{with_number}
 use Rattle.grammar.proofs.Words.{past_bad, word_end, word_bad, word_more, grows, small}
@@ -15,7 +15,7 @@ use Rattle.grammar.proofs.read_word.Tie as tie
 use Rattle.grammar.proofs.read_word.Reads as reads
 use Rattle.grammar.proofs.read_word.Lts as lts
 use Rattle.grammar.proofs.peek.Reads as peek-reads
-use Rattle.hex.proofs.digit.Reads as digit-reads
+use Rattle.hexadecimal.proofs.digit.Reads as digit-reads
 
 record Digits (s : List ℕ) (at v i left : ℕ) : Type 0 where
   upto : left ≤ 8

@@ -3,7 +3,7 @@ use Prim.Native.Nat.{ℕ}
 use mathlib.Core.Path.{◌≡◌, ap, ◌∙◌}
 use mathlib.Core.List.{List}
 use lib.ListN.{length, take}
-use Rattle.hex.specs.Hex.{laid}
+use Rattle.hexadecimal.specs.Hex.{laid}
 use Rattle.framing.specs.Framing.{framed_of}
 use Rattle.unit.specs.Machine.{due_of}
 use Rattle.looking.specs.Looking.{framing_line}

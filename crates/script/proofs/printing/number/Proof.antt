@@ -5,7 +5,7 @@ use Prim.Native.Nat.{ℕ, ◌≤◌, ◌-◌, ◌+◌, ◌%◌}
 use mathlib.Core.Path.{◌≡◌, refl, ap, sym, ◌∙◌}
 use mathlib.Core.List.{List, [], ◌∷◌}
 use lib.ListN.{length}
-use Rattle.hex.specs.Hex.{capital_of}
+use Rattle.hexadecimal.specs.Hex.{capital_of}
 use Rattle.script.specs.Printing.{page, typed, over, digits_of}
 use Rattle.script.proofs.Turns.{turn, digits_turn}
 use Rattle.script.proofs.printing.number.Statement.{statement}

@@ -4,9 +4,9 @@ use native.Mathlib.Omega.{arith}
 use Prim.Native.Nat.{ℕ, ◌≤◌, ◌-◌, ◌+◌, ◌*◌, ◌%◌}
 use mathlib.Core.Path.{◌≡◌, refl, ap, sym, ◌∙◌}
 use lib.ListN.{drop, get_or}
-use Rattle.hex.specs.Hex.{digit_of}
-use Rattle.hex.specs.Passes.{worth}
-use Rattle.hex.specs.declared.Hex.{Hex}
+use Rattle.hexadecimal.specs.Hex.{digit_of}
+use Rattle.hexadecimal.specs.Passes.{worth}
+use Rattle.hexadecimal.specs.declared.Hex.{Hex}
 use Rattle.script.specs.Reading.{field_of, where_one}
 use Rattle.script.specs.declared.reading.Field.{Field}
 use Rattle.script.proofs.Turns.{number_bad, number_good, number_end}

@@ -8,9 +8,9 @@ use mathlib.Core.List.{List, [], ◌∷◌}
 use lib.ListN.{length, drop, get_or, length-set}
 use lib.Seq.{sets}
 use Rattle.laws.proofs.Lists.{sets_turn}
-use Rattle.hex.specs.Hex.{pair_of}
-use Rattle.hex.specs.Passes.{worth}
-use Rattle.hex.specs.declared.Hex.{Hex}
+use Rattle.hexadecimal.specs.Hex.{pair_of}
+use Rattle.hexadecimal.specs.Passes.{worth}
+use Rattle.hexadecimal.specs.declared.Hex.{Hex}
 use Rattle.script.specs.Reading.{count_of, sound, where_one}
 use Rattle.script.specs.declared.reading.Count.{Count}
 use Rattle.script.proofs.Turns.{sound_bad, sound_good, count_bad, count_full, count_good, count_end, count_half, sound_end, sets_out}

@@ -1,14 +1,14 @@
 -- `spelt` meets its contract: the answer of the read of hex, case by case. Assumes nothing.
 use mathlib.Core.Path.{sym, ap, ◌∙◌}
 use lib.ListN.{length}
-use Rattle.hex.specs.Hex.{payload_of}
+use Rattle.hexadecimal.specs.Hex.{payload_of}
 use Rattle.sheet.proofs.Lines.{command_by, spells_told, spells_held}
 use borrow.Author.Rules.{rules}
 use Rattle.sheet.proofs.ticks.spelt.Statement.{statement}
 use Rattle.sheet.proofs.ticks.spelt.Tie as tie
 use Rattle.sheet.proofs.ticks.spelt.Reads as reads
 use Rattle.sheet.proofs.ticks.spelt.Lts as lts
-use Rattle.hex.proofs.read.Reads as read-reads
+use Rattle.hexadecimal.proofs.read.Reads as read-reads
 
 read-requires : tie.Need-read-requires
 read-requires c κs = search rules
