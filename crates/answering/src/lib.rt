@@ -1,5 +1,6 @@
 // What an answered transfer leaves to be read, and what it leaves of the memory.
 #![tactic(auto)]
+
 ghost use Rattle.std.specs.Prelude.{◌≡◌, take};
 ghost use Rattle.wire.specs.Replies.{reply_of};
 ghost use Rattle.kinds.specs.Kinds.{board_of};

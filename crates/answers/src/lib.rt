@@ -1,6 +1,7 @@
 // What a transfer may be answered, with the status code of each answer, what a board is called by, and what a parameter
 // reads.
 #![tactic(auto)]
+
 ghost use Rattle.std.specs.Prelude.{◌≡◌};
 ghost use Rattle.answers.specs.Answers.{received_in, header_of, stat_of};
 

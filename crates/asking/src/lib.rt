@@ -1,6 +1,7 @@
 // What a transfer asks of a board: the checks that need no more of it than its kind, its BID and its mode, and what
 // comes of them.
 #![tactic(auto)]
+
 ghost use Rattle.std.specs.Prelude.{◌≡◌};
 ghost use Rattle.asking.specs.Checks.{is_startup};
 ghost use Rattle.asking.specs.Asked.{refused_by, asked_number, asked_of, number_asked};

@@ -1,6 +1,7 @@
 // Runs the session sheet on standard input, and prints its transcript or why it is refused. Nothing is decided here:
 // `session` and `transcript` say what is printed.
 #![tactic(auto)]
+
 ghost use Rattle.std.specs.Prelude.{◌≡◌};
 ghost use Rattle.sheet.specs.Form.{tick_line};
 ghost use Rattle.session.specs.Sessions.{next_by};

@@ -1,5 +1,6 @@
 // One tick of a board: five steps, one after another.
 #![tactic(auto)]
+
 ghost use Rattle.std.specs.Prelude.{cond, ◌&&◌, [], ◌≡◌};
 ghost use Rattle.kinds.specs.Kinds.{board_of};
 ghost use Rattle.watchdog.specs.Watchdog.{watched_of};

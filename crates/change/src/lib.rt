@@ -1,5 +1,6 @@
 // What a change of mode brings with it: for the channels, for the watchdog's timer, and for the power reset count.
 #![tactic(auto)]
+
 ghost use Rattle.std.specs.Prelude.{◌≡◌};
 ghost use Rattle.change.specs.Change.{is_dark, from_nominal_to_safety, leaves_emergency, entering_of, timer_after, left_emergency, resets_after};
 

@@ -3,7 +3,7 @@
 -- the list of its board has. Assumes nothing.
 use Prim.Native.Nat.{ℕ}
 use mathlib.Core.Path.{◌≡◌, refl, sym, ap, ◌∙◌}
-use mathlib.Core.Bool.{Bool, true, false, cond, not, ◌&&◌, and_true, and_false, false≢true}
+use mathlib.Core.Bool.{Bool, true, false, cond, not, ◌&&◌, and-true, and-false, false≢true}
 use mathlib.Core.List.{List, [], ◌∷◌}
 use lib.Dec.{eqb, ltb}
 use lib.IntN.{ℤ}
@@ -106,14 +106,14 @@ reply_of_lem battery in-units b = refl
 ends : (p : Part) (o : Owner) (q : Part) (b : Board)
     → is_new p (reading_of o q b).board.measured.fresh ≡ (is_new p b.measured.fresh && not (is_in (code_for o q) (codes_for p)))
 unfolding housekeeping_of engineering_housekeeping_of battery_housekeeping_of engineering_battery_housekeeping_of accepted_with is_in
-ends as-raw distribution as-raw b = sym (and_false b.measured.fresh.raw)
-ends as-raw distribution in-units b = sym (and_true b.measured.fresh.raw)
-ends as-raw battery as-raw b = sym (and_false b.measured.fresh.raw)
-ends as-raw battery in-units b = sym (and_true b.measured.fresh.raw)
-ends in-units distribution as-raw b = sym (and_true b.measured.fresh.engineering)
-ends in-units distribution in-units b = sym (and_false b.measured.fresh.engineering)
-ends in-units battery as-raw b = sym (and_true b.measured.fresh.engineering)
-ends in-units battery in-units b = sym (and_false b.measured.fresh.engineering)
+ends as-raw distribution as-raw b = sym (and-false b.measured.fresh.raw)
+ends as-raw distribution in-units b = sym (and-true b.measured.fresh.raw)
+ends as-raw battery as-raw b = sym (and-false b.measured.fresh.raw)
+ends as-raw battery in-units b = sym (and-true b.measured.fresh.raw)
+ends in-units distribution as-raw b = sym (and-true b.measured.fresh.engineering)
+ends in-units distribution in-units b = sym (and-false b.measured.fresh.engineering)
+ends in-units battery as-raw b = sym (and-true b.measured.fresh.engineering)
+ends in-units battery in-units b = sym (and-false b.measured.fresh.engineering)
 
 -- the codes of which `Done` or this page says what becomes of the words
 abbrev spoken_of : List ℕ
@@ -286,7 +286,7 @@ module _ (rail : ℤ) (limits : Limits) (s : List ℕ) (b : Board) where
 
   -- words that stay are as new as they were
   as_before : (p : Part) → Keeps (commanded_of rail limits true s b) → new_after p true false
-  as_before p e = ap (λ (w : Measured). is_new p w.fresh) e ∙ sym (and_true (is_new p b.measured.fresh))
+  as_before p e = ap (λ (w : Measured). is_new p w.fresh) e ∙ sym (and-true (is_new p b.measured.fresh))
 
   -- an accepted command ends that of its own code
   accepted_new : (p : Part) → Accepted (commanded_of rail limits true s b) → eqb (code_of s) 0xAA ≡ false → new_after p true (is_in (code_of s) (codes_for p))
@@ -314,7 +314,7 @@ module _ (rail : ℤ) (limits : Limits) (s : List ℕ) (b : Board) where
   pub new_after_lem : (p : Part) (sent : Bool) → (is_accepted (told_number (commanded_of rail limits sent s b).outcome) && eqb (code_of s) 0xAA) ≡ false
       → new_after p sent (is_accepted (told_number (commanded_of rail limits sent s b).outcome) && is_in (code_of s) (codes_for p))
   unfolding commanded_of
-  new_after_lem p false n = sym (and_true (is_new p b.measured.fresh))
+  new_after_lem p false n = sym (and-true (is_new p b.measured.fresh))
   new_after_lem p true n =
       cases (is_accepted (told_number (transferred_of rail limits s b).outcome))
       (λ a. rw a (accepted_new p a (rw a at n)))

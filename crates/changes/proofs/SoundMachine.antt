@@ -2,7 +2,7 @@
 -- of a tick keeps both. Assumes nothing.
 use Prim.Native.Nat.{ℕ, ◌<◌}
 use mathlib.Core.Path.{◌≡◌, refl, sym, ◌∙◌, subst}
-use mathlib.Core.Bool.{Bool, true, false, cond, ◌&&◌, and_false}
+use mathlib.Core.Bool.{Bool, true, false, cond, ◌&&◌, and-false}
 use mathlib.Core.List.{List, [], ◌∷◌}
 use lib.IntN.{ℤ}
 use Rattle.laws.proofs.Cases.{cases, both}
@@ -98,7 +98,7 @@ entered : (before next : Mode) (p : Profile) (ch : Channels) → AllApart ch →
 unfolding entering_of
 entered before next p ch a =
     either (is_dark next) (by channel.emergency_entered (λ c h. kept_apart (chan ch c)))
-    (either (is_dark before) (by channel.forced_come_on (λ c h. record { not_both = and_false (force_enabled (has p.fitted c) (has p.forced c)) }))
+    (either (is_dark before) (by channel.forced_come_on (λ c h. record { not_both = and-false (force_enabled (has p.fitted c) (has p.forced c)) }))
     (either (from_nominal_to_safety before next)
     (by (channel.commanded channel.command_enabled_off_lem) (λ c h. either_one (command_enabled (has p.fitted c) (has p.forced c)) (kept_apart (chan ch c)) (a.each c h)))
     a))

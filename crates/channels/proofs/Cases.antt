@@ -1,6 +1,6 @@
 -- The laws by which a set that is computed says what it holds of one channel. Assumes nothing.
 use mathlib.Core.Path.{◌≡◌}
-use mathlib.Core.Bool.{not, and_true, and_false, or_true, or-false}
+use mathlib.Core.Bool.{not, and-true, and-false, or-true, or-false}
 use Prim.Native.Nat.{ℕ, ◌-◌, ◌^◌, ◌%◌, ◌<◌}
 use native.Mathlib.Nat.{mod-lt}
 use lib.Bits as B
@@ -25,7 +25,7 @@ pub shifted_fits : (x : ℕ) → x % 2 ^ 32 < 2 ^ 32
 shifted_fits x = mod-lt x (pow_pos 32)
 
 -- which channels a computed set holds
-pub ruleset holds = (has_and, has_or, not_has, has_none, and_true, and_false, or_true, or-false)
+pub ruleset holds = (has_and, has_or, not_has, has_none, and-true, and-false, or-true, or-false)
 
 -- a computed set is a set of 32 channels
 pub ruleset fits = (and_fits, or_fits, not_fits, shifted_fits)

@@ -2,7 +2,7 @@
 -- channel, that only overcurrent counts, and that a channel which is not fitted stays dark. Each law is stated once,
 -- over all that can happen to the channels short of a reset. Assumes nothing.
 use mathlib.Core.Path.{◌≡◌, refl, sym, ap, ◌∙◌}
-use mathlib.Core.Bool.{Bool, true, false, cond, not, ◌&&◌, ◌||◌, and_true, and_false, false≢true}
+use mathlib.Core.Bool.{Bool, true, false, cond, not, ◌&&◌, ◌||◌, and-true, and-false, false≢true}
 use Prim.Native.Nat.{ℕ, ◌+◌, ◌^◌, ◌<◌, min}
 use native.Mathlib.Omega.{arith}
 use borrow.Author.Tests.{eqb-true, le-ltb}
@@ -36,7 +36,7 @@ pub data Event : Type 0 where
 -- a channel that 0x14 does not speak of, that is not fitted, or that is forced and not in the mask
 state_untouched : (f g s m : Bool) (ch : Chan) → (f && s && (not g || m)) ≡ false → group_state_one f g s m ch ≡ ch
 state_untouched false g s m ch e = refl
-state_untouched true g false m ch e = simp and_false
+state_untouched true g false m ch e = simp and-false
 state_untouched true true true false ch e = refl
 state_untouched true true true true ch e = absurd (false≢true (sym e))
 state_untouched true false true m ch e = absurd (false≢true (sym e))
@@ -50,7 +50,7 @@ none_is p one c h w =
     let l : ltb 31 one ≡ false = le-ltb 31 one (omega arith) in
     let n : not (p one) ≡ true = rw l at w in
     cases (p one) (λ b. absurd (false≢true (rw b at n))) (λ b. rw (q, b) refl))
-    (λ a. rw a (and_false (p c)))
+    (λ a. rw a (and-false (p c)))
 
 -- not fitted or forced is not command-enabled
 not_enabled : (above f g : Bool) → (above || not f || g) ≡ true → (above || not (f && not g)) ≡ true
@@ -138,8 +138,8 @@ module _ (fitted forced : ℕ) where
       rule (group_on_lem spoken mask) e = simp e
       rule (group_off_lem spoken mask) e = simp e
       rule (group_state_lem spoken mask) e = state_untouched (has fitted c) (has forced c) (has spoken c) (has mask c) (chan s c) e
-      rule (switch_on_lem one) e = simp (and_true, e)
-      rule (switch_off_lem one) e = simp (and_true, e)
+      rule (switch_on_lem one) e = simp (and-true, e)
+      rule (switch_off_lem one) e = simp (and-true, e)
       rule command_enabled_off_lem e = simp e
 
   -- where refusal 7 applies the single commands alter nothing at all
@@ -166,11 +166,11 @@ module _ (fitted forced : ℕ) where
     where
       rule : (o : Command) → (obeyed_one o c (chan s c)).on ≡ true
       rule (group_on_lem spoken mask) = cases (has fitted c && has spoken c && has mask c) (λ a. simp a) (λ a. simp (a, e))
-      rule (group_off_lem spoken mask) = simp (g, and_false, e)
-      rule (group_state_lem spoken mask) = cases (has fitted c && has spoken c && has mask c) (λ a. simp (g, and_false, and_true, a)) (λ a. simp (g, and_false, and_true, a, e))
-      rule (switch_on_lem one) = cases (has fitted c && eqb c one) (λ a. simp (and_true, a)) (λ a. simp (and_true, a, e))
-      rule (switch_off_lem one) = simp (g, and_false, e)
-      rule command_enabled_off_lem = simp (g, and_false, e)
+      rule (group_off_lem spoken mask) = simp (g, and-false, e)
+      rule (group_state_lem spoken mask) = cases (has fitted c && has spoken c && has mask c) (λ a. simp (g, and-false, and-true, a)) (λ a. simp (g, and-false, and-true, a, e))
+      rule (switch_on_lem one) = cases (has fitted c && eqb c one) (λ a. simp (and-true, a)) (λ a. simp (and-true, a, e))
+      rule (switch_off_lem one) = simp (g, and-false, e)
+      rule command_enabled_off_lem = simp (g, and-false, e)
 
   -- ---- a channel that is not fitted, off and not latched stays so under every command, and under overcurrent
   pub unfitted_stays_dark : (o : Command) (s : Channels) (c : ℕ) → c < 32 → has fitted c ≡ false → Dark (chan s c) → Dark (chan (obeyed o s) c)
@@ -185,7 +185,7 @@ module _ (fitted forced : ℕ) where
       rule command_enabled_off_lem = simp f
 
   pub overcurrent_stays_dark : (named : ℕ) (s : Channels) (c : ℕ) → c < 32 → Dark (chan s c) → Dark (chan (overcurrent_at named s) c)
-  overcurrent_stays_dark named s c h d = rw (overcurrent_untouched named s c h (simp (d.off, and_false))) d
+  overcurrent_stays_dark named s c h d = rw (overcurrent_untouched named s c h (simp (d.off, and-false))) d
 
   -- and under every other event, whatever the sets are
   pub stays_dark : (e : Event) (s : Channels) (c : ℕ) → c < 32 → has fitted c ≡ false → Dark (chan s c) → Dark (chan (after e s) c)
@@ -243,7 +243,7 @@ module _ (fitted forced : ℕ) where
   pub forced_on_exactly : (s : Channels) → forced < 2 ^ 32 → is_within forced fitted ≡ true → (forced_on fitted forced s).on ≡ forced
   forced_on_exactly s b w =
       ext 32 (forced_on fitted forced s).on forced (after_held forced_come_on s).on b
-      (λ c h. forced_on_on s c h ∙ cases (has forced c) (λ a. simp (a, within_each forced fitted w c h a)) (λ a. simp (a, and_false)))
+      (λ c h. forced_on_on s c h ∙ cases (has forced c) (λ a. simp (a, within_each forced fitted w c h a)) (λ a. simp (a, and-false)))
 
   pub forced_on_latched : (s : Channels) → (forced_on fitted forced s).latched ≡ 0
   forced_on_latched s = ext 32 (forced_on fitted forced s).latched 0 (after_held forced_come_on s).latched (omega arith) (λ c h. ap (λ (x : Chan). x.latched) (each forced_come_on s c h) ∙ sym (has_none c))

@@ -1,6 +1,7 @@
 // The 32 output channels: which are on, which are latched, and how often overcurrent turned each one off. Channel c is
 // bit c of a set.
 #![tactic(auto)]
+
 ghost use Rattle.std.specs.Prelude.{◌≡◌, not};
 ghost use Rattle.channels.specs.Sets.{has, is_within, with_channel};
 ghost use Rattle.channels.specs.Counting.{count_one, count_all};

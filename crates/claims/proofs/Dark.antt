@@ -1,7 +1,7 @@
 -- On a machine that can be reached no channel is on in startup or emergency. Assumes nothing.
 use Prim.Native.Nat.{ℕ, ◌<◌}
 use mathlib.Core.Path.{◌≡◌, refl, ap, ◌∙◌}
-use mathlib.Core.Bool.{Bool, true, false, cond, and_false, false≢true}
+use mathlib.Core.Bool.{Bool, true, false, cond, and-false, false≢true}
 use mathlib.Core.List.{List}
 use lib.IntN.{ℤ}
 use Rattle.modes.specs.Table.{step_of, older_of}
@@ -93,7 +93,7 @@ module _ (k : ℕ) (h : k < 32) where
 
   -- ---- steps 1 to 3, whatever the board was, and the tick
   untripped : (named : Bool) (x : Chan) → x.on ≡ false → (overcurrent_one named x).on ≡ false
-  untripped named x e = rw (e, and_false named)
+  untripped named x e = rw (e, and-false named)
 
   -- the mode that the table leads to decides
   settled_off : (limits : Limits) (rail : ℤ) (named : ℕ) (words : List ℕ) (b : Board) → OffInTheDark k (tripped_of named (changed_of rail limits (risen_of words b)))

@@ -2,7 +2,7 @@
 -- two long ones in nominal, by a law for each tick. Assumes nothing.
 use Prim.Native.Nat.{ℕ, zero, suc, ◌≤◌}
 use mathlib.Core.Path.{◌≡◌, refl, sym, ap, ◌∙◌, subst}
-use mathlib.Core.Bool.{Bool, true, false, false≢true, and_false}
+use mathlib.Core.Bool.{Bool, true, false, false≢true, and-false}
 use mathlib.Core.List.{List, [], ◌∷◌, ◌++◌, append-nil}
 use native.Mathlib.Omega.{arith}
 use lib.IntN.{ℤ, pos}
@@ -265,7 +265,7 @@ module _ (m : Machine) (stuck : Stuck m) where
   unfolding accepted_of accepted_with tells_reset tells_watchdog_reset tells_command_reset
   fed_undisturbed =
       record {
-        no_reset = λ e. false≢true (rw (ap (λ (t : Told). t.event) telling, and_false) at e);
+        no_reset = λ e. false≢true (rw (ap (λ (t : Told). t.event) telling, and-false) at e);
         no_change =
             ap (λ (t : Told). t.machine.board.memory.current) telling
             ∙ ap (λ (x : Memory). x.current) (settled_memory m.board stuck.nominal stuck.kept stuck.of ∙ sym stuck.kept);

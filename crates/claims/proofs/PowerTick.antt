@@ -2,7 +2,7 @@
 -- reset and an overcurrent of that channel it is the small machine's. Assumes nothing.
 use Prim.Native.Nat.{ℕ, ◌<◌}
 use mathlib.Core.Path.{◌≡◌, refl, sym, ap, ◌∙◌, subst}
-use mathlib.Core.Bool.{Bool, true, false, cond, not, ◌&&◌, ◌||◌, and_false, false≢true}
+use mathlib.Core.Bool.{Bool, true, false, cond, not, ◌&&◌, ◌||◌, and-false, false≢true}
 use mathlib.Core.List.{List}
 use mathlib.Core.Logic.{⊎_elim}
 use lib.IntN.{ℤ}
@@ -53,7 +53,7 @@ entered_stands before after x e = cases (is_lit after) (λ a. cases (is_lit befo
 
 -- an overcurrent latches what it turns off
 tripped_stands : (named lit : Bool) (x : Chan) → x.on ≡ (lit && not x.latched) → (overcurrent_one named x).on ≡ (lit && not (overcurrent_one named x).latched)
-tripped_stands named lit x e = cases (named && x.on) (λ a. rw a (sym (and_false lit))) (λ a. rw a e)
+tripped_stands named lit x e = cases (named && x.on) (λ a. rw a (sym (and-false lit))) (λ a. rw a e)
 
 -- without one, the change of mode is all
 entered_on : (before after : Mode) (x : Chan) → (overcurrent_one false (entered_one before after x)).on ≡ cond (is_lit after) (cond (is_lit before) x.on true) false

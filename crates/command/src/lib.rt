@@ -1,6 +1,7 @@
 // Any transfer, decoded to a command or a refusal, for the checks that need no more of a board than its kind, its BID
 // and whether it is in startup.
 #![tactic(auto)]
+
 ghost use Rattle.std.specs.Prelude.{◌≡◌};
 ghost use Rattle.command.specs.Table.{command_table, find};
 ghost use Rattle.command.specs.Decode.{fewer_than_four, header_of, header_is, group_in, getting, valued, setting, resetting, carried, listed, decode_of};

@@ -1,6 +1,7 @@
 // Step 4 of a tick: the command. What each transfer is answered, what it alters, and the reply that then waits. A board
 // obeys in place, part by part.
 #![tactic(auto)]
+
 ghost use Rattle.std.specs.Prelude.{◌≡◌};
 ghost use Rattle.answers.specs.Answers.{told_number, silent_of};
 ghost use Rattle.effects.specs.Parts.{any_code, obeyed_in};

@@ -1,6 +1,7 @@
 // The checksum over the settings: division by x^16 + x^12 + x^5 + 1, high bit first, from a start of 0xFFFF, with no
 // final change.
 #![tactic(auto)]
+
 ghost use Rattle.std.specs.Prelude.{◌≡◌, ◌<◌};
 ghost use Rattle.crc.specs.Division.{divided, along_bits, bits_of, continued_of, checksum_of};
 

@@ -1,5 +1,6 @@
 // What the digest takes in of a board and of what a tick told.
 #![tactic(auto)]
+
 ghost use Rattle.std.specs.Prelude.{◌≡◌};
 ghost use Rattle.answers.specs.Answers.{answer_number};
 ghost use Rattle.digest.specs.Seen.{mode_number, event_number, outcome_number, told_by, times_of, switched_of, waiting_of};

@@ -1,6 +1,7 @@
 // What each command does once the decoder let it through, part by part: to some parts of a board, to its memory, and
 // how its reply is laid out.
 #![tactic(auto)]
+
 ghost use Rattle.std.specs.Prelude.{◌≡◌};
 ghost use Rattle.answers.specs.Answers.{accepted_of, refused_of};
 ghost use Rattle.state.specs.Parts.{with_phase, with_channels};

@@ -1,7 +1,7 @@
 -- When 10 is told: a complete frame is there exactly where the search finds one. Assumes nothing.
 use Prim.Native.Nat.{ℕ, zero, suc, ◌+◌, ◌-◌, ◌≤◌}
 use mathlib.Core.Path.{◌≡◌, refl, ap, sym, ◌∙◌}
-use mathlib.Core.Bool.{true, or_true, false≢true}
+use mathlib.Core.Bool.{true, or-true, false≢true}
 use mathlib.Core.List.{List, [], ◌∷◌}
 use native.Mathlib.Omega.{arith}
 use lib.ListN.{drop}
@@ -19,7 +19,7 @@ unfolding holds
 holds_at tag [] zero e = e
 holds_at tag [] (suc k) e = e
 holds_at tag (x ∷ s) zero e = rw e
-holds_at tag (x ∷ s) (suc k) e = rw (holds_at tag s k e, or_true)
+holds_at tag (x ∷ s) (suc k) e = rw (holds_at tag s k e, or-true)
 
 at_holds : (tag s : List ℕ) → holds tag s ≡ true → (k : ℕ) × (starts_with tag (drop k s) ≡ true)
 unfolding holds
@@ -38,7 +38,7 @@ complete_has (x ∷ s) zero closing o c h =
     let there : starts_with closing_tag (drop (closing - 5) (drop 5 (x ∷ s))) ≡ true = rw (drop-drop (closing - 5) 5 (x ∷ s), n) c in
     rw (o, holds_at closing_tag (drop 5 (x ∷ s)) (closing - 5) there)
 complete_has (x ∷ s) (suc opening) zero o c h = absurd (omega arith)
-complete_has (x ∷ s) (suc opening) (suc closing) o c h = rw (complete_has s opening closing o c (omega arith), or_true)
+complete_has (x ∷ s) (suc opening) (suc closing) o c h = rw (complete_has s opening closing o c (omega arith), or-true)
 
 has_complete : (s : List ℕ) → has_frame s ≡ true → Complete s
 unfolding has_frame StandsAt

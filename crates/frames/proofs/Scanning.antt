@@ -2,7 +2,7 @@
 -- nothing.
 use Prim.Native.Nat.{ℕ, ◌+◌, ◌≤◌, ◌<◌}
 use mathlib.Core.Path.{◌≡◌, refl, ap, sym, ◌∙◌}
-use mathlib.Core.Bool.{Bool, true, false, ◌&&◌, and_false}
+use mathlib.Core.Bool.{Bool, true, false, ◌&&◌, and-false}
 use mathlib.Core.Option.{Option, none, some}
 use mathlib.Core.List.{List, [], ◌∷◌}
 use native.Mathlib.Omega.{arith}
@@ -33,7 +33,7 @@ starts_short : (tag l : List ℕ) → length l < length tag → starts_with tag 
 unfolding starts_with
 starts_short [] l h = absurd (omega arith)
 starts_short (t ∷ ts) [] h = refl
-starts_short (t ∷ ts) (x ∷ l) h = ap (λ (b : Bool). eqb x t && b) (starts_short ts l (omega arith)) ∙ and_false (eqb x t)
+starts_short (t ∷ ts) (x ∷ l) h = ap (λ (b : Bool). eqb x t && b) (starts_short ts l (omega arith)) ∙ and-false (eqb x t)
 
 first_short : (tag : List ℕ) (i : ℕ) (l : List ℕ) → length l < length tag → first_at tag i l ≡ none
 unfolding first_at

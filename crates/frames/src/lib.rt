@@ -1,5 +1,6 @@
 // The frame in what the text line received: the first <cmd>, and the first </cmd> after it.
 #![tactic(auto)]
+
 ghost use Rattle.std.specs.Prelude.{◌≡◌, ◌≤◌, length, drop};
 ghost use Rattle.frames.specs.Frames.{first_at, place_of, Sits, frame_of, Inside};
 ghost use Rattle.frames.specs.Answers.{frame_number, scan_number};

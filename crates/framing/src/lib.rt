@@ -1,6 +1,7 @@
 // What the text line says: the frame of a reply, which is <rsp>, the reply, </rsp>, CR, LF, or the same of the echo of
 // a switch. Functions on slices and a form.
 #![tactic(auto)]
+
 ghost use Rattle.std.specs.Prelude.{◌≡◌, ◌+◌, ◌≤◌, length};
 ghost use Rattle.std.proofs.lemmas.List.Edits.{sets};
 ghost use Rattle.hexadecimal.specs.Hex.{laid};

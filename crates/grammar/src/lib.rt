@@ -1,6 +1,7 @@
 // The parts of which a sheet is put together, each read at a place of a text. A place may be any: past the end nothing
 // is read.
 #![tactic(auto)]
+
 ghost use Rattle.std.specs.Prelude.{◌≡◌, ◌<◌, ◌≤◌, length};
 ghost use Rattle.grammar.specs.Grammar.{peek_at, text, up_to};
 ghost use Rattle.grammar.specs.Numbers.{digit_at, number, signed, word};

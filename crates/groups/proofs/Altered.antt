@@ -2,7 +2,7 @@
 -- checks. Assumes nothing.
 use Prim.Native.Nat.{ℕ, suc, ◌<◌}
 use mathlib.Core.Path.{◌≡◌, refl, sym, ap, ◌∙◌, subst}
-use mathlib.Core.Bool.{Bool, true, false, not, ◌&&◌, and_false, false≢true}
+use mathlib.Core.Bool.{Bool, true, false, not, ◌&&◌, and-false, false≢true}
 use mathlib.Core.List.{List, [], ◌∷◌}
 use lib.Dec.{eqb, ltb}
 use lib.IntN.{ℤ}
@@ -96,14 +96,14 @@ module _ (rail : ℤ) (limits : Limits) (s : List ℕ) (b : Board) where
   on_made e c ch g o =
       made_so (λ x. x.on ≡ true) (code_of s) ch (sentences b s c)
       ((λ _. refl)
-      and (λ t. failed (simp (g, and_false) at t))
+      and (λ t. failed (simp (g, and-false) at t))
       and (λ _. refl)
-      and (λ t. failed (simp (g, and_false) at t))
+      and (λ t. failed (simp (g, and-false) at t))
       and (λ _. refl)
       and (λ _. refl)
-      and (λ t. failed (simp (g, and_false) at t))
-      and (λ t. failed (simp (g, and_false) at t))
-      and (λ t. failed (simp (g, and_false) at t))
+      and (λ t. failed (simp (g, and-false) at t))
+      and (λ t. failed (simp (g, and-false) at t))
+      and (λ t. failed (simp (g, and-false) at t))
       and (λ t. failed (rw e at t))
       and none)
       o

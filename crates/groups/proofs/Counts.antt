@@ -2,7 +2,7 @@
 -- tick touches one. Assumes nothing.
 use Prim.Native.Nat.{ℕ, suc, ◌+◌, ◌<◌, ◌≤◌, min}
 use mathlib.Core.Path.{◌≡◌, refl, ap, ◌∙◌}
-use mathlib.Core.Bool.{Bool, true, false, cond, ◌&&◌, ◌||◌, and_false}
+use mathlib.Core.Bool.{Bool, true, false, cond, ◌&&◌, ◌||◌, and-false}
 use mathlib.Core.List.{List, [], ◌∷◌}
 use mathlib.Core.Option.{some}
 use native.Mathlib.Omega.{arith}
@@ -190,10 +190,10 @@ run_counts c h m (tick i ∷ calls) b =
     let next = (told m i).machine in
     let ih = rw e at (run_counts c h next calls (rw e (at_most (tells_reset m i) (takes_off c m i) (count_in c m.board) b))) in
     cases (tells_reset m i)
-    (λ r. cases (has_reset next calls) (λ l. simp (r, and_false) (omega (arith, simp (r, l) at ih))) (λ l. simp (r, and_false) (omega (arith, simp (r, l) at ih))))
+    (λ r. cases (has_reset next calls) (λ l. simp (r, and-false) (omega (arith, simp (r, l) at ih))) (λ l. simp (r, and-false) (omega (arith, simp (r, l) at ih))))
     (λ r.
     cases (has_reset next calls)
-    (λ l. simp (r, l, and_false) (omega (arith, simp l at ih)))
+    (λ l. simp (r, l, and-false) (omega (arith, simp l at ih)))
     (λ l. cases (takes_off c m i) (λ o. simp (r, l, o) (omega (arith, simp (r, l, o) at ih))) (λ o. simp (r, l, o) (omega (arith, simp (r, l, o) at ih)))))
 run_counts c h m (line received room ∷ calls) b =
     let e = line_counts c received room m in

@@ -2,7 +2,7 @@
 -- is, the laws of `channels` what that makes of one channel, and that is what the sentences say. Assumes nothing.
 use Prim.Native.Nat.{ℕ, suc, ◌<◌}
 use mathlib.Core.Path.{◌≡◌, refl, sym, ap, ◌∙◌, subst}
-use mathlib.Core.Bool.{Bool, true, false, cond, not, ◌&&◌, and_true, and_false, false≢true}
+use mathlib.Core.Bool.{Bool, true, false, cond, not, ◌&&◌, and-true, and-false, false≢true}
 use mathlib.Core.List.{List}
 use lib.Dec.{eqb, ltb}
 use lib.IntN.{ℤ}
@@ -109,10 +109,10 @@ module _ (rail : ℤ) (limits : Limits) (s : List ℕ) (b : Board) where
   sentence_of : {k : ℕ} {o : channel.Command} → Operates rail limits s b k o → (c : ℕ) → c < 32 → (ch : Chan) → channel.obeyed_one fitted forced o c ch ≡ made_by (sentences b s c) k ch
   unfolding made_by sentences
   sentence_of group_on_lem c h ch = rw (spoken_is s c h, mask_is s)
-  sentence_of group_off_lem c h ch = rw (spoken_is s c h, mask_is s) (cases (has forced c) (λ f. simp (f, and_false)) (λ f. simp f))
+  sentence_of group_off_lem c h ch = rw (spoken_is s c h, mask_is s) (cases (has forced c) (λ f. simp (f, and-false)) (λ f. simp f))
   sentence_of group_state_lem c h ch = rw (spoken_is s c h, mask_is s) (state_is (has fitted c) (has forced c) (is_spoken_of s c) (has (mask_in s) c) ch)
-  sentence_of channel_on c h ch = rw and_true
-  sentence_of channel_off c h ch = rw and_true
+  sentence_of channel_on c h ch = rw and-true
+  sentence_of channel_off c h ch = rw and-true
   sentence_of cancel c h ch = refl
 
   -- none of them is the reset

@@ -2,7 +2,7 @@
 -- table and no command but 0xAA leads into startup, and both kinds of reset do so at age 0. Assumes nothing.
 use Prim.Native.Nat.{ℕ, ◌+◌, ◌<◌, min}
 use mathlib.Core.Path.{◌≡◌, refl, sym, ap, ◌∙◌, subst}
-use mathlib.Core.Bool.{Bool, true, false, cond, ◌&&◌, ◌||◌, and_false, false≢true}
+use mathlib.Core.Bool.{Bool, true, false, cond, ◌&&◌, ◌||◌, and-false, false≢true}
 use mathlib.Core.Logic.{⊎_elim}
 use mathlib.Core.List.{List, [], ◌∷◌}
 use native.Mathlib.Omega.{arith}
@@ -60,7 +60,7 @@ nominal_or_safety false = refl
 
 -- an age above 0 is no new start
 old_goes_on : (s : ModeAge) → 0 < s.age → is_over s ≡ false
-old_goes_on s h = rw (ne_eqb s.age 0 (omega arith)) (and_false (same s.mode Startup))
+old_goes_on s h = rw (ne_eqb s.age 0 (omega arith)) (and-false (same s.mode Startup))
 
 -- no row of the table leads into startup
 abbrev Elsewhere : List Row → Type 0

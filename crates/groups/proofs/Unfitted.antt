@@ -2,7 +2,7 @@
 -- Assumes nothing.
 use Prim.Native.Nat.{ℕ, ◌<◌}
 use mathlib.Core.Path.{◌≡◌, refl, sym, ◌∙◌, subst}
-use mathlib.Core.Bool.{Bool, true, false, cond, and_false}
+use mathlib.Core.Bool.{Bool, true, false, cond, and-false}
 use mathlib.Core.List.{List, [], ◌∷◌}
 use native.Mathlib.Omega.{arith}
 use lib.IntN.{ℤ}
@@ -89,15 +89,15 @@ made_dark : (s : List ℕ) (b : Board) (code c : ℕ) (ch : Chan) → has b.prof
 unfolding sentences
 made_dark s b code c ch f d =
     made_so Dark code ch (sentences b s c)
-    ((λ t. failed (simp (f, and_false) at t))
-    and (λ t. failed (simp (f, and_false) at t))
-    and (λ t. failed (simp (f, and_false) at t))
-    and (λ t. failed (simp (f, and_false) at t))
-    and (λ t. failed (simp (f, and_false) at t))
-    and (λ t. failed (simp (f, and_false) at t))
-    and (λ t. failed (simp (f, and_false) at t))
-    and (λ t. failed (simp (f, and_false) at t))
-    and (λ t. failed (simp (f, and_false) at t))
+    ((λ t. failed (simp (f, and-false) at t))
+    and (λ t. failed (simp (f, and-false) at t))
+    and (λ t. failed (simp (f, and-false) at t))
+    and (λ t. failed (simp (f, and-false) at t))
+    and (λ t. failed (simp (f, and-false) at t))
+    and (λ t. failed (simp (f, and-false) at t))
+    and (λ t. failed (simp (f, and-false) at t))
+    and (λ t. failed (simp (f, and-false) at t))
+    and (λ t. failed (simp (f, and-false) at t))
     and (λ _. record { off = refl; unlatched = refl })
     and none)
     d

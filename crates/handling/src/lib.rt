@@ -1,5 +1,6 @@
 // A machine on the bench, and what each kind of line that changes it does.
 #![tactic(auto)]
+
 ghost use Rattle.std.specs.Prelude.{◌≡◌, take};
 ghost use Rattle.wire.specs.Numbers.{signed};
 ghost use Rattle.unit.specs.Machine.{begun_of, told_of};

@@ -1,5 +1,6 @@
 // Bytes as text: pairs of hex digits, read in either case and written in capitals.
 #![tactic(auto)]
+
 ghost use Rattle.std.specs.Prelude.{◌≡◌, cond, ◌&&◌, ◌+◌, ◌*◌, ◌/◌, ◌%◌, ◌^◌, ◌<◌, ◌≤◌, length};
 ghost use Rattle.std.proofs.lemmas.List.Edits.{sets};
 ghost use Rattle.hexadecimal.specs.Hex.{digit_of, pair_of, payload_of, read_of, held_after, laid, capital_of, digits_of, text_of, written_of, four_pairs, word_of, word_text};

@@ -1,6 +1,7 @@
 // The settings as 268 bytes, from the lowest id to the highest: what the checksum is taken over, what is stored, and
 // how it is read back.
 #![tactic(auto)]
+
 ghost use Rattle.std.specs.Prelude.{◌≡◌, ◌+◌, ◌≤◌, ◌<◌, length, take, drop, get_or};
 ghost use Rattle.std.proofs.lemmas.List.Edits.{sets};
 ghost use Rattle.wire.specs.Numbers.{signed};

@@ -1,6 +1,7 @@
 // The kinds of board, and what goes by the kind: the table of specs/Kinds.antt, with a function for each column that
 // code asks for, and which kinds can be started.
 #![tactic(auto)]
+
 ghost use Rattle.std.specs.Prelude.{◌≡◌, false};
 ghost use Rattle.kinds.specs.Kinds.{board_of, is_in, is_served};
 ghost use Rattle.kinds.specs.declared.Kind.TheVariants.{Distribution, Battery, Integrated};

@@ -1,6 +1,7 @@
 // What a line of a replay script asks for: its letter, the fields of fixed width behind it, and its tail. No board is
 // looked at here.
 #![tactic(auto)]
+
 mod boards;
 mod fields;
 mod tails;

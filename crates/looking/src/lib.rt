@@ -1,5 +1,6 @@
 // What a line of a replay script prints that only looks at a machine, and what a read of its text line prints.
 #![tactic(auto)]
+
 ghost use Rattle.std.specs.Prelude.{◌≡◌, take};
 ghost use Rattle.script.specs.Printing.{page, typed};
 ghost use Rattle.speaking.specs.Speaking.{blank};

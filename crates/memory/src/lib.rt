@@ -1,5 +1,6 @@
 // What a board keeps of its settings: those in force, what it shows of the last save or load, and its store.
 #![tactic(auto)]
+
 ghost use Rattle.std.specs.Prelude.{◌≡◌};
 ghost use Rattle.memory.specs.Memory.{one_more, empty_store, loaded_from, load_of, defaulted_of, set_in, reset_in, stored_count, saved_of};
 ghost use Rattle.memory.specs.Limits.{safety_low, safety_high, timeout_of, limits_of};

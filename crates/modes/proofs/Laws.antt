@@ -1,7 +1,7 @@
 -- What follows from the table and the commands: by what each mode is left and for which, one change at most, and that
 -- the mode and its age change together. Assumes nothing.
 use mathlib.Core.Path.{◌≡◌, refl, ap, ◌∙◌}
-use mathlib.Core.Bool.{Bool, true, false, not, cond, ◌&&◌, ◌||◌, or_true}
+use mathlib.Core.Bool.{Bool, true, false, not, cond, ◌&&◌, ◌||◌, or-true}
 use mathlib.Core.List.{List, [], ◌∷◌}
 use Prim.Native.Nat.{ℕ, ◌+◌, ◌-◌, ◌^◌, ◌≤◌, ◌<◌}
 use native.Mathlib.Omega.{arith}
@@ -56,7 +56,7 @@ module _ (s : ModeAge) (rail : ℤ) (limits : Limits) where
   -- after its period emergency is left whatever the rail
   pub emergency_left : s.mode ≡ Emergency → limits.period ≤ s.age → step_of s rail limits ≡ entered Safety
   unfolding step_of
-  emergency_left m h = simp (m, le-leb limits.period s.age h, or_true)
+  emergency_left m h = simp (m, le-leb limits.period s.age h, or-true)
 
   -- the step leads into mode n
   abbrev pub leads_to : Mode → Bool

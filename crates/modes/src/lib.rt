@@ -1,6 +1,7 @@
 // The modes of the board: how long it has been in one, the table by which it leaves, and the two commands that change
 // it.
 #![tactic(auto)]
+
 ghost use Rattle.std.specs.Prelude.{◌≡◌, cond};
 ghost use Rattle.modes.specs.Table.{◌at_least◌, ◌above◌, ◌below◌, entered, older_of, step_of};
 ghost use Rattle.modes.specs.Commands.{to_safety, to_nominal, mode_number, safety_unavailable, nominal_unavailable};

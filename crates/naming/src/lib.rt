@@ -1,5 +1,6 @@
 // The letters and digits by which a printed line names a mode, an event, an answer and a form.
 #![tactic(auto)]
+
 ghost use Rattle.std.specs.Prelude.{◌≡◌};
 ghost use Rattle.naming.specs.Naming.{mode_letter, event_letter, answer_digit, form_letter};
 

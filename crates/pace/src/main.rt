@@ -1,6 +1,7 @@
 // Runs the pattern of the speed measurement over the proved board, and prints a digest of all that it made;
 // docs/SPEED.md describes both.
 #![tactic(auto)]
+
 mod run;
 
 use libc::{STDIN_FILENO, STDOUT_FILENO};

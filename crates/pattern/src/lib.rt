@@ -1,6 +1,7 @@
 // The pattern of the speed measurement, as docs/SPEED.md describes it: which run a line asks for, what each tick
 // brings, and how the digest takes numbers in. It needs no board.
 #![tactic(auto)]
+
 mod digest;
 mod line;
 mod ticks;

@@ -1,7 +1,7 @@
 -- Two texts that are the same, and two that are not. Assumes nothing.
 use Prim.Native.Nat.{ℕ}
 use mathlib.Core.Path.{◌≡◌, sym}
-use mathlib.Core.Bool.{true, false, and_false}
+use mathlib.Core.Bool.{true, false, and-false}
 use mathlib.Core.List.{List}
 use lib.Dec.{eqb}
 use lib.ListN.{length}
@@ -16,7 +16,7 @@ module _ (s text : List ℕ) where
 
   pub differing : starts_with text s ≡ false → false ≡ same s text
   unfolding same
-  differing e = rw e (sym (and_false (eqb (length s) (length text))))
+  differing e = rw e (sym (and-false (eqb (length s) (length text))))
 
   pub alike : length s ≡ length text → starts_with text s ≡ true → true ≡ same s text
   unfolding same

@@ -1,6 +1,7 @@
 // A read of the text line: the form switch, what else it answers, and the payload that it hands on. Functions on slices
 // and a form.
 #![tactic(auto)]
+
 ghost use Rattle.std.specs.Prelude.{◌≡◌, length};
 ghost use Rattle.std.proofs.Math.Option.{some};
 ghost use Rattle.hexadecimal.specs.Hex.{payload_of, held_after};

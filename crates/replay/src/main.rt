@@ -1,5 +1,6 @@
 // Runs a replay script from standard input over the proved board, and prints what it then holds. A test instrument.
 #![tactic(auto)]
+
 use handling::Bench;
 use libc::{STDIN_FILENO, STDOUT_FILENO};
 

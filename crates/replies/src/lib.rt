@@ -1,5 +1,6 @@
 // The replies of the board, as the ICD's pages lay them out.
 #![tactic(auto)]
+
 ghost use Rattle.std.specs.Prelude.{◌≡◌, ◌++◌, take};
 ghost use Rattle.wire.specs.Replies.{reply_of, laid_out};
 ghost use Rattle.readings.specs.Readings.{raw_words, engineering_words};

@@ -1,6 +1,7 @@
 // The whole number nearest to a fraction, halves away from zero, and its holding to the ends of int16. It is divided
 // without the sign, so that one rule serves both sides of zero.
 #![tactic(auto)]
+
 ghost use Rattle.std.specs.Prelude.{◌≡◌, ◌<◌, nat_abs};
 ghost use Rattle.rounding.specs.Rounding.{up, nearest, held};
 

@@ -1,6 +1,7 @@
 // A session: the board of a sheet is started, and its ticks run one after another, each with its line of the
 // transcript.
 #![tactic(auto)]
+
 ghost use Rattle.std.specs.Prelude.{◌≡◌, ◌<◌, ◌≤◌};
 ghost use Rattle.transcript.specs.Transcript.{opened_number};
 ghost use Rattle.session.specs.Sessions.{no_session, ended_step, opened, stepped, started_of, opened_of, stepped_of, ticked_of, sheet_refusal};

@@ -1,5 +1,6 @@
 // The read/write parameters of Table 3-25: what an id is, and its value read, set and reset.
 #![tactic(auto)]
+
 ghost use Rattle.std.specs.Prelude.{◌≡◌, ◌+◌, ◌<◌, pos};
 ghost use Rattle.settings.specs.Table.{lies, parameter_of, low_of, high_of, clamp_of, inside_of, from};
 ghost use Rattle.settings.specs.Values.{get_of, set_of, reset_of, defaults_of, all_inside, in_range_of};

@@ -1,5 +1,6 @@
 // The session sheet, as it is read: a profile, and ticks one after another. No board is here.
 #![tactic(auto)]
+
 mod head;
 mod ticks;
 mod whole;

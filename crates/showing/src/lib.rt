@@ -1,5 +1,6 @@
 // The long lines of a replay: what a tick prints, and the state.
 #![tactic(auto)]
+
 ghost use Rattle.std.specs.Prelude.{◌≡◌, ◌∷◌, take};
 ghost use Rattle.readings.specs.Readings.{raw_words};
 ghost use Rattle.script.specs.Printing.{page, typed, row};

@@ -1,6 +1,7 @@
 // What a read of the text line and a framing print, each with the whole of the buffer that was lent, and that buffer
 // before it is lent.
 #![tactic(auto)]
+
 ghost use Rattle.std.specs.Prelude.{◌≡◌, min, ◌++◌};
 ghost use Rattle.script.specs.Printing.{page, typed, field_of};
 ghost use Rattle.speaking.specs.Speaking.{form_name, command_text, line_text, whole_text, heard_line, framed_text, framed_line, blank, span_of};

@@ -1,5 +1,6 @@
 // What a line of a replay script may ask before a machine is there, what a start is given, and what comes of it.
 #![tactic(auto)]
+
 ghost use Rattle.std.specs.Prelude.{◌≡◌};
 ghost use Rattle.script.specs.Printing.{page, typed};
 ghost use Rattle.starting.specs.Starts.{is_there, start_text, store_of, allowed_of};

@@ -1,5 +1,6 @@
 // What a board is made of, how it starts and starts over.
 #![tactic(auto)]
+
 mod parts;
 mod starting;
 

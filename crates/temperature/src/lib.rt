@@ -1,5 +1,6 @@
 // The temperature of a battery pack at a raw code, looked up in a table. Each entry is Table 3-13's line at its place.
 #![tactic(auto)]
+
 mod table;
 
 ghost use Rattle.std.specs.Prelude.{◌≡◌, ◌<◌};

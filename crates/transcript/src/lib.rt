@@ -1,6 +1,7 @@
 // The lines of a transcript and the line of a refused sheet, put together in a buffer: each function answers the place
 // behind what it put there.
 #![tactic(auto)]
+
 ghost use Rattle.std.specs.Prelude.{◌≡◌, ◌∷◌, ◌<◌};
 ghost use Rattle.hexadecimal.specs.Hex.{word_text, text_of};
 ghost use Rattle.wire.specs.Replies.{shown};

@@ -1,5 +1,6 @@
 // What one line of a replay script does to the machine on the bench.
 #![tactic(auto)]
+
 ghost use Rattle.std.specs.Prelude.{◌≡◌};
 ghost use Rattle.starting.specs.Starts.{allowed_of};
 ghost use Rattle.handling.specs.Benches.{left};

@@ -1,5 +1,6 @@
 // What a bench calls, in one place. Every call takes a machine by value, and hands it back where it changes.
 #![tactic(auto)]
+
 ghost use Rattle.std.specs.Prelude.{◌≡◌, cond, length};
 ghost use Rattle.wire.specs.Replies.{found};
 ghost use Rattle.hexadecimal.specs.Hex.{laid};

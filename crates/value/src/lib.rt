@@ -1,5 +1,6 @@
 // A parameter's value as it travels: the ten types of the ICD's Table 3-24.
 #![tactic(auto)]
+
 ghost use Rattle.std.specs.Prelude.{◌≡◌, ◌<◌, ◌^◌};
 ghost use Rattle.value.specs.Types.{width, type_of};
 ghost use Rattle.value.specs.Values.{spelt, value_bytes, value_of, read_of};

@@ -1,5 +1,6 @@
 // The TTC watchdog: its timer, and the two things that come of it where no command fed it.
 #![tactic(auto)]
+
 ghost use Rattle.std.specs.Prelude.{◌≡◌, ◌+◌, ◌*◌, ◌≤◌, ◌<◌};
 ghost use Rattle.watchdog.specs.Watchdog.{risen_of, watched_of, seconds_in_ticks};
 ghost use Rattle.watchdog.specs.Report.{ReportAt};

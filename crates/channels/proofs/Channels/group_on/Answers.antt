@@ -1,0 +1,25 @@
+-- `group_on` meets its contract: each channel is what the rule says, by cases on the sets that it is in. Assumes
+-- nothing.
+use borrow.Author.Rules.{rules}
+use Rattle.laws.proofs.Cases.{cases}
+use Rattle.channels.specs.Sets.{has}
+use Rattle.channels.specs.Operations.{group_on}
+use Rattle.channels.proofs.Sets.{and_below}
+use Rattle.channels.proofs.Cases.{holds, fits}
+use Rattle.channels.proofs.Whole.{is_whole}
+use Rattle.channels.proofs.Channels.group_on.Goals as goal
+
+pub returns : goal.returns
+unfolding group_on
+returns c =
+    is_whole _ _
+    (search (rules, fits))
+    (λ k h.
+    simp (holds, and_below 32, c.ranges.fitted.fits, c.ranges.spoken.fits, c.ranges.mask.fits)
+    (cases (has c.args.fitted k)
+    (λ a. cases (has c.args.spoken k)
+    (λ b. cases (has c.args.mask k)
+    (λ d. simp (holds, a, b, d))
+    (λ d. simp (holds, a, b, d)))
+    (λ b. simp (holds, a, b)))
+    (λ a. simp (holds, a))))

@@ -1,0 +1,18 @@
+-- `all_counted` meets its contract. The loop's invariant: the counts of the channels below c are counted, the others as
+-- they were. Assumes nothing.
+use mathlib.Core.Path.{refl, ◌∙◌}
+use Prim.Native.Nat.{◌-◌}
+use native.Mathlib.Omega.{arith}
+use borrow.Author.Rules.{rules}
+use lib.ListN.{get_or}
+use Rattle.channels.specs.Sets.{has}
+use Rattle.channels.specs.Counting.{count_one, count_all}
+use Rattle.channels.proofs.Sets.{is_list_of, is_has}
+use Rattle.channels.proofs.Sofar.{Sofar, next}
+use Rattle.channels.proofs.all_counted.Given as goal
+
+abbrev pub invariant-loop-c : goal.invariant-loop-c
+invariant-loop-c l = Sofar (λ k. count_one (has l.tripping k) (get_or l.initial.counts k 0)) l.initial.counts l.initial.c l.c
+
+abbrev pub decreases-loop-c : goal.decreases-loop-c
+decreases-loop-c l = 32 - l.c

@@ -1,0 +1,6 @@
+-- The STID is the kind's.
+use borrow.Author.Rules.{rules}
+use Rattle.command.proofs.header_of.Goals as goal
+
+pub returns : goal.returns
+returns c = rw c.stid.ensures

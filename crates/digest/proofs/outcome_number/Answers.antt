@@ -1,0 +1,6 @@
+-- By cases of the outcome. Assumes nothing.
+use borrow.Author.Rules.{rules}
+use Rattle.digest.proofs.outcome_number.Goals as goal
+
+pub returns-in-Answered : goal.returns-in-Answered
+returns-in-Answered c = rw (c.in-Answered.is, c.answer_number.ensures)

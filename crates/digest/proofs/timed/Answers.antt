@@ -1,0 +1,6 @@
+-- The sum of its parts. Assumes nothing.
+use borrow.Author.Rules.{rules}
+use Rattle.digest.proofs.timed.Goals as goal
+
+pub returns : goal.returns
+returns c = rw (c.age.ensures, c.mode_number-mode.ensures, c.mode.ensures)

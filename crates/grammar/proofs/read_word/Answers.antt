@@ -1,0 +1,74 @@
+-- `read_word` meets its contract. The invariant: the digits that are left, behind those that spelt v, spell what all
+-- eight do. Assumes nothing.
+use borrow.Author.Rules.{rules}
+use native.Mathlib.Omega.{arith}
+use Prim.Native.Nat.{ℕ, ◌*◌, ◌^◌, ◌≤◌, ◌<◌, ◌-◌}
+use mathlib.Core.Path.{◌≡◌, sym, ap, ◌∙◌}
+use mathlib.Core.List.{List}
+use Rattle.hexadecimal.specs.Hex.{digit_of}
+use Rattle.hexadecimal.specs.Passes.{worth}
+use Rattle.grammar.specs.Numbers.{word}
+use Rattle.grammar.proofs.Refusals.{with_number}
+use Rattle.grammar.proofs.Words.{past_bad, word_end, word_bad, word_more, grows, small}
+use Rattle.grammar.proofs.read_word.Reads as reads
+use Rattle.grammar.proofs.read_word.Lts as lts
+use Rattle.grammar.proofs.peek.Reads as peek-reads
+use Rattle.hexadecimal.proofs.digit.Reads as digit-reads
+use Rattle.grammar.proofs.read_word.Goals as goal
+
+record Digits (s : List ℕ) (at v i left : ℕ) : Type 0 where
+  upto : left ≤ 8
+  fits : v < 2 ^ (32 - 4 * left)
+  same : word left v s i ≡ word 8 0 s at
+
+pub returns-then-x-gt255-clause-is : goal.returns-then-x-gt255-clause-is
+returns-then-x-gt255-clause-is c = (let l = c.loop-left in
+    let s = c.args.s.now in
+    with_number (sym (word_bad l.left l.v s l.i (omega arith) (past_bad _ (omega arith))) ∙ l.invariant.same)).0
+
+pub returns-then-x-gt255-clause-number : goal.returns-then-x-gt255-clause-number
+returns-then-x-gt255-clause-number c = (let l = c.loop-left in
+    let s = c.args.s.now in
+    with_number (sym (word_bad l.left l.v s l.i (omega arith) (past_bad _ (omega arith))) ∙ l.invariant.same)).1
+
+pub returns-in_default-clause-is : goal.returns-in_default-clause-is
+returns-in_default-clause-is c = (let l = c.loop-left in
+    let s = c.args.s.now in
+    with_number (sym (word_bad l.left l.v s l.i (omega arith) (sym (ap digit_of c.peek-x.ensures.is) ∙ sym c.digit.ensures.is ∙ c.in_default.is)) ∙ l.invariant.same)).0
+
+pub returns-in_default-clause-number : goal.returns-in_default-clause-number
+returns-in_default-clause-number c = (let l = c.loop-left in
+    let s = c.args.s.now in
+    with_number (sym (word_bad l.left l.v s l.i (omega arith) (sym (ap digit_of c.peek-x.ensures.is) ∙ sym c.digit.ensures.is ∙ c.in_default.is)) ∙ l.invariant.same)).1
+
+pub overflow_mul-v : goal.overflow_mul-v
+overflow_mul-v c = omega (arith, small c.loop-left.left)
+
+pub overflow_add-v : goal.overflow_add-v
+overflow_add-v c = omega (arith, small c.loop-left.left, ap worth c.in-Value.is)
+
+pub overflow_add-i : goal.overflow_add-i
+overflow_add-i c = omega (arith, c.peek-x.ensures.inside (omega arith))
+
+pub loop-left-preserved : goal.loop-left-preserved
+loop-left-preserved c =
+    let l = c.loop-left in
+    let s = c.args.s.now in
+    record {
+      upto = omega arith;
+      fits = grows l.left l.v _ (omega arith) (omega arith) l.invariant.fits (omega (arith, ap worth c.in-Value.is));
+      same =
+          sym (word_more l.left l.v _ s l.i (omega arith) (sym (ap digit_of c.peek-x.ensures.is) ∙ sym c.digit.ensures.is ∙ c.in-Value.is))
+          ∙ l.invariant.same;
+    }
+
+pub overflow_cast-result : goal.overflow_cast-result
+overflow_cast-result c = omega (arith, small c.loop-left.left)
+
+pub returns-clause-is : goal.returns-clause-is
+returns-clause-is c = (let l = c.loop-left in
+    with_number (sym (word_end l.left l.v c.args.s.now l.i (omega arith)) ∙ l.invariant.same)).0
+
+pub returns-clause-number : goal.returns-clause-number
+returns-clause-number c = (let l = c.loop-left in
+    with_number (sym (word_end l.left l.v c.args.s.now l.i (omega arith)) ∙ l.invariant.same)).1

@@ -1,0 +1,23 @@
+-- `read_word` meets its contract. The invariant: the digits that are left, behind those that spelt v, spell what all
+-- eight do. Assumes nothing.
+use borrow.Author.Rules.{rules}
+use native.Mathlib.Omega.{arith}
+use Prim.Native.Nat.{ℕ, ◌*◌, ◌^◌, ◌≤◌, ◌<◌, ◌-◌}
+use mathlib.Core.Path.{◌≡◌, sym, ap, ◌∙◌}
+use mathlib.Core.List.{List}
+use Rattle.hexadecimal.specs.Hex.{digit_of}
+use Rattle.hexadecimal.specs.Passes.{worth}
+use Rattle.grammar.specs.Numbers.{word}
+use Rattle.grammar.proofs.Refusals.{with_number}
+use Rattle.grammar.proofs.Words.{past_bad, word_end, word_bad, word_more, grows, small}
+use Rattle.grammar.proofs.read_word.Reads as reads
+use Rattle.grammar.proofs.read_word.Lts as lts
+use Rattle.grammar.proofs.peek.Reads as peek-reads
+use Rattle.hexadecimal.proofs.digit.Reads as digit-reads
+use Rattle.grammar.proofs.read_word.Given as goal
+
+abbrev pub invariant-loop-left : goal.invariant-loop-left
+invariant-loop-left l = Digits l.s l.at l.i l.initial.left l.left
+
+abbrev pub decreases-loop-left : goal.decreases-loop-left
+decreases-loop-left l = l.left

@@ -1,0 +1,13 @@
+-- The tick is the machine's, at the rail and with the words of the line. Assumes nothing.
+use mir.Val.{SFits}
+use mir.Syntax.{w16}
+use mir.ValLaws.{to_z-of_z}
+use Rattle.handling.specs.Benches.{shown, ticked_of}
+use borrow.Author.Rules.{rules}
+use Rattle.handling.proofs.ticked.Goals as goal
+
+pub returns : goal.returns
+unfolding ticked_of
+returns c = let f : SFits w16 c.twos16.result = search rules in
+    let e = rw (to_z-of_z w16 c.twos16.result f, c.twos16.ensures, c.lent_part.ensures) at c.tick-t.ensures.value in
+    rw (c.ticked.ensures, ← e)

@@ -1,0 +1,15 @@
+-- After each turn the image begins with the bytes of the ids walked so far. Assumes nothing.
+use borrow.Author.Rules.{rules}
+use mathlib.Core.Path.{◌≡◌, refl, ap, ◌∙◌}
+use Prim.Native.Nat.{ℕ, ◌+◌, ◌-◌, ◌≤◌}
+use native.Mathlib.Omega.{arith}
+use lib.ListN.{get_or}
+use Rattle.settings.specs.Table.{ids}
+use Rattle.image.proofs.Writing.{Walked, nothing_yet, whole, fits, laid}
+use Rattle.image.proofs.bytes.Given as goal
+
+abbrev pub invariant-loop-left : goal.invariant-loop-left
+invariant-loop-left l = (l.left ≤ 140) × Walked l.s l.at l.initial.left (140 - l.left)
+
+abbrev pub decreases-loop-left : goal.decreases-loop-left
+decreases-loop-left l = l.left

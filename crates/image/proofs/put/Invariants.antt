@@ -1,0 +1,17 @@
+-- The stores that are left, made on what the image holds now, give what all of them give on what it held at first.
+-- Assumes nothing.
+use borrow.Author.Rules.{rules}
+use mathlib.Core.Path.{◌≡◌, refl, sym, ap, ◌∙◌}
+use Prim.Native.Nat.{◌+◌, ◌-◌, ◌≤◌}
+use native.Mathlib.Omega.{arith}
+use lib.ListN.{length, take, drop, length-set, length-take}
+use lib.Seq.{sets}
+use Rattle.laws.proofs.Lists.{drop_end}
+use Rattle.image.proofs.Writing.{stored}
+use Rattle.image.proofs.put.Given as goal
+
+abbrev pub invariant-loop-i : goal.invariant-loop-i
+invariant-loop-i l = (l.i ≤ l.bytes) × (length l.initial.i ≡ length l.initial.image) × (length l.at ≡ 8) × (sets l.initial.i (l.image + l.i) (drop l.i (take l.bytes l.at)) ≡ sets l.initial.image l.image (take l.bytes l.at))
+
+abbrev pub decreases-loop-i : goal.decreases-loop-i
+decreases-loop-i l = l.bytes - l.i

@@ -1,0 +1,24 @@
+-- The first i values are the first i numbers of 4 bytes of the image from place 244 on. Assumes nothing.
+use borrow.Author.Rules.{rules}
+use mathlib.Core.Path.{refl, ◌∙◌}
+use Prim.Native.Nat.{◌-◌}
+use native.Mathlib.Omega.{arith}
+use lib.ListN.{drop}
+use Rattle.image.specs.Image.{itself}
+use Rattle.image.proofs.Reading.{SoFar, begun, one_more_lem, filled, number_place}
+use Rattle.image.proofs.uint32s.Goals as goal
+
+pub loop-i-init : goal.loop-i-init
+loop-i-init c = begun itself 4 6 (drop 244 c.args.image.now) _ refl
+
+pub loop-i-preserved : goal.loop-i-preserved
+loop-i-preserved c =
+    let l = c.loop-i in
+    let image = c.args.image.now in
+    one_more_lem itself 4 6 (drop 244 image) l.values l.i _ l.invariant (omega arith) (c.le32.ensures ∙ number_place 4 244 l.i image)
+
+pub returns : goal.returns
+returns c =
+    let l = c.loop-i in
+    let image = c.args.image.now in
+    filled itself 4 6 (drop 244 image) l.values l.i l.invariant (omega arith)

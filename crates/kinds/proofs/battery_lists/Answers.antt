@@ -1,0 +1,6 @@
+-- The list that is walked is the battery board's, code by code.
+use borrow.Author.Rules.{rules}
+use Rattle.kinds.proofs.battery_lists.Goals as goal
+
+pub returns : goal.returns
+returns c = c.is_among.ensures

@@ -1,0 +1,9 @@
+-- By what the size is. Assumes nothing.
+use borrow.Author.Rules.{rules}
+use Rattle.lines.proofs.read.Goals as goal
+
+pub returns-in-Number : goal.returns-in-Number
+returns-in-Number c = rw (← c.size.ensures, c.in-Number.is)
+
+pub returns-in-Bad : goal.returns-in-Bad
+returns-in-Bad c = rw (← c.size.ensures, c.in-Bad.is)

@@ -1,0 +1,25 @@
+-- A checksum that is neither 0 nor the settings' own leaves all; either of the two stores. Assumes nothing.
+use mathlib.Core.Path.{sym}
+use mathlib.Core.Logic.{⊎_elim}
+use native.Mathlib.Omega.{arith}
+use borrow.Author.Rules.{rules}
+use Rattle.memory.proofs.Laws.{zero_right, own_right, other_wrong, right_stores, wrong_leaves}
+use Rattle.memory.proofs.Memory.save.Goals as goal
+
+pub returns-then-given-checksum : goal.returns-then-given-checksum
+returns-then-given-checksum c =
+    let a = c.args in
+    let sum = c.checksum-checksum.ensures in
+    sym (wrong_leaves a.given a.self (other_wrong a.given a.self (λ e. omega arith) (λ e. omega (arith, sum))))
+
+pub returns : goal.returns
+returns c =
+    let a = c.args in
+    let sum = c.checksum-checksum.ensures in
+    let right =
+    ⊎_elim
+    (λ w. own_right a.given a.self (omega (arith, sum)))
+    (λ w. zero_right a.given a.self (omega arith))
+    c.if-given-ne0.branch
+    in
+    rw (c.one_more-save_count.ensures, c.stored_count.ensures, sum) (sym (right_stores a.given a.self right))

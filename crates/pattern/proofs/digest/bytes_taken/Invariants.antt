@@ -1,0 +1,15 @@
+-- What is left, taken in behind what was, makes what all of them make. Assumes nothing.
+use borrow.Author.Rules.{rules}
+use native.Mathlib.Omega.{arith}
+use Prim.Native.Nat.{◌-◌, ◌≤◌}
+use mathlib.Core.Path.{◌≡◌, refl, ap, sym, ◌∙◌}
+use lib.ListN.{length, drop}
+use Rattle.pattern.specs.Digest.{all_taken}
+use Rattle.pattern.proofs.Steps.{taken_turn, taken_end}
+use Rattle.pattern.proofs.digest.bytes_taken.Given as goal
+
+abbrev pub invariant-loop-i : goal.invariant-loop-i
+invariant-loop-i l = (l.i ≤ length l.bytes) × (all_taken l.initial.i (drop l.i l.bytes) ≡ all_taken l.digest l.bytes)
+
+abbrev pub decreases-loop-i : goal.decreases-loop-i
+decreases-loop-i l = length l.bytes - l.i

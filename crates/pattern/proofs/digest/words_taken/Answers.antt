@@ -1,0 +1,23 @@
+-- What is left, taken in behind what was, makes what all of them make. Assumes nothing.
+use borrow.Author.Rules.{rules}
+use native.Mathlib.Omega.{arith}
+use Prim.Native.Nat.{◌-◌, ◌≤◌}
+use mathlib.Core.Path.{◌≡◌, refl, ap, sym, ◌∙◌}
+use lib.ListN.{length, drop}
+use Rattle.pattern.specs.Digest.{all_taken}
+use Rattle.pattern.proofs.Steps.{taken_turn, taken_end}
+use Rattle.pattern.proofs.digest.words_taken.Goals as goal
+
+pub loop-i-init : goal.loop-i-init
+loop-i-init c = (omega arith, refl)
+
+pub loop-i-preserved : goal.loop-i-preserved
+loop-i-preserved c =
+    let l = c.loop-i in
+    let s = c.args.words.now in
+    (omega arith, rw c.word_taken-d.ensures (sym (taken_turn l.d s l.i (omega arith)) ∙ l.invariant.1))
+
+pub returns : goal.returns
+returns c =
+    let l = c.loop-i in
+    sym (taken_end l.d c.args.words.now l.i (omega arith)) ∙ l.invariant.1

@@ -1,0 +1,6 @@
+-- As many as the board has.
+use borrow.Author.Rules.{rules}
+use Rattle.pattern.proofs.ticks.counted.Goals as goal
+
+pub returns : goal.returns
+returns c = rw (c.first_words.ensures, c.word_count.ensures)

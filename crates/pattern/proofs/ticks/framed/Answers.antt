@@ -1,0 +1,6 @@
+-- The STID is the distribution board's.
+use borrow.Author.Rules.{rules}
+use Rattle.pattern.proofs.ticks.framed.Goals as goal
+
+pub returns : goal.returns
+returns c = rw c.stid-stid.ensures

@@ -1,0 +1,9 @@
+-- The space, and the digits behind it. Assumes nothing.
+use mathlib.Core.Path.{ap, ◌∙◌}
+use Rattle.script.specs.Printing.{Page, page, typed, digits_of}
+use borrow.Author.Rules.{rules}
+use Rattle.script.proofs.printing.field.Goals as goal
+
+pub returns : goal.returns
+unfolding typed
+returns c = c.number.ensures ∙ ap (λ (p : Page). typed p (digits_of c.args.digits c.args.n)) c.put-place.ensures

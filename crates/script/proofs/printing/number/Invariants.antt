@@ -1,0 +1,17 @@
+-- The digits that are left, put behind what stands on the page now. Assumes nothing.
+use borrow.Author.Rules.{rules}
+use native.Mathlib.Omega.{arith}
+use Prim.Native.Nat.{ℕ, ◌≤◌, ◌-◌, ◌+◌, ◌%◌}
+use mathlib.Core.Path.{◌≡◌, refl, ap, sym, ◌∙◌}
+use mathlib.Core.List.{List, [], ◌∷◌}
+use lib.ListN.{length}
+use Rattle.hexadecimal.specs.Hex.{capital_of}
+use Rattle.script.specs.Printing.{page, typed, over, digits_of}
+use Rattle.script.proofs.Turns.{turn, digits_turn}
+use Rattle.script.proofs.printing.number.Given as goal
+
+abbrev pub invariant-loop-left : goal.invariant-loop-left
+invariant-loop-left l = (length l.place ≡ length l.initial.out) × (typed (page l.place l.initial.left) (digits_of l.left l.at) ≡ typed (page l.initial.out l.out) (digits_of l.n l.at))
+
+abbrev pub decreases-loop-left : goal.decreases-loop-left
+decreases-loop-left l = l.left

@@ -1,0 +1,16 @@
+-- The words that are left, put behind what stands on the page now. Assumes nothing.
+use borrow.Author.Rules.{rules}
+use native.Mathlib.Omega.{arith}
+use Prim.Native.Nat.{ℕ, ◌≤◌, ◌-◌, ◌+◌}
+use mathlib.Core.Path.{◌≡◌, refl, ap, sym, ◌∙◌}
+use mathlib.Core.List.{List, [], ◌∷◌}
+use lib.ListN.{length, drop, get_or}
+use Rattle.script.specs.Printing.{Page, page, typed, digits_of, row}
+use Rattle.script.proofs.Turns.{turn, row_turn, row_end}
+use Rattle.script.proofs.printing.words.Given as goal
+
+abbrev pub invariant-loop-i : goal.invariant-loop-i
+invariant-loop-i l = (l.i ≤ length l.at) × (length l.place ≡ length l.initial.out) × (typed (page l.place l.initial.i) (row 4 (drop l.i l.at)) ≡ typed (page l.initial.out l.ws) (row 4 l.at))
+
+abbrev pub decreases-loop-i : goal.decreases-loop-i
+decreases-loop-i l = length l.at - l.i

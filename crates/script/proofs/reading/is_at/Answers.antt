@@ -1,0 +1,6 @@
+-- The byte at the place is what is compared. Assumes nothing.
+use borrow.Author.Rules.{rules}
+use Rattle.script.proofs.reading.is_at.Goals as goal
+
+pub returns : goal.returns
+returns c = rw c.byte.ensures

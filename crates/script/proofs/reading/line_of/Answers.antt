@@ -1,0 +1,6 @@
+-- Too long or not. Assumes nothing.
+use borrow.Author.Rules.{rules}
+use Rattle.script.proofs.reading.line_of.Goals as goal
+
+pub returns : goal.returns
+returns c = rw c.if-over.false c.first-2.ensures

@@ -1,0 +1,35 @@
+-- The id's place is the one that is written, and no row of the type gives a range, so the value is kept as it is.
+use mathlib.Core.Path.{refl, sym, ◌∙◌}
+use native.Mathlib.Omega.{arith}
+use borrow.Author.Rules.{rules}
+use mir.Syntax.{w8}
+use mir.ValLaws.{to_z-of_z}
+use Rattle.value.specs.declared.ValueType.TheVariants.{Int8}
+use Rattle.value.specs.declared.ParamValue.{ParamValue}
+use Rattle.settings.specs.Table.{same}
+use Rattle.settings.specs.Values.{with_number}
+use Rattle.settings.proofs.Stores.{set_at, set_off, placed}
+use Rattle.settings.proofs.Places.{at}
+use Rattle.settings.proofs.Rows.{lies_yes, lies_no, int8s, int8_any}
+use Rattle.settings.proofs.Ranges.{any_kept, int8_fits}
+use Rattle.settings.proofs.set_int8.Goals as goal
+
+pub overflow_sub-i : goal.overflow_sub-i
+overflow_sub-i c = let h = lies_yes _ _ _ (sym c.is_from_to.ensures ∙ c.if-is_from_to.true) in omega arith
+
+pub bounds-s-i : goal.bounds-s-i
+bounds-s-i c = let h = lies_yes _ _ _ (sym c.is_from_to.ensures ∙ c.if-is_from_to.true) in omega arith
+
+pub returns-then-is_from_to : goal.returns-then-is_from_to
+unfolding with_number same
+returns-then-is_from_to c =
+    let h = lies_yes _ _ _ (sym c.is_from_to.ensures ∙ c.if-is_from_to.true) in
+    let s = c.args.t1 in
+    let id = c.args.id in
+    let x = c.args.x in
+    let e = int8s id (omega arith) (omega arith) in
+    let k = any_kept id Int8 x e (int8_any id (omega arith) (omega arith)) (int8_fits x c.ranges.x) in
+    rw (to_z-of_z w8 x c.ranges.x, set_at s (ParamValue.Int8 x) (at id Int8 e) refl, k) (placed s Int8 x (omega arith))
+
+pub returns-else-is_from_to : goal.returns-else-is_from_to
+returns-else-is_from_to c = sym (set_off c.args.t1 c.args.id (ParamValue.Int8 c.args.x) (λ h h'. lies_no _ _ _ (sym c.is_from_to.ensures ∙ c.if-is_from_to.false) (omega arith) (omega arith)))

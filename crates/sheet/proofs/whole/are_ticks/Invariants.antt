@@ -1,0 +1,20 @@
+-- `are_ticks` meets its contract. The invariant: the lines that are left stand from here on just where all of them
+-- stand from the first on. Assumes nothing.
+use borrow.Author.Rules.{rules}
+use native.Mathlib.Omega.{arith}
+use Prim.Native.Nat.{ℕ, ◌-◌}
+use mathlib.Core.Path.{◌≡◌, sym, ap, ◌∙◌}
+use mathlib.Core.List.{List}
+use lib.ListN.{length}
+use Rattle.sheet.specs.Answers.{are_ticks}
+use Rattle.sheet.proofs.Runs.{are_ticks_behind, ticks_turn, ticks_end}
+use Rattle.sheet.proofs.whole.are_ticks.Reads as reads
+use Rattle.sheet.proofs.whole.are_ticks.Lts as lts
+use Rattle.sheet.proofs.ticks.read_tick.Reads as read-tick-reads
+use Rattle.sheet.proofs.whole.are_ticks.Given as goal
+
+abbrev pub invariant-loop-left : goal.invariant-loop-left
+invariant-loop-left l = Ticks l.s l.first l.count l.at l.initial.left l.left
+
+abbrev pub decreases-loop-left : goal.decreases-loop-left
+decreases-loop-left l = l.left

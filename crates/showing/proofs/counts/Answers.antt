@@ -1,0 +1,7 @@
+-- The counts are the channels'. Assumes nothing.
+use Rattle.script.specs.Printing.{typed}
+use borrow.Author.Rules.{rules}
+use Rattle.showing.proofs.counts.Goals as goal
+
+pub returns : goal.returns
+returns c = rw (c.words.ensures, c.counts-all.ensures)

@@ -1,0 +1,6 @@
+-- The words that count are a part of those held. Assumes nothing.
+use borrow.Author.Rules.{rules}
+use Rattle.showing.proofs.measured.Goals as goal
+
+pub returns : goal.returns
+returns c = rw (c.words.ensures, c.first_words.ensures, c.words-all.ensures)

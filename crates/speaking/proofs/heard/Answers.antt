@@ -1,0 +1,10 @@
+-- The buffer stands behind the answer. Assumes nothing.
+use Rattle.script.specs.Printing.{typed}
+use Rattle.script.proofs.Turns.{typed_append}
+use Rattle.speaking.specs.Speaking.{heard_line}
+use borrow.Author.Rules.{rules}
+use Rattle.speaking.proofs.heard.Goals as goal
+
+pub returns : goal.returns
+unfolding heard_line
+returns c = rw (c.whole.ensures, c.answer-at.ensures) (simp typed_append)

@@ -1,0 +1,10 @@
+-- By what the start answers. Assumes nothing.
+use Rattle.script.specs.Printing.{typed}
+use borrow.Author.Rules.{rules}
+use Rattle.starting.proofs.start_line.Goals as goal
+
+pub returns-in-Accepted : goal.returns-in-Accepted
+returns-in-Accepted c = rw c.in-Accepted.is c.text.ensures
+
+pub returns-in-ProfileBreaksARule : goal.returns-in-ProfileBreaksARule
+returns-in-ProfileBreaksARule c = rw c.in-ProfileBreaksARule.is c.text-in-ProfileBreaksARule.ensures

@@ -1,0 +1,12 @@
+-- By whether something is stored. Assumes nothing.
+use Rattle.starting.specs.Starts.{store_of}
+use borrow.Author.Rules.{rules}
+use Rattle.starting.proofs.store_of.Goals as goal
+
+pub returns-then-stored : goal.returns-then-stored
+unfolding store_of
+returns-then-stored c = rw (c.if-stored.true, c.read.ensures)
+
+pub returns : goal.returns
+unfolding store_of
+returns c = rw (c.if-stored.false, c.empty.ensures)

@@ -1,0 +1,6 @@
+-- What is not held is not looked at.
+use borrow.Author.Rules.{rules}
+use Rattle.state.proofs.starting.stored_in_range.Goals as goal
+
+pub returns-then-store : goal.returns-then-store
+returns-then-store c = rw (c.if-store.true, c.in_range.ensures)

@@ -1,0 +1,26 @@
+-- The room is enough for every reply, so all of its digits are there to be put. Assumes nothing.
+use mathlib.Core.Path.{◌≡◌, ap, sym, ◌∙◌}
+use Prim.Native.Nat.{ℕ}
+use lib.ListN.{length, take, replicate, length-replicate}
+use Rattle.wire.specs.Replies.{shown}
+use Rattle.script.specs.Printing.{page, typed}
+use Rattle.transcript.proofs.Digits.{shown_short, digits_written, digits_fit}
+use borrow.Author.Rules.{rules}
+use Rattle.transcript.proofs.reply.Goals as goal
+
+pub returns-in-Length : goal.returns-in-Length
+unfolding shown
+returns-in-Length c =
+    let a = c.args in
+    let whole : length a.r.bytes ≡ 274 = search rules in
+    let written = rw c.first.ensures at c.write.ensures in
+    let shown-bytes = digits_written (take a.r.len a.r.bytes) (replicate 1024 0) (shown_short a.r.len a.r.bytes whole) (length-replicate {A = ℕ} 1024 0) _ (sym written.0 ∙ c.in-Length.is) in
+    rw (c.text.ensures, c.first-in-Length.ensures, written.1.0) (ap (typed (page a.out.now a.at)) shown-bytes)
+
+pub returns-in-NoRoom : goal.returns-in-NoRoom
+unfolding shown
+returns-in-NoRoom c =
+    let a = c.args in
+    let whole : length a.r.bytes ≡ 274 = search rules in
+    let written = rw c.first.ensures at c.write.ensures in
+    absurd (digits_fit (take a.r.len a.r.bytes) (replicate 1024 0) (shown_short a.r.len a.r.bytes whole) (length-replicate {A = ℕ} 1024 0) (sym written.0 ∙ c.in-NoRoom.is))

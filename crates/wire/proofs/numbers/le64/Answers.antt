@@ -1,0 +1,13 @@
+-- Two numbers of half the width join.
+use native.Mathlib.Omega.{arith}
+use lib.ListN.{drop}
+use borrow.Author.Rules.{rules}
+use Rattle.wire.proofs.LittleEndian.{number_split}
+use Rattle.wire.proofs.numbers.le64.Goals as goal
+
+pub returns : goal.returns
+returns c =
+    let t = drop c.args.at c.args.s.now in
+    let low = rw c.rest-t.ensures at c.le32.ensures in
+    let high = rw c.rest-t.ensures at c.le32-2.ensures in
+    omega (arith, number_split 4 4 t)

@@ -1,0 +1,16 @@
+-- After i turns the first i bytes stand behind what the reply shows.
+use Prim.Native.Nat.{◌≤◌, ◌+◌, ◌-◌}
+use mathlib.Core.Path.{◌≡◌}
+use native.Mathlib.Omega.{arith}
+use lib.ListN.{length, get_or}
+use lib.Seq.{paste, paste-zero}
+use borrow.Author.Rules.{rules}
+use Rattle.wire.proofs.Room.{one_more_lem, appended}
+use Rattle.wire.specs.Replies.{room}
+use Rattle.wire.proofs.reply.Reply.append_bytes.Given as goal
+
+abbrev pub invariant-loop-i : goal.invariant-loop-i
+invariant-loop-i l = (l.i ≤ l.count) × (l.initial.i ≡ paste l.initial.bytes l.start l.xs l.i)
+
+abbrev pub decreases-loop-i : goal.decreases-loop-i
+decreases-loop-i l = l.count - l.i

@@ -1,0 +1,19 @@
+-- The stores that are left to do make the buffer what it is to hold; after the last turn none is left.
+use Prim.Native.Nat.{ℕ, ◌≤◌, ◌-◌}
+use mathlib.Core.List.{List, ◌++◌}
+use mathlib.Core.Path.{◌≡◌, sym, ◌∙◌}
+use native.Mathlib.Omega.{arith}
+use lib.ListN.{length, take, drop, replicate, length-set}
+use lib.Seq.{sets}
+use borrow.Author.Rules.{rules}
+use Rattle.laws.proofs.Lists.{drop_step, drop_end, sets_turn}
+use Rattle.wire.proofs.Room.{length_filled, filled_at, covering}
+use Rattle.wire.specs.Replies.{shown, found}
+use Rattle.wire.proofs.reply.Reply.fill.Given as goal
+
+abbrev pub invariant-loop-i : goal.invariant-loop-i
+invariant-loop-i l =
+    (l.i ≤ length l.initial.out) × (length l.initial.i ≡ length l.initial.out) × (sets l.initial.i l.i (drop l.i (whole l.out l.bytes (length l.initial.out))) ≡ whole l.out l.bytes (length l.initial.out))
+
+abbrev pub decreases-loop-i : goal.decreases-loop-i
+decreases-loop-i l = length l.initial.out - l.i
