@@ -46,12 +46,12 @@ max b = most (pos b)
 
 infix 72 ◌up_to◌
 abbrev pub ◌up_to◌ : ℕ → ℕ → Range
-a up_to_lem b = between (pos a) (pos b)
+a up_to b = between (pos a) (pos b)
 
 infix 72 minus◌up_to◌
 abbrev pub minus◌up_to◌ : ℕ → ℕ → Range
-minus zero up_to_lem b = between (pos 0) (pos b)
-minus suc a up_to_lem b = between (negsuc a) (pos b)
+minus zero up_to b = between (pos 0) (pos b)
+minus suc a up_to b = between (negsuc a) (pos b)
 
 -- a row of Table 3-25 and one of Table 3-26: each id from the first to the last is a parameter
 infix 70 ◌to◌are◌with◌default◌
@@ -81,8 +81,8 @@ read_write_rows =
     ∷ 0x2000 to 0x2000 are Uint8 with any default each 1  -- BOARD_IDENTIFIER
     ∷ 0x2001 to 0x2001 are Uint8 with any default each 0x12  -- BOARD_IDENTIFIER_KEY
     ∷ 0x2002 to 0x2002 are Uint8 with any default each 3  -- RAVG_STRENGTH_P2
-    ∷ 0x3000 to 0x3002 are Int16 with minus 2000 up_to_lem 3000 default each 200  -- LOTHR_BP1_HEATER to BP3
-    ∷ 0x3003 to 0x3005 are Int16 with minus 2000 up_to_lem 3400 default each 600  -- HITHR_BP1_HEATER to BP3
+    ∷ 0x3000 to 0x3002 are Int16 with minus 2000 up_to 3000 default each 200  -- LOTHR_BP1_HEATER to BP3
+    ∷ 0x3003 to 0x3005 are Int16 with minus 2000 up_to 3400 default each 600  -- HITHR_BP1_HEATER to BP3
     ∷ 0x3006 to 0x3008 are Int16 with min 30 default each 30  -- LOTHR_BP1_UNBAL to BP3
     ∷ 0x3009 to 0x300B are Int16 with min 30 default each 50  -- HITHR_BP1_UNBAL to BP3
     ∷ 0x300C to 0x300C are Int16 with any default each 0  -- MCU_TEMP_BIAS
@@ -100,7 +100,7 @@ read_write_rows =
     ∷ 0x4000 to 0x4000 are Uint16 with any default each 300  -- TTC_WDG_TIMEOUT
     ∷ 0x4001 to 0x4001 are Uint16 with any default each 0  -- TTC_WDG_TIMEOUT_KEY
     ∷ 0x4002 to 0x4021 are Uint16 with max 20000 default each 0  -- CH_STARTUP_DELAY
-    ∷ 0x4022 to 0x4041 are Uint16 with 50 up_to_lem 20000 default each 5000  -- CH_LATCHOFF_DELAY
+    ∷ 0x4022 to 0x4041 are Uint16 with 50 up_to 20000 default each 5000  -- CH_LATCHOFF_DELAY
     ∷ 0x4042 to 0x4042 are Uint16 with any default each 12400  -- SAFETY_VOLT_LOTHR
     ∷ 0x4043 to 0x4043 are Uint16 with any default each 14000  -- SAFETY_VOLT_HITHR
     ∷ 0x6000 to 0x6001 are Uint32 with any default each 0  -- (internal)
