@@ -7,11 +7,11 @@ use Rattle.wire.proofs.Patterns.{eq_self}
 use Rattle.wire.specs.Floats.{quiet_nan, float_bits}
 use Rattle.wire.proofs.floats.float_bits32.Goals as goal
 
-number : (c : tie.Then1) → is_nan c.before.args.x ≡ false
-number c = not-true (is_nan c.before.args.x) (sym (eq_self c.before.args.x) ∙ c.if1.true)
+number : (c : goal.Then-x) → is_nan c.args.x ≡ false
+number c = not-true (is_nan c.args.x) (sym (eq_self c.args.x) ∙ c.if-x.true)
 
-no_number : (c : tie.Else1) → is_nan c.before.args.x ≡ true
-no_number c = not-false (is_nan c.before.args.x) (sym (eq_self c.before.args.x) ∙ c.if1.false)
+no_number : (c : goal.Else-x) → is_nan c.args.x ≡ true
+no_number c = not-false (is_nan c.args.x) (sym (eq_self c.args.x) ∙ c.if-x.false)
 
 pub float_to_bits-result : goal.float_to_bits-result
 float_to_bits-result c = rw (number c) tt

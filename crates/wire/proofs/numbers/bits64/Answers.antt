@@ -7,34 +7,34 @@ use Rattle.wire.proofs.TwosComplement.{above, below, Above, Below}
 use Rattle.wire.proofs.numbers.bits64.Goals as goal
 
 -- what the test told, of the number itself
-from_zero : (c : tie.Then1) → Above w64 c.before.args.x
+from_zero : (c : goal.Then-x-ge0) → Above w64 c.args.x
 unfolding plus minus
 from_zero c =
-    let x = c.before.args.x in
-    let e = same (to_z-of_z w64 x c.before.ranges.x) in
-    above w64 x c.before.ranges.x (omega order)
+    let x = c.args.x in
+    let e = same (to_z-of_z w64 x c.ranges.x) in
+    above w64 x c.ranges.x (omega order)
 
-under-zero : (c : tie.Else1) → Below w64 c.before.args.x
+under_zero : (c : goal.Else-x-ge0) → Below w64 c.args.x
 unfolding plus minus
-under-zero c =
-    let x = c.before.args.x in
-    let e = same (to_z-of_z w64 x c.before.ranges.x) in
-    below w64 x c.before.ranges.x (omega order)
+under_zero c =
+    let x = c.args.x in
+    let e = same (to_z-of_z w64 x c.ranges.x) in
+    below w64 x c.ranges.x (omega order)
 
 pub overflow_cast-result : goal.overflow_cast-result
 overflow_cast-result c = (from_zero c).castable
 
 pub overflow_sub-result : goal.overflow_sub-result
-overflow_sub-result c = (under-zero c).ranges
+overflow_sub-result c = (under_zero c).fits
 
 pub overflow_cast-result-else-x-ge0 : goal.overflow_cast-result-else-x-ge0
-overflow_cast-result-else-x-ge0 c = (under-zero c).castable
+overflow_cast-result-else-x-ge0 c = (under_zero c).castable
 
 pub overflow_sub-result-else-x-ge0 : goal.overflow_sub-result-else-x-ge0
-overflow_sub-result-else-x-ge0 c = omega (arith, (under-zero c).small)
+overflow_sub-result-else-x-ge0 c = omega (arith, (under_zero c).small)
 
 pub returns-then-x-ge0 : goal.returns-then-x-ge0
 returns-then-x-ge0 c = omega (arith, (from_zero c).is)
 
 pub returns-else-x-ge0 : goal.returns-else-x-ge0
-returns-else-x-ge0 c = omega (arith, (under-zero c).is)
+returns-else-x-ge0 c = omega (arith, (under_zero c).is)

@@ -1,7 +1,8 @@
 -- After i turns the first i words stand behind what the reply shows, two bytes each; where the room ends within a word,
 -- its low byte stands there too.
-use Prim.Native.Nat.{◌≤◌, ◌+◌, ◌-◌, ◌*◌, min}
-use mathlib.Core.Path.{◌≡◌}
+use Prim.Native.Nat.{ℕ, ◌≤◌, ◌+◌, ◌-◌, ◌*◌, min}
+use mathlib.Core.List.{List}
+use mathlib.Core.Path.{◌≡◌, refl}
 use native.Mathlib.Omega.{arith}
 use lib.ListN.{length, set}
 use lib.Seq.{paste, paste-zero}
@@ -13,21 +14,12 @@ use Rattle.wire.specs.declared.reply.Reply.{Reply}
 use Rattle.wire.proofs.reply.Reply.append_words.Goals as goal
 
 -- where the room does not end within a word
-whole_words : (c : tie.After-loop invariant-loop decreases-loop) → let ws = c.before.before.before.before.before.before.args.ws.now in
-    let start = c.before.before.before.before.lesser.result in
-    let whole = c.before.before.before.lesser2.result in
-    2 * whole ≡ min (length (words ws)) (274 - start)
-    → ◌≡◌ {A = Reply} (record { len = start + 2 * whole; bytes = c.before.loop.bytes }) (after c.before.before.before.before.before.before.args.self (words ws))
+whole_words : (r : Reply) (ws : List ℕ) (start whole : ℕ) (b : List ℕ)
+    → length r.bytes ≡ 274 → start ≡ min r.len 274 → 2 * whole ≡ min (length (words ws)) (274 - start)
+    → b ≡ paste r.bytes start (words ws) (2 * whole)
+    → ◌≡◌ {A = Reply} (record { len = start + 2 * whole; bytes = b }) (after r (words ws))
 unfolding room
-whole_words c e =
-    let k = c.before.loop in
-    let r = c.before.before.before.before.before.before.args.self in
-    let start = c.before.before.before.before.lesser.result in
-    let whole = c.before.before.before.lesser2.result in
-    let ws = c.before.before.before.before.before.before.args.ws.now in
-    let l : length r.bytes ≡ 274 = search rules in
-    let q : k.i ≡ whole = omega arith in
-    appended r (words ws) start (2 * whole) (start + 2 * whole) k.bytes (omega arith) (omega arith) e (omega arith) (rw q at k.invariant.1)
+whole_words r ws start whole b l es e eb = appended r (words ws) start (2 * whole) (start + 2 * whole) b l es e refl eb
 
 pub loop-i-init : goal.loop-i-init
 loop-i-init c = (omega arith, paste-zero c.args.self.bytes c.lesser-start.result (words c.args.ws.now))
@@ -65,7 +57,25 @@ returns-then-end-lt-ROOM c =
     appended r (words ws) start (2 * whole + 1) (end + 1) (set k.bytes end c.low-then-end-lt-ROOM.result) (omega arith) (omega arith) (omega arith) (omega arith) one
 
 pub returns-else-end-lt-ROOM : goal.returns-else-end-lt-ROOM
-returns-else-end-lt-ROOM c = whole_words c (omega (arith, length_words c.args.ws.now))
+returns-else-end-lt-ROOM c =
+    let k = c.loop-i in
+    let r = c.args.self in
+    let ws = c.args.ws.now in
+    let start = c.lesser-start.result in
+    let whole = c.lesser-whole.result in
+    let l : length r.bytes ≡ 274 = search rules in
+    let n = length_words ws in
+    let e : k.i ≡ whole = omega arith in
+    whole_words r ws start whole k.bytes l (omega arith) (omega arith) (rw e at k.invariant.1)
 
 pub returns-else-whole-ws : goal.returns-else-whole-ws
-returns-else-whole-ws c = whole_words c (omega (arith, length_words c.args.ws.now))
+returns-else-whole-ws c =
+    let k = c.loop-i in
+    let r = c.args.self in
+    let ws = c.args.ws.now in
+    let start = c.lesser-start.result in
+    let whole = c.lesser-whole.result in
+    let l : length r.bytes ≡ 274 = search rules in
+    let n = length_words ws in
+    let e : k.i ≡ whole = omega arith in
+    whole_words r ws start whole k.bytes l (omega arith) (omega arith) (rw e at k.invariant.1)

@@ -13,7 +13,7 @@ use Rattle.wire.specs.declared.reply.Reply.{Reply}
 use Rattle.wire.proofs.reply.Reply.append_words.Given as goal
 
 abbrev pub invariant-loop-i : goal.invariant-loop-i
-invariant-loop-i l = (l.i ≤ l.whole) × (l.initial.i ≡ paste l.initial.bytes l.start (words l.ws) (2 * l.i))
+invariant-loop-i l = (l.i ≤ l.whole) × (l.bytes ≡ paste l.initial.bytes l.start (words l.ws) (2 * l.i))
 
 abbrev pub decreases-loop-i : goal.decreases-loop-i
 decreases-loop-i l = l.whole - l.i

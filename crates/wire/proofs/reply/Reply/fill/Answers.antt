@@ -9,11 +9,8 @@ use borrow.Author.Rules.{rules}
 use Rattle.laws.proofs.Lists.{drop_step, drop_end, sets_turn}
 use Rattle.wire.proofs.Room.{length_filled, filled_at, covering}
 use Rattle.wire.specs.Replies.{shown, found}
+use Rattle.wire.proofs.reply.Reply.fill.Invariants.{whole}
 use Rattle.wire.proofs.reply.Reply.fill.Goals as goal
-
--- what the buffer is to hold
-abbrev whole : List ℕ → ℕ → ℕ → List ℕ
-whole bytes len n = take n (take len bytes ++ replicate n 0xFF)
 
 pub loop-i-init : goal.loop-i-init
 loop-i-init c =

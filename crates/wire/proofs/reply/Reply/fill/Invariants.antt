@@ -11,9 +11,15 @@ use Rattle.wire.proofs.Room.{length_filled, filled_at, covering}
 use Rattle.wire.specs.Replies.{shown, found}
 use Rattle.wire.proofs.reply.Reply.fill.Given as goal
 
+-- what the buffer is to hold
+abbrev pub whole : List ℕ → ℕ → ℕ → List ℕ
+whole bytes len n = take n (take len bytes ++ replicate n 0xFF)
+
 abbrev pub invariant-loop-i : goal.invariant-loop-i
 invariant-loop-i l =
-    (l.i ≤ length l.initial.out) × (length l.initial.i ≡ length l.initial.out) × (sets l.initial.i l.i (drop l.i (whole l.out l.bytes (length l.initial.out))) ≡ whole l.out l.bytes (length l.initial.out))
+    (l.i ≤ length l.initial.out)
+    × (length l.out ≡ length l.initial.out)
+    × (sets l.out l.i (drop l.i (whole l.bytes l.len (length l.initial.out))) ≡ whole l.bytes l.len (length l.initial.out))
 
 abbrev pub decreases-loop-i : goal.decreases-loop-i
 decreases-loop-i l = length l.initial.out - l.i
