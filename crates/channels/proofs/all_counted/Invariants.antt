@@ -12,7 +12,7 @@ use Rattle.channels.proofs.Sofar.{Sofar, next}
 use Rattle.channels.proofs.all_counted.Given as goal
 
 abbrev pub invariant-loop-c : goal.invariant-loop-c
-invariant-loop-c l = Sofar (λ k. count_one (has l.tripping k) (get_or l.initial.counts k 0)) l.initial.counts l.initial.c l.c
+invariant-loop-c l = Sofar (λ k. count_one (has l.tripping k) (get_or l.initial.counts k 0)) l.initial.counts l.counts l.c
 
 abbrev pub decreases-loop-c : goal.decreases-loop-c
 decreases-loop-c l = 32 - l.c
