@@ -160,6 +160,3 @@ module _ (kind : Kind) (bid : ℕ) (startup : Bool) (s : List ℕ) where
       ∙ ap (cond startup 2)
       (behind (not (header_is (header_of kind bid) s)) _ _
       ∙ rw (header_check kind bid s) (ap (cond (header_differs (header_of kind bid) s) 3) listed_number)))
-
-  pub with_answer : {r : Decoded} → r ≡ decode_of kind bid startup s → (r ≡ decode_of kind bid startup s) × (decoded_number r ≡ first (checks kind bid (mode_alone startup) s))
-  with_answer e = (e, ap decoded_number e ∙ first_check)

@@ -1,5 +1,6 @@
 -- Each code computes to its row of the table, and one that is none of them to no row.
 use Rattle.command.specs.Table.{command_table, find}
+use native.Mathlib.Omega.{arith}
 use borrow.Author.Tests.{ne_eqb}
 use Rattle.command.proofs.listed_as.Goals as goal
 
@@ -97,4 +98,6 @@ returns-in-98 c = rw c.in-98.is
 
 pub returns-in_default : goal.returns-in_default
 unfolding command_table find
-returns-in_default c = simp (ne_eqb _ _ c.in_default.rest.0.0.0.0.0.0.0.0.0.0.0.0.0.0.0.0.0.0.0.0.0.0.1, ne_eqb _ _ c.in_default.rest.0.0.0.0.0.0.0.0.0.0.0.0.0.0.0.0.0.0.0.0.0.1, ne_eqb _ _ c.in_default.rest.0.0.0.0.0.0.0.0.0.0.0.0.0.0.0.0.0.0.0.0.1, ne_eqb _ _ c.in_default.rest.0.0.0.0.0.0.0.0.0.0.0.0.0.0.0.0.0.0.0.1, ne_eqb _ _ c.in_default.rest.0.0.0.0.0.0.0.0.0.0.0.0.0.0.0.0.0.0.1, ne_eqb _ _ c.in_default.rest.0.0.0.0.0.0.0.0.0.0.0.0.0.0.0.0.0.1, ne_eqb _ _ c.in_default.rest.0.0.0.0.0.0.0.0.0.0.0.0.0.0.0.0.1, ne_eqb _ _ c.in_default.rest.0.0.0.0.0.0.0.0.0.0.0.0.0.0.0.1, ne_eqb _ _ c.in_default.rest.0.0.0.0.0.0.0.0.0.0.0.0.0.0.1, ne_eqb _ _ c.in_default.rest.0.0.0.0.0.0.0.0.0.0.0.0.0.1, ne_eqb _ _ c.in_default.rest.0.0.0.0.0.0.0.0.0.0.0.0.1, ne_eqb _ _ c.in_default.rest.0.0.0.0.0.0.0.0.0.0.0.1, ne_eqb _ _ c.in_default.rest.0.0.0.0.0.0.0.0.0.0.1, ne_eqb _ _ c.in_default.rest.0.0.0.0.0.0.0.0.0.1, ne_eqb _ _ c.in_default.rest.0.0.0.0.0.0.0.0.1, ne_eqb _ _ c.in_default.rest.0.0.0.0.0.0.0.1, ne_eqb _ _ c.in_default.rest.0.0.0.0.0.0.1, ne_eqb _ _ c.in_default.rest.0.0.0.0.0.1, ne_eqb _ _ c.in_default.rest.0.0.0.0.1, ne_eqb _ _ c.in_default.rest.0.0.0.1, ne_eqb _ _ c.in_default.rest.0.0.1, ne_eqb _ _ c.in_default.rest.0.1, ne_eqb _ _ c.in_default.rest.1)
+returns-in_default c =
+    let k = c.args.code in
+    simp (ne_eqb k 0xAA (λ e. omega arith), ne_eqb k 0x02 (λ e. omega arith), ne_eqb k 0x04 (λ e. omega arith), ne_eqb k 0x06 (λ e. omega arith), ne_eqb k 0x10 (λ e. omega arith), ne_eqb k 0x12 (λ e. omega arith), ne_eqb k 0x14 (λ e. omega arith), ne_eqb k 0x16 (λ e. omega arith), ne_eqb k 0x18 (λ e. omega arith), ne_eqb k 0x30 (λ e. omega arith), ne_eqb k 0x32 (λ e. omega arith), ne_eqb k 0x42 (λ e. omega arith), ne_eqb k 0x50 (λ e. omega arith), ne_eqb k 0x82 (λ e. omega arith), ne_eqb k 0x84 (λ e. omega arith), ne_eqb k 0x86 (λ e. omega arith), ne_eqb k 0x90 (λ e. omega arith), ne_eqb k 0x92 (λ e. omega arith), ne_eqb k 0x94 (λ e. omega arith), ne_eqb k 0x52 (λ e. omega arith), ne_eqb k 0x44 (λ e. omega arith), ne_eqb k 0x60 (λ e. omega arith), ne_eqb k 0x62 (λ e. omega arith))
