@@ -9,7 +9,7 @@ use Rattle.crc.specs.Division.{along_bits, bits_of, continued_of}
 use Rattle.crc.proofs.continued.Given as goal
 
 abbrev pub invariant-loop-i : goal.invariant-loop-i
-invariant-loop-i l = (l.i ≤ length l.bytes) × (continued_of l.initial.i (drop l.i l.bytes) ≡ continued_of l.from l.bytes)
+invariant-loop-i l = (l.i ≤ length l.bytes) × (continued_of l.left (drop l.i l.bytes) ≡ continued_of l.from l.bytes)
 
 abbrev pub decreases-loop-i : goal.decreases-loop-i
 decreases-loop-i l = length l.bytes - l.i
