@@ -16,7 +16,6 @@ use Rattle.hexadecimal.specs.declared.Hex.{Hex}
 use Rattle.hexadecimal.specs.declared.Hex.TheVariants.{Value, Bad}
 use Rattle.hexadecimal.specs.declared.Payload.{Payload}
 use Rattle.hexadecimal.specs.declared.Written.{Written}
-use Rattle.hexadecimal.specs.declared.Word.{Word}
 
 module _ (text : List ℕ) (room : ℕ) where
   pub read_12 : payload_of text ≡ none → read_number (read_of (payload_of text) room) ≡ 12

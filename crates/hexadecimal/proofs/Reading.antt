@@ -1,9 +1,9 @@
 -- The equations of the form's recursion, one for each way that a turn of a loop can go. Assumes nothing.
-use Prim.Native.Nat.{ℕ, zero, suc, ◌+◌, ◌≤◌, ◌<◌}
+use Prim.Native.Nat.{ℕ, ◌+◌, ◌≤◌, ◌<◌}
 use mathlib.Core.Path.{◌≡◌, refl, ap, ap₂, sym, ◌∙◌}
 use mathlib.Core.Bool.{Bool, true, false, cond}
 use mathlib.Core.Option.{Option, none, some}
-use mathlib.Core.List.{List, [], ◌∷◌, ◌++◌}
+use mathlib.Core.List.{List, [], ◌∷◌}
 use native.Mathlib.Omega.{arith}
 use mathlib.Core.Logic.{◌⊎◌, inl, inr, ⊎_elim}
 use lib.Dec.{eqb, leb}
@@ -15,9 +15,7 @@ use Rattle.hexadecimal.specs.Hex.{pair_of, led, payload_of, read_of, held_after}
 use Rattle.hexadecimal.specs.Passes.{form_of, values, worth}
 use Rattle.hexadecimal.specs.declared.Hex.{Hex}
 use Rattle.hexadecimal.specs.declared.Hex.TheVariants.{Value, Bad}
-use Rattle.hexadecimal.specs.declared.Payload.{Payload}
 use Rattle.hexadecimal.specs.declared.Payload.TheVariants.{Bytes, NotOfForm, TooShort}
-use Rattle.hexadecimal.specs.declared.Form.{Form}
 use Rattle.hexadecimal.specs.declared.Form.TheVariants.{Pairs, Not}
 
 pub hex_short : (l : List ℕ) → length l < 2 → payload_of l ≡ none

@@ -1,21 +1,19 @@
 -- What was written reads back: the same bytes, and the same number. Assumes nothing.
-use Prim.Native.Nat.{ℕ, zero, suc, ◌+◌, ◌*◌, ◌/◌, ◌%◌, ◌^◌, ◌≤◌, ◌<◌}
-use mathlib.Core.Path.{◌≡◌, refl, ap, ap₂, sym, ◌∙◌}
-use mathlib.Core.Bool.{Bool, true, false, cond}
+use Prim.Native.Nat.{ℕ, suc, ◌+◌, ◌*◌, ◌/◌, ◌%◌, ◌^◌, ◌≤◌, ◌<◌}
+use mathlib.Core.Path.{◌≡◌, ap, ap₂, ◌∙◌}
 use mathlib.Core.Logic.{⊎_elim}
-use mathlib.Core.Option.{Option, none, some}
-use mathlib.Core.List.{List, [], ◌∷◌, ◌++◌}
+use mathlib.Core.Option.{some}
+use mathlib.Core.List.{List, [], ◌∷◌}
 use native.Mathlib.Nat.{div-add-mod', div-div-eq-div-mul}
 use native.Mathlib.Omega.{arith}
 use lib.ListN.{get_or}
 use borrow.Author.Tests.{lt-ltb, le-ltb}
 use Rattle.laws.proofs.Lists.{lt_or_le}
-use Rattle.hexadecimal.specs.Hex.{between, digit_of, joined, pair_of, led, payload_of, capital_of, digits_of, spaced, text_of, four_pairs, word_of, word_text}
+use Rattle.hexadecimal.specs.Hex.{digit_of, joined, pair_of, led, payload_of, capital_of, spaced, text_of, word_of, word_text}
 use Rattle.hexadecimal.specs.declared.Hex.{Hex}
-use Rattle.hexadecimal.specs.declared.Hex.TheVariants.{Value, Bad}
-use Rattle.hexadecimal.specs.declared.Word.{Word}
-use Rattle.hexadecimal.specs.declared.Word.TheVariants.{Number, NotEight}
-use Rattle.hexadecimal.proofs.Tests.{between_yes, between_low, between_high}
+use Rattle.hexadecimal.specs.declared.Hex.TheVariants.{Value}
+use Rattle.hexadecimal.specs.declared.Word.TheVariants.{Number}
+use Rattle.hexadecimal.proofs.Tests.{between_yes, between_high}
 
 digit_back : (v : ℕ) → v < 16 → digit_of (capital_of v) ≡ Value v
 digit_back v h =

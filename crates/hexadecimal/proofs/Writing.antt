@@ -1,8 +1,8 @@
 -- The equations of the written form. Assumes nothing.
-use Prim.Native.Nat.{ℕ, zero, suc, ◌+◌, ◌*◌, ◌≤◌, ◌<◌}
+use Prim.Native.Nat.{ℕ, ◌+◌, ◌*◌, ◌≤◌, ◌<◌}
 use mathlib.Core.Path.{◌≡◌, refl, ap, sym, ◌∙◌}
-use mathlib.Core.Bool.{Bool, true, false, cond}
-use mathlib.Core.List.{List, [], ◌∷◌, ◌++◌}
+use mathlib.Core.Bool.{true, false}
+use mathlib.Core.List.{List, [], ◌∷◌}
 use native.Mathlib.Omega.{arith}
 use native.Mathlib.Numerals.{towards_suc}
 use lib.Dec.{leb}
@@ -11,7 +11,6 @@ use lib.Seq.{sets}
 use borrow.Author.Tests.{le-leb, lt-leb}
 use Rattle.laws.proofs.Lists.{drop_step, drop_end, sets_front}
 use Rattle.hexadecimal.specs.Hex.{digits_of, spaced, text_of, written_of, laid}
-use Rattle.hexadecimal.specs.declared.Written.{Written}
 use Rattle.hexadecimal.specs.declared.Written.TheVariants.{Length, NoRoom}
 
 spaced_length : (bs : List ℕ) → length (spaced bs) ≡ 3 * length bs

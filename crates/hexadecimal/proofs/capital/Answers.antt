@@ -1,6 +1,5 @@
 -- Below 10 the digits are 0 to 9, from 10 on A to F. Assumes nothing.
 use borrow.Author.Tests.{lt-ltb, le-ltb}
-use borrow.Author.Rules.{rules}
 use native.Mathlib.Omega.{arith}
 use Rattle.hexadecimal.proofs.capital.Goals as goal
 

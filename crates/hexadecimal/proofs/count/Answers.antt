@@ -2,11 +2,7 @@
 use Rattle.hexadecimal.proofs.Reading.{turn_short, turn_bad, turn_last, turn_gap, turn_more}
 use borrow.Author.Rules.{rules}
 use native.Mathlib.Omega.{arith}
-use Prim.Native.Nat.{◌≤◌, ◌-◌}
-use mathlib.Core.Path.{◌≡◌, refl, sym, ap, ◌∙◌}
-use lib.ListN.{length, drop, length-drop}
-use Rattle.hexadecimal.specs.Hex.{payload_of}
-use Rattle.hexadecimal.specs.Passes.{form_of}
+use mathlib.Core.Path.{refl, sym, ◌∙◌}
 use Rattle.hexadecimal.proofs.count.Goals as goal
 
 pub loop-i-init : goal.loop-i-init

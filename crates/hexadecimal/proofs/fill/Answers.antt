@@ -2,13 +2,10 @@
 -- Assumes nothing.
 use borrow.Author.Rules.{rules}
 use native.Mathlib.Omega.{arith}
-use Prim.Native.Nat.{◌+◌, ◌≤◌, ◌-◌}
-use mathlib.Core.Path.{◌≡◌, refl, sym, ap, ◌∙◌}
-use mathlib.Core.List.{List, []}
-use lib.ListN.{length, drop, length-drop, length-set}
+use mathlib.Core.Path.{refl, sym, ap, ◌∙◌}
+use lib.ListN.{length, length-set}
 use lib.Seq.{sets}
 use Rattle.laws.proofs.Lists.{sets_turn}
-use Rattle.hexadecimal.specs.Passes.{values}
 use Rattle.hexadecimal.proofs.Reading.{values_end, values_turn}
 use Rattle.hexadecimal.proofs.fill.Goals as goal
 

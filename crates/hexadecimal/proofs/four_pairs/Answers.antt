@@ -4,15 +4,10 @@ use Rattle.hexadecimal.specs.Hex.{four_pairs}
 use Rattle.hexadecimal.specs.Answers.{word_number}
 use Rattle.hexadecimal.specs.declared.Word.TheVariants.{Number}
 use Rattle.hexadecimal.proofs.Numbers.{pairs_number}
-use borrow.Author.Rules.{rules}
 use Rattle.hexadecimal.proofs.four_pairs.Goals as goal
 
-pub returns-clause-value : goal.returns-clause-value
-returns-clause-value c = (let a = c.args in
+pub returns : goal.returns
+returns c =
+    let a = c.args in
     let is : Number c.join.result ≡ four_pairs a.upper a.second a.third a.lowest = rw (c.in-Value.is, c.in-Value-second.is, c.in-Value-third.is, c.in-Value-lowest.is, c.join.ensures) in
-    (is, ap word_number is ∙ pairs_number a.upper a.second a.third a.lowest)).0
-
-pub returns-clause-number : goal.returns-clause-number
-returns-clause-number c = (let a = c.args in
-    let is : Number c.join.result ≡ four_pairs a.upper a.second a.third a.lowest = rw (c.in-Value.is, c.in-Value-second.is, c.in-Value-third.is, c.in-Value-lowest.is, c.join.ensures) in
-    (is, ap word_number is ∙ pairs_number a.upper a.second a.third a.lowest)).1
+    record { value = is; number = ap word_number is ∙ pairs_number a.upper a.second a.third a.lowest }

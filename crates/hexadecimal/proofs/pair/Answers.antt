@@ -1,5 +1,4 @@
 -- By what each of the two digits is worth. Assumes nothing.
-use borrow.Author.Rules.{rules}
 use native.Mathlib.Omega.{arith}
 use mathlib.Core.Path.{sym, ap, ap₂, ◌∙◌}
 use Rattle.hexadecimal.specs.Hex.{digit_of, pair_of, joined}

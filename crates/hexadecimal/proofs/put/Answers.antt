@@ -2,7 +2,6 @@
 use native.Mathlib.Omega.{arith}
 use native.Mathlib.Numerals.{add-one}
 use lib.ListN.{length-set}
-use borrow.Author.Rules.{rules}
 use Rattle.hexadecimal.proofs.put.Goals as goal
 
 pub bounds-out-at-2 : goal.bounds-out-at-2

@@ -7,29 +7,18 @@ use Rattle.hexadecimal.specs.Hex.{word_of}
 use Rattle.hexadecimal.specs.Answers.{word_number}
 use Rattle.hexadecimal.specs.declared.Word.TheVariants.{NotEight}
 use Rattle.hexadecimal.proofs.Numbers.{word_number_lem}
-use borrow.Author.Rules.{rules}
 use Rattle.hexadecimal.proofs.read_word.Goals as goal
 
-pub returns-then-text-ne8-clause-value : goal.returns-then-text-ne8-clause-value
+pub returns-then-text-ne8 : goal.returns-then-text-ne8
 unfolding word_of
-returns-then-text-ne8-clause-value c = (let text = c.args.text.now in
+returns-then-text-ne8 c =
+    let text = c.args.text.now in
     let is : NotEight ≡ word_of text = simp (ne_eqb (length text) 8 (λ e. omega arith)) in
-    (is, ap word_number is ∙ word_number_lem text)).0
+    record { value = is; number = ap word_number is ∙ word_number_lem text }
 
-pub returns-then-text-ne8-clause-number : goal.returns-then-text-ne8-clause-number
+pub returns : goal.returns
 unfolding word_of
-returns-then-text-ne8-clause-number c = (let text = c.args.text.now in
-    let is : NotEight ≡ word_of text = simp (ne_eqb (length text) 8 (λ e. omega arith)) in
-    (is, ap word_number is ∙ word_number_lem text)).1
-
-pub returns-clause-value : goal.returns-clause-value
-unfolding word_of
-returns-clause-value c = (let text = c.args.text.now in
+returns c =
+    let text = c.args.text.now in
     let is : c.four_pairs.result ≡ word_of text = rw (c.four_pairs.ensures.value, c.pair-lowest.ensures, c.pair-third.ensures, c.pair-second.ensures, c.pair-upper.ensures, eq-eqb (length text) 8 (omega arith)) in
-    (is, ap word_number is ∙ word_number_lem text)).0
-
-pub returns-clause-number : goal.returns-clause-number
-unfolding word_of
-returns-clause-number c = (let text = c.args.text.now in
-    let is : c.four_pairs.result ≡ word_of text = rw (c.four_pairs.ensures.value, c.pair-lowest.ensures, c.pair-third.ensures, c.pair-second.ensures, c.pair-upper.ensures, eq-eqb (length text) 8 (omega arith)) in
-    (is, ap word_number is ∙ word_number_lem text)).1
+    record { value = is; number = ap word_number is ∙ word_number_lem text }

@@ -1,7 +1,6 @@
 -- By what the pair is worth. Assumes nothing.
 use mathlib.Core.Path.{sym, ap, ◌∙◌}
 use Rattle.hexadecimal.specs.Passes.{worth}
-use borrow.Author.Rules.{rules}
 use Rattle.hexadecimal.proofs.value.Goals as goal
 
 pub returns-in-Value : goal.returns-in-Value

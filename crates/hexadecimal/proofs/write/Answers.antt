@@ -1,10 +1,9 @@
 -- The stores that are left, made on what the buffer holds now, give what those left where the loop begins give. Assumes
 -- nothing.
 use mathlib.Core.List.{List}
-use borrow.Author.Rules.{rules}
 use native.Mathlib.Omega.{arith}
-use Prim.Native.Nat.{ℕ, ◌+◌, ◌*◌, ◌≤◌, ◌-◌}
-use mathlib.Core.Path.{◌≡◌, refl, sym, ap, ◌∙◌}
+use Prim.Native.Nat.{ℕ, ◌+◌}
+use mathlib.Core.Path.{refl, sym, ap, ◌∙◌}
 use lib.ListN.{length, drop, length-set}
 use lib.Seq.{sets}
 use Rattle.hexadecimal.specs.Hex.{spaced, text_of}
@@ -12,32 +11,20 @@ use Rattle.hexadecimal.proofs.Writing.{spaced_end, first_pair, next_pair, write_
 use Rattle.hexadecimal.proofs.Numbers.{with_write_number}
 use Rattle.hexadecimal.proofs.write.Goals as goal
 
-pub returns-then-n-eq0-clause-answer : goal.returns-then-n-eq0-clause-answer
-returns-then-n-eq0-clause-answer c = (let a = c.args in
-    with_write_number (text_of a.bytes.now) (length a.out.now) (write_none a.bytes.now a.out.now (omega arith))).0
+pub returns-then-n-eq0 : goal.returns-then-n-eq0
+returns-then-n-eq0 c =
+    let a = c.args in
+    let p = with_write_number (text_of a.bytes.now) (length a.out.now) (write_none a.bytes.now a.out.now (omega arith)) in
+    record { answer = p.0; held = p.1.0; number = p.1.1 }
 
-pub returns-then-n-eq0-clause-held : goal.returns-then-n-eq0-clause-held
-returns-then-n-eq0-clause-held c = (let a = c.args in
-    with_write_number (text_of a.bytes.now) (length a.out.now) (write_none a.bytes.now a.out.now (omega arith))).1.0
-
-pub returns-then-n-eq0-clause-number : goal.returns-then-n-eq0-clause-number
-returns-then-n-eq0-clause-number c = (let a = c.args in
-    with_write_number (text_of a.bytes.now) (length a.out.now) (write_none a.bytes.now a.out.now (omega arith))).1.1
-
-pub returns-then-out-n-clause-answer : goal.returns-then-out-n-clause-answer
-returns-then-out-n-clause-answer c = (let a = c.args in
-    with_write_number (text_of a.bytes.now) (length a.out.now) (write_short a.bytes.now a.out.now (omega arith))).0
-
-pub returns-then-out-n-clause-held : goal.returns-then-out-n-clause-held
-returns-then-out-n-clause-held c = (let a = c.args in
-    with_write_number (text_of a.bytes.now) (length a.out.now) (write_short a.bytes.now a.out.now (omega arith))).1.0
-
-pub returns-then-out-n-clause-number : goal.returns-then-out-n-clause-number
-returns-then-out-n-clause-number c = (let a = c.args in
-    with_write_number (text_of a.bytes.now) (length a.out.now) (write_short a.bytes.now a.out.now (omega arith))).1.1
+pub returns-then-out-n : goal.returns-then-out-n
+returns-then-out-n c =
+    let a = c.args in
+    let p = with_write_number (text_of a.bytes.now) (length a.out.now) (write_short a.bytes.now a.out.now (omega arith)) in
+    record { answer = p.0; held = p.1.0; number = p.1.1 }
 
 pub loop-i-init : goal.loop-i-init
-loop-i-init c = (refl, omega arith, refl, refl, omega (arith, c.put.auto.0), refl)
+loop-i-init c = (refl, omega arith, refl, refl, omega (arith, c.put.auto.out), refl)
 
 pub put-requires-in-loop-i : goal.put-requires-in-loop-i
 put-requires-in-loop-i c = simp length-set (omega arith)
@@ -48,42 +35,22 @@ loop-i-preserved c =
     let bs = c.args.bytes.now in (
       refl,
       omega arith,
-      omega (arith, simp length-set at c.put-in-loop-i.auto.0),
+      omega (arith, simp length-set at c.put-in-loop-i.auto.out),
       omega arith,
       l.invariant.4,
       ap (λ (o : List ℕ). sets o (l.k + 3) (spaced (drop (l.i + 1) bs))) c.put-in-loop-i.ensures
           ∙ next_pair bs l.out l.i l.k (omega arith) ∙ l.invariant.5,
     )
 
-pub returns-clause-answer : goal.returns-clause-answer
-returns-clause-answer c = (let l = c.loop-i in
+pub returns : goal.returns
+returns c =
+    let l = c.loop-i in
     let bs = c.args.bytes.now in
     let o = c.args.out.now in
-    with_write_number (text_of bs) (length o)
-    (write_whole bs o l.k l.out (omega arith) (omega arith) (omega (arith, c.put.auto.0))
+    let p = with_write_number (text_of bs) (length o)
+    (write_whole bs o l.k l.out (omega arith) (omega arith) (omega (arith, c.put.auto.out))
     (sym (ap (sets l.out l.k) (spaced_end bs l.i (omega arith)))
     ∙ l.invariant.5
     ∙ ap (λ (p : List ℕ). sets p 2 (spaced (drop 1 bs))) c.put.ensures
-    ∙ first_pair bs o (omega arith)))).0
-
-pub returns-clause-held : goal.returns-clause-held
-returns-clause-held c = (let l = c.loop-i in
-    let bs = c.args.bytes.now in
-    let o = c.args.out.now in
-    with_write_number (text_of bs) (length o)
-    (write_whole bs o l.k l.out (omega arith) (omega arith) (omega (arith, c.put.auto.0))
-    (sym (ap (sets l.out l.k) (spaced_end bs l.i (omega arith)))
-    ∙ l.invariant.5
-    ∙ ap (λ (p : List ℕ). sets p 2 (spaced (drop 1 bs))) c.put.ensures
-    ∙ first_pair bs o (omega arith)))).1.0
-
-pub returns-clause-number : goal.returns-clause-number
-returns-clause-number c = (let l = c.loop-i in
-    let bs = c.args.bytes.now in
-    let o = c.args.out.now in
-    with_write_number (text_of bs) (length o)
-    (write_whole bs o l.k l.out (omega arith) (omega arith) (omega (arith, c.put.auto.0))
-    (sym (ap (sets l.out l.k) (spaced_end bs l.i (omega arith)))
-    ∙ l.invariant.5
-    ∙ ap (λ (p : List ℕ). sets p 2 (spaced (drop 1 bs))) c.put.ensures
-    ∙ first_pair bs o (omega arith)))).1.1
+    ∙ first_pair bs o (omega arith))) in
+    record { answer = p.0; held = p.1.0; number = p.1.1 }

@@ -5,7 +5,6 @@ use mathlib.Core.List.{◌∷◌}
 use native.Mathlib.Omega.{arith}
 use Rattle.hexadecimal.specs.Hex.{word_text}
 use Rattle.hexadecimal.proofs.Digits.{upper_digit, lower_digit, last_upper_digit, last_lower_digit, as_digit}
-use borrow.Author.Rules.{rules}
 use Rattle.hexadecimal.proofs.write_word.Goals as goal
 
 pub capital-requires : goal.capital-requires
