@@ -18,9 +18,9 @@ returns-then-x-low c =
     let id = 0x3000 + c.args.i in
     let h = held id Int16 (int16s id (omega arith) (omega arith)) in
     let x = same (to_z-of_z w16 c.args.x c.ranges.x) in
-    let l = same (to_z-of_z w16 _ (record { sfits = c.int16_low-low.type-inv }) ∙ c.int16_low-low.ensures) in
-    let g = same (to_z-of_z w16 _ (record { sfits = c.int16_high-high.type-inv }) ∙ c.int16_high-high.ensures) in
-    to_z-of_z w16 _ (record { sfits = c.int16_low-low.type-inv }) ∙ c.int16_low-low.ensures
+    let l = same (to_z-of_z w16 _ (record { sfits = c.int16_low-low.type_inv }) ∙ c.int16_low-low.ensures) in
+    let g = same (to_z-of_z w16 _ (record { sfits = c.int16_high-high.type_inv }) ∙ c.int16_high-high.ensures) in
+    to_z-of_z w16 _ (record { sfits = c.int16_low-low.type_inv }) ∙ c.int16_low-low.ensures
     ∙ sym (nearer_low (low_of id) (high_of id) c.args.x h.ordered (yes_lt c.args.x (low_of id) (omega order)))
 
 pub returns-then-high-x : goal.returns-then-high-x
@@ -29,9 +29,9 @@ returns-then-high-x c =
     let id = 0x3000 + c.args.i in
     let h = held id Int16 (int16s id (omega arith) (omega arith)) in
     let x = same (to_z-of_z w16 c.args.x c.ranges.x) in
-    let l = same (to_z-of_z w16 _ (record { sfits = c.int16_low-low.type-inv }) ∙ c.int16_low-low.ensures) in
-    let g = same (to_z-of_z w16 _ (record { sfits = c.int16_high-high.type-inv }) ∙ c.int16_high-high.ensures) in
-    to_z-of_z w16 _ (record { sfits = c.int16_high-high.type-inv }) ∙ c.int16_high-high.ensures
+    let l = same (to_z-of_z w16 _ (record { sfits = c.int16_low-low.type_inv }) ∙ c.int16_low-low.ensures) in
+    let g = same (to_z-of_z w16 _ (record { sfits = c.int16_high-high.type_inv }) ∙ c.int16_high-high.ensures) in
+    to_z-of_z w16 _ (record { sfits = c.int16_high-high.type_inv }) ∙ c.int16_high-high.ensures
     ∙ sym (nearer_high (low_of id) (high_of id) c.args.x h.ordered (yes_lt (high_of id) c.args.x (omega order)))
 
 pub returns : goal.returns
@@ -40,7 +40,7 @@ returns c =
     let id = 0x3000 + c.args.i in
     let h = held id Int16 (int16s id (omega arith) (omega arith)) in
     let x = same (to_z-of_z w16 c.args.x c.ranges.x) in
-    let l = same (to_z-of_z w16 _ (record { sfits = c.int16_low-low.type-inv }) ∙ c.int16_low-low.ensures) in
-    let g = same (to_z-of_z w16 _ (record { sfits = c.int16_high-high.type-inv }) ∙ c.int16_high-high.ensures) in
+    let l = same (to_z-of_z w16 _ (record { sfits = c.int16_low-low.type_inv }) ∙ c.int16_low-low.ensures) in
+    let g = same (to_z-of_z w16 _ (record { sfits = c.int16_high-high.type_inv }) ∙ c.int16_high-high.ensures) in
     to_z-of_z w16 c.args.x c.ranges.x
     ∙ sym (kept (low_of id) (high_of id) c.args.x (yes_le (low_of id) c.args.x (omega order)) (yes_le c.args.x (high_of id) (omega order)))

@@ -1,5 +1,5 @@
 -- Each way out reads the array and the place where the id's value stands.
-use mathlib.Core.Path.{sym, ◌∙◌}
+use mathlib.Core.Path.{sym, ap, ◌∙◌}
 use native.Mathlib.Omega.{arith}
 use borrow.Author.Rules.{rules}
 use lib.ListN.{get_or}
@@ -8,8 +8,9 @@ use mir.Syntax.{w8, w16}
 use mir.Val.{SFits}
 use mir.ValLaws.{to_z-of_z}
 use Rattle.settings.specs.Values.{get_of}
+use Rattle.settings.specs.Answers.{get_number}
 use Rattle.settings.proofs.Places.{stands_at, reads, reads_n}
-use Rattle.settings.proofs.Numbers.{with_got_number}
+use Rattle.settings.proofs.Numbers.{got_number}
 use Rattle.settings.proofs.get.Goals as goal
 
 pub bounds-s-i : goal.bounds-s-i
@@ -37,65 +38,61 @@ pub bounds-s-i-in-Uint32 : goal.bounds-s-i-in-Uint32
 bounds-s-i-in-Uint32 c = let a = stands_at c.args.id (sym c.place_of-p.ensures ∙ c.in-Uint32.is) in a.below
 
 pub returns-in-Int8-clause-value : goal.returns-in-Int8-clause-value
-returns-in-Int8-clause-value c = (let a = stands_at c.args.id (sym c.place_of-p.ensures ∙ c.in-Int8.is) in
-    let f : SFits w8 (get_or c.args.t1.i8s c.in-Int8.i (pos 0)) = search rules in
-    with_got_number c.args.t1 c.args.id (rw (reads c.args.t1 a, to_z-of_z w8 _ f))).0
+returns-in-Int8-clause-value c =
+    let a = stands_at c.args.id (sym c.place_of-p.ensures ∙ c.in-Int8.is) in
+    let f : SFits w8 (get_or c.args.s.i8s c.in-Int8.i (pos 0)) = search rules in
+    rw (reads c.args.s a, to_z-of_z w8 _ f)
 
 pub returns-in-Int8-clause-number : goal.returns-in-Int8-clause-number
-returns-in-Int8-clause-number c = (let a = stands_at c.args.id (sym c.place_of-p.ensures ∙ c.in-Int8.is) in
-    let f : SFits w8 (get_or c.args.t1.i8s c.in-Int8.i (pos 0)) = search rules in
-    with_got_number c.args.t1 c.args.id (rw (reads c.args.t1 a, to_z-of_z w8 _ f))).1
+returns-in-Int8-clause-number c = ap get_number (returns-in-Int8-clause-value c) ∙ got_number c.args.id c.args.s
 
 pub returns-in-Uint8-clause-value : goal.returns-in-Uint8-clause-value
-returns-in-Uint8-clause-value c = (let a = stands_at c.args.id (sym c.place_of-p.ensures ∙ c.in-Uint8.is) in
-    with_got_number c.args.t1 c.args.id (rw (reads c.args.t1 a, reads_n c.args.t1.u8s c.in-Uint8.i))).0
+returns-in-Uint8-clause-value c =
+    let a = stands_at c.args.id (sym c.place_of-p.ensures ∙ c.in-Uint8.is) in
+    rw (reads c.args.s a, reads_n c.args.s.u8s c.in-Uint8.i)
 
 pub returns-in-Uint8-clause-number : goal.returns-in-Uint8-clause-number
-returns-in-Uint8-clause-number c = (let a = stands_at c.args.id (sym c.place_of-p.ensures ∙ c.in-Uint8.is) in
-    with_got_number c.args.t1 c.args.id (rw (reads c.args.t1 a, reads_n c.args.t1.u8s c.in-Uint8.i))).1
+returns-in-Uint8-clause-number c = ap get_number (returns-in-Uint8-clause-value c) ∙ got_number c.args.id c.args.s
 
 pub returns-in-Int16-clause-value : goal.returns-in-Int16-clause-value
-returns-in-Int16-clause-value c = (let a = stands_at c.args.id (sym c.place_of-p.ensures ∙ c.in-Int16.is) in
-    let f : SFits w16 (get_or c.args.t1.i16s c.in-Int16.i (pos 0)) = search rules in
-    with_got_number c.args.t1 c.args.id (rw (reads c.args.t1 a, to_z-of_z w16 _ f))).0
+returns-in-Int16-clause-value c =
+    let a = stands_at c.args.id (sym c.place_of-p.ensures ∙ c.in-Int16.is) in
+    let f : SFits w16 (get_or c.args.s.i16s c.in-Int16.i (pos 0)) = search rules in
+    rw (reads c.args.s a, to_z-of_z w16 _ f)
 
 pub returns-in-Int16-clause-number : goal.returns-in-Int16-clause-number
-returns-in-Int16-clause-number c = (let a = stands_at c.args.id (sym c.place_of-p.ensures ∙ c.in-Int16.is) in
-    let f : SFits w16 (get_or c.args.t1.i16s c.in-Int16.i (pos 0)) = search rules in
-    with_got_number c.args.t1 c.args.id (rw (reads c.args.t1 a, to_z-of_z w16 _ f))).1
+returns-in-Int16-clause-number c = ap get_number (returns-in-Int16-clause-value c) ∙ got_number c.args.id c.args.s
 
 pub returns-in-Uint16-clause-value : goal.returns-in-Uint16-clause-value
-returns-in-Uint16-clause-value c = (let a = stands_at c.args.id (sym c.place_of-p.ensures ∙ c.in-Uint16.is) in
-    with_got_number c.args.t1 c.args.id (rw (reads c.args.t1 a, reads_n c.args.t1.u16s c.in-Uint16.i))).0
+returns-in-Uint16-clause-value c =
+    let a = stands_at c.args.id (sym c.place_of-p.ensures ∙ c.in-Uint16.is) in
+    rw (reads c.args.s a, reads_n c.args.s.u16s c.in-Uint16.i)
 
 pub returns-in-Uint16-clause-number : goal.returns-in-Uint16-clause-number
-returns-in-Uint16-clause-number c = (let a = stands_at c.args.id (sym c.place_of-p.ensures ∙ c.in-Uint16.is) in
-    with_got_number c.args.t1 c.args.id (rw (reads c.args.t1 a, reads_n c.args.t1.u16s c.in-Uint16.i))).1
+returns-in-Uint16-clause-number c = ap get_number (returns-in-Uint16-clause-value c) ∙ got_number c.args.id c.args.s
 
 pub returns-in-Uint32-clause-value : goal.returns-in-Uint32-clause-value
-returns-in-Uint32-clause-value c = (let a = stands_at c.args.id (sym c.place_of-p.ensures ∙ c.in-Uint32.is) in
-    with_got_number c.args.t1 c.args.id (rw (reads c.args.t1 a, reads_n c.args.t1.u32s c.in-Uint32.i))).0
+returns-in-Uint32-clause-value c =
+    let a = stands_at c.args.id (sym c.place_of-p.ensures ∙ c.in-Uint32.is) in
+    rw (reads c.args.s a, reads_n c.args.s.u32s c.in-Uint32.i)
 
 pub returns-in-Uint32-clause-number : goal.returns-in-Uint32-clause-number
-returns-in-Uint32-clause-number c = (let a = stands_at c.args.id (sym c.place_of-p.ensures ∙ c.in-Uint32.is) in
-    with_got_number c.args.t1 c.args.id (rw (reads c.args.t1 a, reads_n c.args.t1.u32s c.in-Uint32.i))).1
+returns-in-Uint32-clause-number c = ap get_number (returns-in-Uint32-clause-value c) ∙ got_number c.args.id c.args.s
 
 pub returns-in-ReadOnly-clause-value : goal.returns-in-ReadOnly-clause-value
 unfolding get_of
-returns-in-ReadOnly-clause-value c = (let a = stands_at c.args.id (sym c.place_of-p.ensures ∙ c.in-ReadOnly.is) in
-    with_got_number c.args.t1 c.args.id (rw a)).0
+returns-in-ReadOnly-clause-value c =
+    let a = stands_at c.args.id (sym c.place_of-p.ensures ∙ c.in-ReadOnly.is) in
+    rw a
 
 pub returns-in-ReadOnly-clause-number : goal.returns-in-ReadOnly-clause-number
-unfolding get_of
-returns-in-ReadOnly-clause-number c = (let a = stands_at c.args.id (sym c.place_of-p.ensures ∙ c.in-ReadOnly.is) in
-    with_got_number c.args.t1 c.args.id (rw a)).1
+returns-in-ReadOnly-clause-number c = ap get_number (returns-in-ReadOnly-clause-value c) ∙ got_number c.args.id c.args.s
 
 pub returns-in-Unknown-clause-value : goal.returns-in-Unknown-clause-value
 unfolding get_of
-returns-in-Unknown-clause-value c = (let a = stands_at c.args.id (sym c.place_of-p.ensures ∙ c.in-Unknown.is) in
-    with_got_number c.args.t1 c.args.id (rw a)).0
+returns-in-Unknown-clause-value c =
+    let a = stands_at c.args.id (sym c.place_of-p.ensures ∙ c.in-Unknown.is) in
+    rw a
 
 pub returns-in-Unknown-clause-number : goal.returns-in-Unknown-clause-number
-unfolding get_of
-returns-in-Unknown-clause-number c = (let a = stands_at c.args.id (sym c.place_of-p.ensures ∙ c.in-Unknown.is) in
-    with_got_number c.args.t1 c.args.id (rw a)).1
+returns-in-Unknown-clause-number c = ap get_number (returns-in-Unknown-clause-value c) ∙ got_number c.args.id c.args.s

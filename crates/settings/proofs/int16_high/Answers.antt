@@ -3,6 +3,8 @@ use mathlib.Core.Path.{◌∙◌}
 use borrow.Author.Rules.{rules}
 use lib.IntN.{pos}
 use mir.Syntax.{w16}
+use mir.Val.{SFits}
+use lib.ListN.{get_or}
 use mir.ValLaws.{to_z-of_z}
 use Rattle.settings.specs.Table.{high_of, row_of, find, lies, read_write_rows, read_only_rows, column}
 use Rattle.settings.proofs.Rows.{column_at}
@@ -10,4 +12,6 @@ use Rattle.settings.proofs.int16_high.Goals as goal
 
 pub returns : goal.returns
 unfolding high_of row_of find lies read_write_rows read_only_rows column
-returns c = to_z-of_z w16 _ (record { sfits = c.result-1.given }) ∙ column_at high_of 0x3000 42 c.args.i (pos 0) c.requires
+returns c =
+    let f : SFits w16 (get_or (column high_of 0x3000 42) c.args.i (pos 0)) = search rules in
+    to_z-of_z w16 _ f ∙ column_at high_of 0x3000 42 c.args.i (pos 0) c.requires

@@ -13,7 +13,7 @@ unfolding inside_of
 returns-then-x-int16_low c =
     let id = 0x3000 + c.args.i in
     let x = same (to_z-of_z w16 c.args.x c.ranges.x) in
-    let l = same (to_z-of_z w16 _ (record { sfits = c.int16_low.type-inv }) ∙ c.int16_low.ensures) in
+    let l = same (to_z-of_z w16 _ (record { sfits = c.int16_low.type_inv }) ∙ c.int16_low.ensures) in
     rw (no_le (low_of id) c.args.x (omega order))
 
 pub returns-then-int16_high-x : goal.returns-then-int16_high-x
@@ -21,8 +21,8 @@ unfolding inside_of
 returns-then-int16_high-x c =
     let id = 0x3000 + c.args.i in
     let x = same (to_z-of_z w16 c.args.x c.ranges.x) in
-    let l = same (to_z-of_z w16 _ (record { sfits = c.int16_low.type-inv }) ∙ c.int16_low.ensures) in
-    let g = same (to_z-of_z w16 _ (record { sfits = c.int16_high.type-inv }) ∙ c.int16_high.ensures) in
+    let l = same (to_z-of_z w16 _ (record { sfits = c.int16_low.type_inv }) ∙ c.int16_low.ensures) in
+    let g = same (to_z-of_z w16 _ (record { sfits = c.int16_high.type_inv }) ∙ c.int16_high.ensures) in
     rw (yes_le (low_of id) c.args.x (omega order), no_le c.args.x (high_of id) (omega order))
 
 pub returns : goal.returns
@@ -30,6 +30,6 @@ unfolding inside_of
 returns c =
     let id = 0x3000 + c.args.i in
     let x = same (to_z-of_z w16 c.args.x c.ranges.x) in
-    let l = same (to_z-of_z w16 _ (record { sfits = c.int16_low.type-inv }) ∙ c.int16_low.ensures) in
-    let g = same (to_z-of_z w16 _ (record { sfits = c.int16_high.type-inv }) ∙ c.int16_high.ensures) in
+    let l = same (to_z-of_z w16 _ (record { sfits = c.int16_low.type_inv }) ∙ c.int16_low.ensures) in
+    let g = same (to_z-of_z w16 _ (record { sfits = c.int16_high.type_inv }) ∙ c.int16_high.ensures) in
     rw (yes_le (low_of id) c.args.x (omega order), yes_le c.args.x (high_of id) (omega order))

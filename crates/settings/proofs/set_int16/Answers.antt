@@ -26,13 +26,13 @@ pub returns-then-is_from_to : goal.returns-then-is_from_to
 unfolding with_number same
 returns-then-is_from_to c =
     let h = lies_yes _ _ _ (sym c.is_from_to.ensures ∙ c.if-is_from_to.true) in
-    let s = c.args.t1 in
+    let s = c.args.s in
     let id = c.args.id in
     let x = c.args.x in
     let e = int16s id (omega arith) (omega arith) in
     let r = c.clamp_int16.result in
     let k : clamp_of id x ≡ r = moved x (c.clamp_int16.ensures ∙ ap (clamp_of _) (to_z-of_z w16 x c.ranges.x)) (omega arith) in
-    rw (to_z-of_z w16 r (record { sfits = c.clamp_int16.type-inv }), set_at s (ParamValue.Int16 x) (at id Int16 e) refl, k) (placed s Int16 r (omega arith))
+    rw (to_z-of_z w16 r (record { sfits = c.clamp_int16.type_inv }), set_at s (ParamValue.Int16 x) (at id Int16 e) refl, k) (placed s Int16 r (omega arith))
 
 pub returns-else-is_from_to : goal.returns-else-is_from_to
-returns-else-is_from_to c = sym (set_off c.args.t1 c.args.id (ParamValue.Int16 c.args.x) (λ h h'. lies_no _ _ _ (sym c.is_from_to.ensures ∙ c.if-is_from_to.false) (omega arith) (omega arith)))
+returns-else-is_from_to c = sym (set_off c.args.s c.args.id (ParamValue.Int16 c.args.x) (λ h h'. lies_no _ _ _ (sym c.is_from_to.ensures ∙ c.if-is_from_to.false) (omega arith) (omega arith)))

@@ -24,7 +24,7 @@ pub returns-then-is_from_to : goal.returns-then-is_from_to
 unfolding with_number same
 returns-then-is_from_to c =
     let h = lies_yes _ _ _ (sym c.is_from_to.ensures ∙ c.if-is_from_to.true) in
-    let s = c.args.t1 in
+    let s = c.args.s in
     let id = c.args.id in
     let x = c.args.x in
     let e = int8s id (omega arith) (omega arith) in
@@ -32,4 +32,4 @@ returns-then-is_from_to c =
     rw (to_z-of_z w8 x c.ranges.x, set_at s (ParamValue.Int8 x) (at id Int8 e) refl, k) (placed s Int8 x (omega arith))
 
 pub returns-else-is_from_to : goal.returns-else-is_from_to
-returns-else-is_from_to c = sym (set_off c.args.t1 c.args.id (ParamValue.Int8 c.args.x) (λ h h'. lies_no _ _ _ (sym c.is_from_to.ensures ∙ c.if-is_from_to.false) (omega arith) (omega arith)))
+returns-else-is_from_to c = sym (set_off c.args.s c.args.id (ParamValue.Int8 c.args.x) (λ h h'. lies_no _ _ _ (sym c.is_from_to.ensures ∙ c.if-is_from_to.false) (omega arith) (omega arith)))

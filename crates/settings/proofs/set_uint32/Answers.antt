@@ -23,7 +23,7 @@ pub returns-then-is_from_to : goal.returns-then-is_from_to
 unfolding with_number same
 returns-then-is_from_to c =
     let h = lies_yes _ _ _ (sym c.is_from_to.ensures ∙ c.if-is_from_to.true) in
-    let s = c.args.t1 in
+    let s = c.args.s in
     let id = c.args.id in
     let x = c.args.x in
     let e = uint32s id (omega arith) (omega arith) in
@@ -31,4 +31,4 @@ returns-then-is_from_to c =
     rw (set_at s (ParamValue.Uint32 x) (at id Uint32 e) refl, k) (placed s Uint32 (pos x) (omega arith))
 
 pub returns-else-is_from_to : goal.returns-else-is_from_to
-returns-else-is_from_to c = sym (set_off c.args.t1 c.args.id (ParamValue.Uint32 c.args.x) (λ h h'. lies_no _ _ _ (sym c.is_from_to.ensures ∙ c.if-is_from_to.false) (omega arith) (omega arith)))
+returns-else-is_from_to c = sym (set_off c.args.s c.args.id (ParamValue.Uint32 c.args.x) (λ h h'. lies_no _ _ _ (sym c.is_from_to.ensures ∙ c.if-is_from_to.false) (omega arith) (omega arith)))
