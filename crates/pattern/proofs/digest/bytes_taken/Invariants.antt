@@ -9,7 +9,7 @@ use Rattle.pattern.proofs.Steps.{taken_turn, taken_end}
 use Rattle.pattern.proofs.digest.bytes_taken.Given as goal
 
 abbrev pub invariant-loop-i : goal.invariant-loop-i
-invariant-loop-i l = (l.i ≤ length l.bytes) × (all_taken l.initial.i (drop l.i l.bytes) ≡ all_taken l.digest l.bytes)
+invariant-loop-i l = (l.i ≤ length l.bytes) × (all_taken l.d (drop l.i l.bytes) ≡ all_taken l.digest l.bytes)
 
 abbrev pub decreases-loop-i : goal.decreases-loop-i
 decreases-loop-i l = length l.bytes - l.i

@@ -9,7 +9,7 @@ use Rattle.pattern.proofs.Steps.{number_low, number_high, number_turn, number_en
 use Rattle.pattern.proofs.line.number.Given as goal
 
 abbrev pub invariant-loop-i : goal.invariant-loop-i
-invariant-loop-i l = (l.i ≤ length l.digits) × (count_in l.initial.i (drop l.i l.digits) ≡ count_in 0 l.digits)
+invariant-loop-i l = (l.i ≤ length l.digits) × (count_in l.n (drop l.i l.digits) ≡ count_in 0 l.digits)
 
 abbrev pub decreases-loop-i : goal.decreases-loop-i
 decreases-loop-i l = length l.digits - l.i

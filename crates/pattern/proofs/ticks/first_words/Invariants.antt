@@ -12,7 +12,7 @@ use Rattle.pattern.proofs.Steps.{numbers_turn, numbers_length, numbers_end}
 use Rattle.pattern.proofs.ticks.first_words.Given as goal
 
 abbrev pub invariant-loop-left : goal.invariant-loop-left
-invariant-loop-left l = (l.left ≤ 130) × (length l.initial.left ≡ 130) × (sets l.initial.left (130 - l.left) (numbers_from (130 - l.left) l.left) ≡ numbers_from 0 130)
+invariant-loop-left l = (l.left ≤ 130) × (length l.words ≡ 130) × (sets l.words (130 - l.left) (numbers_from (130 - l.left) l.left) ≡ numbers_from 0 130)
 
 abbrev pub decreases-loop-left : goal.decreases-loop-left
 decreases-loop-left l = l.left

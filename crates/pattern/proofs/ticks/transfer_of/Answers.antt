@@ -1,6 +1,8 @@
 -- By cases of the kind, and of the draw for a mask. Assumes nothing.
 use borrow.Author.Rules.{rules}
 use borrow.Author.Tests.{eq-eqb, ne_eqb}
+use native.Mathlib.Omega.{arith}
+use Rattle.std.proofs.lemmas.Grind.{common_steps}
 use Rattle.pattern.specs.Ticks.{sent_of, transfer_of}
 use Rattle.pattern.proofs.ticks.transfer_of.Goals as goal
 
@@ -34,4 +36,4 @@ returns-else-drawn-eq0 c = rw (c.framed-in-111.ensures, c.in-111.is, ne_eqb _ _ 
 
 pub returns-in_default : goal.returns-in_default
 unfolding sent_of transfer_of
-returns-in_default c = simp (ne_eqb _ _ c.in_default.rest.0.0.0.0.0.1, ne_eqb _ _ c.in_default.rest.0.0.0.0.1, ne_eqb _ _ c.in_default.rest.0.0.0.1, ne_eqb _ _ c.in_default.rest.0.0.1, ne_eqb _ _ c.in_default.rest.0.1, ne_eqb _ _ c.in_default.rest.1)
+returns-in_default c = grind (arith, common_steps)

@@ -10,7 +10,7 @@ use Rattle.script.proofs.Turns.{turn, row_turn, row_end, hex_none, hex_some}
 use Rattle.script.proofs.printing.bytes.Given as goal
 
 abbrev pub invariant-loop-i : goal.invariant-loop-i
-invariant-loop-i l = (l.i ≤ length l.at) × (length l.place ≡ length l.initial.out) × (typed (page l.place l.initial.i) (row 2 (drop l.i l.at)) ≡ typed (page l.initial.out l.out) (row 2 l.at))
+invariant-loop-i l = (l.i ≤ length l.s) × (length l.out ≡ length l.initial.out) × (typed (page l.out l.place) (row 2 (drop l.i l.s)) ≡ typed (page l.initial.out l.at) (row 2 l.s))
 
 abbrev pub decreases-loop-i : goal.decreases-loop-i
-decreases-loop-i l = length l.at - l.i
+decreases-loop-i l = length l.s - l.i

@@ -11,7 +11,7 @@ use Rattle.script.proofs.Turns.{turn, digits_turn}
 use Rattle.script.proofs.printing.number.Given as goal
 
 abbrev pub invariant-loop-left : goal.invariant-loop-left
-invariant-loop-left l = (length l.place ≡ length l.initial.out) × (typed (page l.place l.initial.left) (digits_of l.left l.at) ≡ typed (page l.initial.out l.out) (digits_of l.n l.at))
+invariant-loop-left l = (length l.out ≡ length l.initial.out) × (typed (page l.out l.place) (digits_of l.left l.n) ≡ typed (page l.initial.out l.at) (digits_of l.digits l.n))
 
 abbrev pub decreases-loop-left : goal.decreases-loop-left
 decreases-loop-left l = l.left

@@ -1,13 +1,11 @@
-use Prim.Native.Nat.{ℕ}
-use Rattle.script.proofs.printing.over.Goals as goal
 -- What is left to drop, dropped from what the number is now. Assumes nothing.
+use Prim.Native.Nat.{ℕ}
 use borrow.Author.Rules.{rules}
 use native.Mathlib.Omega.{arith}
 use mathlib.Core.Path.{◌≡◌, refl, ap, sym, ◌∙◌}
 use Rattle.script.specs.Printing.{over}
 use Rattle.script.proofs.Turns.{over_turn}
-use Rattle.script.proofs.printing.over.Statement.{statement}
-use Rattle.script.proofs.printing.over.Tie as tie
+use Rattle.script.proofs.printing.over.Goals as goal
 
 pub loop-left-init : goal.loop-left-init
 loop-left-init c = refl

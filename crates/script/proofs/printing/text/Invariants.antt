@@ -12,7 +12,7 @@ use Rattle.script.proofs.Turns.{turn}
 use Rattle.script.proofs.printing.text.Given as goal
 
 abbrev pub invariant-loop-i : goal.invariant-loop-i
-invariant-loop-i l = (l.i ≤ length l.at) × (length l.place ≡ length l.initial.out) × (typed (page l.place l.initial.i) (drop l.i l.at) ≡ typed (page l.initial.out l.out) l.at)
+invariant-loop-i l = (l.i ≤ length l.s) × (length l.out ≡ length l.initial.out) × (typed (page l.out l.place) (drop l.i l.s) ≡ typed (page l.initial.out l.at) l.s)
 
 abbrev pub decreases-loop-i : goal.decreases-loop-i
-decreases-loop-i l = length l.at - l.i
+decreases-loop-i l = length l.s - l.i

@@ -10,7 +10,7 @@ use Rattle.script.proofs.Turns.{turn, row_turn, row_end}
 use Rattle.script.proofs.printing.words.Given as goal
 
 abbrev pub invariant-loop-i : goal.invariant-loop-i
-invariant-loop-i l = (l.i ≤ length l.at) × (length l.place ≡ length l.initial.out) × (typed (page l.place l.initial.i) (row 4 (drop l.i l.at)) ≡ typed (page l.initial.out l.ws) (row 4 l.at))
+invariant-loop-i l = (l.i ≤ length l.ws) × (length l.out ≡ length l.initial.out) × (typed (page l.out l.place) (row 4 (drop l.i l.ws)) ≡ typed (page l.initial.out l.initial.place) (row 4 l.ws))
 
 abbrev pub decreases-loop-i : goal.decreases-loop-i
-decreases-loop-i l = length l.at - l.i
+decreases-loop-i l = length l.ws - l.i

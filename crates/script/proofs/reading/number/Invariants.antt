@@ -13,7 +13,7 @@ use Rattle.script.proofs.Turns.{number_bad, number_good, number_end}
 use Rattle.script.proofs.reading.number.Given as goal
 
 abbrev pub invariant-loop-left : goal.invariant-loop-left
-invariant-loop-left l = (l.i + l.initial.i ≡ l.digits) × (field_of l.left l.initial.i (drop l.i l.text) ≡ field_of 0 l.digits l.text)
+invariant-loop-left l = (l.i + l.left ≡ l.digits) × (field_of l.n l.left (drop l.i l.text) ≡ field_of 0 l.digits l.text)
 
 abbrev pub decreases-loop-left : goal.decreases-loop-left
-decreases-loop-left l = l.initial.i
+decreases-loop-left l = l.left

@@ -20,40 +20,36 @@ pub loop-k-init : goal.loop-k-init
 loop-k-init c = (refl, search rules, refl, refl, refl)
 
 pub returns-in_default-clause-answer : goal.returns-in_default-clause-answer
-returns-in_default-clause-answer c = (let l = c.loop-k in
+returns-in_default-clause-answer c =
+    let l = c.loop-k in
     let s = c.args.text.now in
     let room = length c.args.out.now in
-    let w = sym c.pair.ensures ∙ c.in_default.is in (
-      sym (count_bad s (2 * l.k) (omega arith) l.k room w) ∙ l.invariant.3,
-      sym (ap (sets l.out l.k) (sound_bad s (2 * l.k) (omega arith) w)) ∙ l.invariant.4,
-    )).0
+    let w = sym c.pair.ensures ∙ c.in_default.is in
+    sym (count_bad s (2 * l.k) (omega arith) l.k room w) ∙ l.invariant.3
 
 pub returns-in_default-clause-held : goal.returns-in_default-clause-held
-returns-in_default-clause-held c = (let l = c.loop-k in
+returns-in_default-clause-held c =
+    let l = c.loop-k in
     let s = c.args.text.now in
     let room = length c.args.out.now in
-    let w = sym c.pair.ensures ∙ c.in_default.is in (
-      sym (count_bad s (2 * l.k) (omega arith) l.k room w) ∙ l.invariant.3,
-      sym (ap (sets l.out l.k) (sound_bad s (2 * l.k) (omega arith) w)) ∙ l.invariant.4,
-    )).1
+    let w = sym c.pair.ensures ∙ c.in_default.is in
+    sym (ap (sets l.out l.k) (sound_bad s (2 * l.k) (omega arith) w)) ∙ l.invariant.4
 
 pub returns-then-out-k-clause-answer : goal.returns-then-out-k-clause-answer
-returns-then-out-k-clause-answer c = (let l = c.loop-k in
+returns-then-out-k-clause-answer c =
+    let l = c.loop-k in
     let s = c.args.text.now in
     let room = length c.args.out.now in
-    let w = sym c.pair.ensures ∙ c.in-Value.is in (
-      sym (count_full s (2 * l.k) (omega arith) l.k room c.in-Value.b w (omega arith)) ∙ l.invariant.3,
-      sym (sets_out l.out l.k (sound (drop (2 * l.k) s)) (omega arith)) ∙ l.invariant.4,
-    )).0
+    let w = sym c.pair.ensures ∙ c.in-Value.is in
+    sym (count_full s (2 * l.k) (omega arith) l.k room c.in-Value.b w (omega arith)) ∙ l.invariant.3
 
 pub returns-then-out-k-clause-held : goal.returns-then-out-k-clause-held
-returns-then-out-k-clause-held c = (let l = c.loop-k in
+returns-then-out-k-clause-held c =
+    let l = c.loop-k in
     let s = c.args.text.now in
     let room = length c.args.out.now in
-    let w = sym c.pair.ensures ∙ c.in-Value.is in (
-      sym (count_full s (2 * l.k) (omega arith) l.k room c.in-Value.b w (omega arith)) ∙ l.invariant.3,
-      sym (sets_out l.out l.k (sound (drop (2 * l.k) s)) (omega arith)) ∙ l.invariant.4,
-    )).1
+    let w = sym c.pair.ensures ∙ c.in-Value.is in
+    sym (sets_out l.out l.k (sound (drop (2 * l.k) s)) (omega arith)) ∙ l.invariant.4
 
 pub loop-k-preserved : goal.loop-k-preserved
 loop-k-preserved c =
@@ -70,35 +66,31 @@ loop-k-preserved c =
     )
 
 pub returns-then-n-text-clause-answer : goal.returns-then-n-text-clause-answer
-returns-then-n-text-clause-answer c = (let l = c.loop-k in
+returns-then-n-text-clause-answer c =
+    let l = c.loop-k in
     let s = c.args.text.now in
-    let room = length c.args.out.now in (
-      sym (count_half l.k room s (2 * l.k) (omega arith)) ∙ l.invariant.3,
-      sym (ap (sets l.out l.k) (sound_end s (2 * l.k) (omega arith) (omega arith))) ∙ l.invariant.4,
-    )).0
+    let room = length c.args.out.now in
+    sym (count_half l.k room s (2 * l.k) (omega arith)) ∙ l.invariant.3
 
 pub returns-then-n-text-clause-held : goal.returns-then-n-text-clause-held
-returns-then-n-text-clause-held c = (let l = c.loop-k in
+returns-then-n-text-clause-held c =
+    let l = c.loop-k in
     let s = c.args.text.now in
-    let room = length c.args.out.now in (
-      sym (count_half l.k room s (2 * l.k) (omega arith)) ∙ l.invariant.3,
-      sym (ap (sets l.out l.k) (sound_end s (2 * l.k) (omega arith) (omega arith))) ∙ l.invariant.4,
-    )).1
+    let room = length c.args.out.now in
+    sym (ap (sets l.out l.k) (sound_end s (2 * l.k) (omega arith) (omega arith))) ∙ l.invariant.4
 
 pub returns-clause-answer : goal.returns-clause-answer
-returns-clause-answer c = (let l = c.loop-k in
+returns-clause-answer c =
+    let l = c.loop-k in
     let s = c.args.text.now in
     let room = length c.args.out.now in
-    let e : length s / 2 ≡ l.k = omega arith in (
-      ap Count.Bytes e ∙ sym (count_end l.k room s (2 * l.k) (omega arith)) ∙ l.invariant.3,
-      sym (ap (sets l.out l.k) (sound_end s (2 * l.k) (omega arith) (omega arith))) ∙ l.invariant.4,
-    )).0
+    let e : length s / 2 ≡ l.k = omega arith in
+    ap Count.Bytes e ∙ sym (count_end l.k room s (2 * l.k) (omega arith)) ∙ l.invariant.3
 
 pub returns-clause-held : goal.returns-clause-held
-returns-clause-held c = (let l = c.loop-k in
+returns-clause-held c =
+    let l = c.loop-k in
     let s = c.args.text.now in
     let room = length c.args.out.now in
-    let e : length s / 2 ≡ l.k = omega arith in (
-      ap Count.Bytes e ∙ sym (count_end l.k room s (2 * l.k) (omega arith)) ∙ l.invariant.3,
-      sym (ap (sets l.out l.k) (sound_end s (2 * l.k) (omega arith) (omega arith))) ∙ l.invariant.4,
-    )).1
+    let e : length s / 2 ≡ l.k = omega arith in
+    sym (ap (sets l.out l.k) (sound_end s (2 * l.k) (omega arith) (omega arith))) ∙ l.invariant.4

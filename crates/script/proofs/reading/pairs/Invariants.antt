@@ -17,7 +17,7 @@ use Rattle.script.proofs.Turns.{sound_bad, sound_good, count_bad, count_full, co
 use Rattle.script.proofs.reading.pairs.Given as goal
 
 abbrev pub invariant-loop-k : goal.invariant-loop-k
-invariant-loop-k l = (l.out ≡ length l.text / 2) × (l.k ≤ l.out) × (length l.initial.k ≡ length l.initial.out) × (count_of l.k (length l.initial.out) (drop (2 * l.k) l.text) ≡ count_of 0 (length l.initial.out) l.text) × (sets l.initial.k l.k (sound (drop (2 * l.k) l.text)) ≡ sets l.initial.out 0 (sound l.text))
+invariant-loop-k l = (l.n ≡ length l.text / 2) × (l.k ≤ l.n) × (length l.out ≡ length l.initial.out) × (count_of l.k (length l.initial.out) (drop (2 * l.k) l.text) ≡ count_of 0 (length l.initial.out) l.text) × (sets l.out l.k (sound (drop (2 * l.k) l.text)) ≡ sets l.initial.out 0 (sound l.text))
 
 abbrev pub decreases-loop-k : goal.decreases-loop-k
-decreases-loop-k l = l.out - l.k
+decreases-loop-k l = l.n - l.k
