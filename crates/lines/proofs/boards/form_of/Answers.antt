@@ -9,4 +9,4 @@ pub returns-in-45 : goal.returns-in-45
 returns-in-45 c = rw c.in-45.is
 
 pub returns-in_default : goal.returns-in_default
-returns-in_default c = rw (ne_eqb c.args.letter 82 c.in_default.rest.0.1, ne_eqb c.args.letter 45 c.in_default.rest.1)
+returns-in_default c = rw (ne_eqb c.args.letter 82 c.in_default.in_default-own.rest.0.1, ne_eqb c.args.letter 45 c.in_default.in_default-own.rest.1)
