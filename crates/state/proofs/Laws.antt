@@ -1,6 +1,6 @@
 -- The number of a start, and that a profile which names raw is held to its own rules. Assumes nothing.
 use mathlib.Core.Bool.{Bool, true, false, cond}
-use mathlib.Core.Path.{◌≡◌, refl, ap, ◌∙◌}
+use mathlib.Core.Path.{◌≡◌, refl}
 use Rattle.memory.specs.declared.Store.{Store}
 use Rattle.state.specs.Parts.{naming_raw}
 use Rattle.state.specs.Start.{bid_in_range, channels_in_place, keeps_the_rules, start_of, start_number}
@@ -16,9 +16,6 @@ chosen false x y = refl
 pub number_8 : (there : Board) (p : Profile) (store : Store) → start_number (start_of there p store).answer ≡ cond (keeps_the_rules p store) 0 8
 unfolding start_of
 number_8 there p store = chosen (keeps_the_rules p store) _ _
-
-pub with_number_8 : {r : Started} (there : Board) (p : Profile) (store : Store) → r ≡ start_of there p store → (r ≡ start_of there p store) × (start_number r.answer ≡ cond (keeps_the_rules p store) 0 8)
-with_number_8 there p store e = (e, ap (λ (s : Started). start_number s.answer) e ∙ number_8 there p store)
 
 -- and then the board that was there stays
 pub refused_leaves : (there : Board) (p : Profile) (store : Store) → keeps_the_rules p store ≡ false → (start_of there p store).board ≡ there

@@ -1,18 +1,17 @@
 -- Rule by rule, the first that is broken decides.
 use mathlib.Core.Path.{sym, ◌∙◌}
-use borrow.Author.Tests.{not-true, not-false}
 use Rattle.state.specs.Start.{channels_in_place}
 use borrow.Author.Rules.{rules}
 use Rattle.state.proofs.starting.channels_in_place.Goals as goal
 
 pub returns-then-not-any_fitted : goal.returns-then-not-any_fitted
 unfolding channels_in_place
-returns-then-not-any_fitted c = rw (← c.places-places.ensures, sym c.any_fitted.ensures ∙ not-true c.any_fitted.result c.if-not-any_fitted.true-raw)
+returns-then-not-any_fitted c = rw (← c.places-places.ensures, sym c.any_fitted.ensures ∙ c.if-not-any_fitted.true)
 
 pub returns-then-not-within : goal.returns-then-not-within
 unfolding channels_in_place
-returns-then-not-within c = rw (← c.places-places.ensures, sym c.any_fitted.ensures ∙ not-false c.any_fitted.result c.if-not-any_fitted.false-raw, sym c.within.ensures ∙ not-true c.within.result c.if-not-within.true-raw)
+returns-then-not-within c = rw (← c.places-places.ensures, sym c.any_fitted.ensures ∙ c.if-not-any_fitted.false, sym c.within.ensures ∙ c.if-not-within.true)
 
 pub returns : goal.returns
 unfolding channels_in_place
-returns c = rw (← c.places-places.ensures, sym c.any_fitted.ensures ∙ not-false c.any_fitted.result c.if-not-any_fitted.false-raw, sym c.within.ensures ∙ not-false c.within.result c.if-not-within.false-raw, c.within-2.ensures)
+returns c = rw (← c.places-places.ensures, sym c.any_fitted.ensures ∙ c.if-not-any_fitted.false, sym c.within.ensures ∙ c.if-not-within.false, c.within-2.ensures)
