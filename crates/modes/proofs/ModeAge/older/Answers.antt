@@ -1,5 +1,4 @@
 -- `older` meets its contract: the mode is as it was, and the age is arithmetic. Assumes nothing.
-use borrow.Author.Rules.{rules}
 use native.Mathlib.Omega.{arith}
 use mathlib.Core.Path.{ap}
 use Rattle.modes.specs.Table.{◌aged◌, older_of}

@@ -1,7 +1,7 @@
 -- `step` meets its contract: at each return the mode and the tests on the way pick the row; `omega` shows what each
 -- test of the table says from what the code tested. Assumes nothing.
 use borrow.Author.Tests.{le-leb, lt-leb, le-ltb, lt-ltb}
-use mathlib.Core.Path.{◌≡◌, sym, ◌∙◌}
+use mathlib.Core.Path.{sym, ◌∙◌}
 use mir.Syntax.{w16, w32}
 use mir.Val.{SFits}
 use lib.IntN.{ℤ}

@@ -1,6 +1,6 @@
 -- `to_nominal` meets its contract: in each mode the definition computes to what is answered there; in safety the rail
 -- decides. Assumes nothing.
-use mathlib.Core.Path.{◌≡◌, sym, ◌∙◌}
+use mathlib.Core.Path.{sym, ◌∙◌}
 use mir.Syntax.{w16, w32}
 use mir.Val.{SFits}
 use lib.IntN.{ℤ}

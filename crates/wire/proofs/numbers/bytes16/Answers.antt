@@ -1,7 +1,6 @@
 -- The second byte is below 256, so nothing of it is dropped.
 use mathlib.Core.Path.{refl}
 use native.Mathlib.Omega.{arith}
-use borrow.Author.Rules.{rules}
 use Rattle.wire.proofs.LittleEndian.{cons_eq}
 use Rattle.wire.specs.Numbers.{bytes_of}
 use Rattle.wire.proofs.numbers.bytes16.Goals as goal

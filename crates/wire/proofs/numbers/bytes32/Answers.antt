@@ -1,7 +1,6 @@
 -- A byte of the number is what is left of a quotient, and the last quotient is below 256.
 use mathlib.Core.Path.{refl}
 use native.Mathlib.Omega.{arith}
-use borrow.Author.Rules.{rules}
 use Rattle.wire.proofs.LittleEndian.{cons_eq}
 use Rattle.wire.specs.Numbers.{bytes_of}
 use Rattle.wire.proofs.numbers.bytes32.Goals as goal

@@ -1,7 +1,6 @@
 -- The bytes of the lower half and then those of the upper half.
 use mathlib.Core.Path.{refl}
 use native.Mathlib.Omega.{arith}
-use borrow.Author.Rules.{rules}
 use Rattle.wire.proofs.LittleEndian.{cons_eq}
 use Rattle.wire.specs.Numbers.{bytes_of}
 use Rattle.wire.proofs.numbers.bytes64.Goals as goal

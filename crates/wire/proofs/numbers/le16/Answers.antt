@@ -2,7 +2,6 @@
 use native.Mathlib.Omega.{arith}
 use lib.ListN.{drop}
 use lib.Seq.{get_or-drop}
-use borrow.Author.Rules.{rules}
 use Rattle.wire.proofs.LittleEndian.{number_split, number_one}
 use Rattle.wire.proofs.numbers.le16.Goals as goal
 

@@ -1,7 +1,6 @@
 -- Two numbers of half the width join.
 use native.Mathlib.Omega.{arith}
 use lib.ListN.{drop}
-use borrow.Author.Rules.{rules}
 use Rattle.wire.proofs.LittleEndian.{number_split}
 use Rattle.wire.proofs.numbers.le64.Goals as goal
 

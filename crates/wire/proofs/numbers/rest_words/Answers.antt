@@ -4,7 +4,6 @@ use native.Mathlib.Omega.{arith}
 use lib.ListN.{length, drop, length-drop}
 use lib.Seq.{take_all, take-nil}
 use Rattle.laws.proofs.Lists.{drop_end}
-use borrow.Author.Rules.{rules}
 use Rattle.wire.proofs.numbers.rest_words.Goals as goal
 
 pub returns-then-at-words : goal.returns-then-at-words

@@ -2,7 +2,6 @@
 use Prim.Native.Nat.{◌-◌}
 use native.Mathlib.Omega.{arith}
 use mir.Syntax.{w16}
-use borrow.Author.Rules.{rules}
 use Rattle.wire.proofs.TwosComplement.{low_half, high_fits, high_half}
 use Rattle.wire.proofs.numbers.twos16.Goals as goal
 

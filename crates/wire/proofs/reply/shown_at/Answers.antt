@@ -2,7 +2,6 @@
 use native.Mathlib.Omega.{arith}
 use lib.ListN.{take, length-take, get_or-eq_default}
 use lib.Seq.{get_or-take}
-use borrow.Author.Rules.{rules}
 use Rattle.laws.proofs.Lists.{get_d_any}
 use Rattle.wire.proofs.reply.shown_at.Goals as goal
 

@@ -1,9 +1,9 @@
 -- After i turns the first i bytes stand behind what the reply shows.
-use Prim.Native.Nat.{◌≤◌, ◌+◌, ◌-◌}
+use Prim.Native.Nat.{◌+◌}
 use mathlib.Core.Path.{◌≡◌}
 use native.Mathlib.Omega.{arith}
 use lib.ListN.{length, get_or}
-use lib.Seq.{paste, paste-zero}
+use lib.Seq.{paste-zero}
 use borrow.Author.Rules.{rules}
 use Rattle.wire.proofs.Room.{one_more_lem, appended}
 use Rattle.wire.specs.Replies.{room}

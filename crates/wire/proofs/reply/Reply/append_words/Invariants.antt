@@ -1,15 +1,9 @@
 -- After i turns the first i words stand behind what the reply shows, two bytes each; where the room ends within a word,
 -- its low byte stands there too.
-use Prim.Native.Nat.{◌≤◌, ◌+◌, ◌-◌, ◌*◌, min}
+use Prim.Native.Nat.{◌≤◌, ◌-◌, ◌*◌}
 use mathlib.Core.Path.{◌≡◌}
-use native.Mathlib.Omega.{arith}
-use lib.ListN.{length, set}
-use lib.Seq.{paste, paste-zero}
-use borrow.Author.Rules.{rules}
-use Rattle.wire.proofs.Room.{appended, one_more_lem}
-use Rattle.wire.proofs.Rows.{length_words, word_low, word_high}
-use Rattle.wire.specs.Replies.{room, after, words}
-use Rattle.wire.specs.declared.reply.Reply.{Reply}
+use lib.Seq.{paste}
+use Rattle.wire.specs.Replies.{words}
 use Rattle.wire.proofs.reply.Reply.append_words.Given as goal
 
 abbrev pub invariant-loop-i : goal.invariant-loop-i

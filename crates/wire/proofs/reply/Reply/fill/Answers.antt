@@ -1,10 +1,7 @@
 -- The stores that are left to do make the buffer what it is to hold; after the last turn none is left.
-use Prim.Native.Nat.{ℕ, ◌≤◌, ◌-◌}
-use mathlib.Core.List.{List, ◌++◌}
-use mathlib.Core.Path.{◌≡◌, sym, ◌∙◌}
+use mathlib.Core.Path.{sym, ◌∙◌}
 use native.Mathlib.Omega.{arith}
-use lib.ListN.{length, take, drop, replicate, length-set}
-use lib.Seq.{sets}
+use lib.ListN.{length, take, length-set}
 use borrow.Author.Rules.{rules}
 use Rattle.laws.proofs.Lists.{drop_step, drop_end, sets_turn}
 use Rattle.wire.proofs.Room.{length_filled, filled_at, covering}

@@ -1,14 +1,9 @@
 -- The stores that are left to do make the buffer what it is to hold; after the last turn none is left.
 use Prim.Native.Nat.{ℕ, ◌≤◌, ◌-◌}
 use mathlib.Core.List.{List, ◌++◌}
-use mathlib.Core.Path.{◌≡◌, sym, ◌∙◌}
-use native.Mathlib.Omega.{arith}
-use lib.ListN.{length, take, drop, replicate, length-set}
+use mathlib.Core.Path.{◌≡◌}
+use lib.ListN.{length, take, drop, replicate}
 use lib.Seq.{sets}
-use borrow.Author.Rules.{rules}
-use Rattle.laws.proofs.Lists.{drop_step, drop_end, sets_turn}
-use Rattle.wire.proofs.Room.{length_filled, filled_at, covering}
-use Rattle.wire.specs.Replies.{shown, found}
 use Rattle.wire.proofs.reply.Reply.fill.Given as goal
 
 -- what the buffer is to hold

@@ -3,7 +3,6 @@ use Prim.Native.Nat.{◌+◌, ◌*◌, ◌/◌}
 use mathlib.Core.Path.{◌≡◌}
 use native.Mathlib.Omega.{arith}
 use lib.Bits.{bit_or, or_step, or_zero_r}
-use borrow.Author.Rules.{rules}
 use Rattle.wire.specs.Replies.{room, written, reply_of, reply_code, short}
 use Rattle.wire.proofs.reply.Reply.short.Goals as goal
 
