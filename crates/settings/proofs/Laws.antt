@@ -58,13 +58,13 @@ pub reset_get_default : (kind : Kind) (s : Settings) (id : ℕ) (t : ValueType) 
 reset_get_default kind s id t z e = reset_get kind s id t z e ∙ sym (default_get kind id t e)
 
 -- ---- every other id reads as before
-wrote_other : (s r : Settings) (id other : ℕ) → Wrote s id r → (other ≡ id → ⊥) → setting_of r other ≡ setting_of s other
-wrote_other s r id other nothing n = refl
-wrote_other s r id other (one t z e h) n = number_other s id other t z n e (in_fits id t z e h)
+wrote_other : (s : Settings) (id other : ℕ) (r : Settings) → Wrote s id r → (other ≡ id → ⊥) → setting_of r other ≡ setting_of s other
+wrote_other s id other r nothing n = refl
+wrote_other s id other r (one t z e h) n = number_other s id other t z n e (in_fits id t z e h)
 
 got_other : (s r : Settings) (id other : ℕ) → Wrote s id r → (other ≡ id → ⊥) → get_of r other ≡ get_of s other
 unfolding get_of
-got_other s r id other w n = ap (got_as (parameter_of other)) (wrote_other s r id other w n)
+got_other s r id other w n = ap (got_as (parameter_of other)) (wrote_other s id other r w n)
 
 pub set_other : (s : Settings) (id other : ℕ) (v : ParamValue) → (other ≡ id → ⊥) → get_of (set_of s id v) other ≡ get_of s other
 set_other s id other v n = got_other s (set_of s id v) id other (set_wrote s id v) n
@@ -103,10 +103,10 @@ kept_length_n : (b : Bool) (xs : List ℕ) (i : ℕ) (z : ℤ) → length (store
 kept_length_n true xs i z = length-set xs i _
 kept_length_n false xs i z = refl
 
-wrote_sized : (s r : Settings) (id : ℕ) → Wrote s id r → Sized s → Sized r
+wrote_sized : (s : Settings) (id : ℕ) (r : Settings) → Wrote s id r → Sized s → Sized r
 unfolding with_number
-wrote_sized s r id nothing k = k
-wrote_sized s r id (one t z e h) k = record {
+wrote_sized s id r nothing k = k
+wrote_sized s id r (one t z e h) k = record {
   u32_size = kept_length_n (same t Uint32) s.u32s (id - code_of t) z ∙ k.u32_size;
   u16_size = kept_length_n (same t Uint16) s.u16s (id - code_of t) z ∙ k.u16_size;
   i16_size = kept_length (same t Int16) s.i16s (id - code_of t) z ∙ k.i16_size;
@@ -115,10 +115,10 @@ wrote_sized s r id (one t z e h) k = record {
 }
 
 pub set_sized : (s : Settings) (id : ℕ) (v : ParamValue) → Sized s → Sized (set_of s id v)
-set_sized s id v k = wrote_sized s (set_of s id v) id (set_wrote s id v) k
+set_sized s id v k = wrote_sized s id (set_of s id v) (set_wrote s id v) k
 
 pub reset_sized : (kind : Kind) (s : Settings) (id : ℕ) → Sized s → Sized (reset_of kind s id)
-reset_sized kind s id k = wrote_sized s (reset_of kind s id) id (reset_wrote kind s id) k
+reset_sized kind s id k = wrote_sized s id (reset_of kind s id) (reset_wrote kind s id) k
 
 pub defaults_sized : (kind : Kind) → Sized (defaults_of kind)
 unfolding defaults_of column
@@ -166,17 +166,17 @@ each_in_range s h =
     (each_inside s 0x6000 6 (λ id p q. h id Uint32 (uint32s id p (omega arith))))
 
 -- what holds of each parameter's number, and of any number in an id's range, holds of each after one was stored
-wrote_each : (P : ℕ → ℤ → Type 0) (s r : Settings) (id : ℕ) → Sized s → Wrote s id r → ((t : ValueType) (z : ℤ) → parameter_of id ≡ Parameter.ReadWrite t → inside_of id z ≡ true → P id z)
+wrote_each : (P : ℕ → ℤ → Type 0) (s : Settings) (id : ℕ) (r : Settings) → Sized s → Wrote s id r → ((t : ValueType) (z : ℤ) → parameter_of id ≡ Parameter.ReadWrite t → inside_of id z ≡ true → P id z)
     → (j : ℕ) → P j (setting_of s j) → P j (setting_of r j)
-wrote_each P s r id k nothing f j h = h
-wrote_each P s r id k (one t z e i) f j h = elim (ℕ_discrete j id) [
+wrote_each P s id r k nothing f j h = h
+wrote_each P s id r k (one t z e i) f j h = elim (ℕ_discrete j id) [
   | yes q ↦ subst (λ (a : ℕ). P a (setting_of r a)) (sym q) (subst (P id) (sym (number_same s id t z k e (in_fits id t z e i))) (f t z e i))
   | no n ↦ subst (P j) (sym (number_other s id j t z n e (in_fits id t z e i))) h
 ]
 
 wrote_in_range : (s r : Settings) (id : ℕ) → Sized s → Wrote s id r → in_range_of s ≡ true → in_range_of r ≡ true
 wrote_in_range s r id k w h =
-    each_in_range r (λ j t e. wrote_each (λ j z. inside_of j z ≡ true) s r id k w (λ t z e i. i) j (in_range_each s h j t e))
+    each_in_range r (λ j t e. wrote_each (λ j z. inside_of j z ≡ true) s id r k w (λ t z e i. i) j (in_range_each s h j t e))
 
 pub set_in_range : (s : Settings) (id : ℕ) (v : ParamValue) → Sized s → in_range_of s ≡ true → in_range_of (set_of s id v) ≡ true
 set_in_range s id v k h = wrote_in_range s (set_of s id v) id k (set_wrote s id v) h
@@ -196,7 +196,7 @@ in_range_fitting s h id t e = in_fits id t (setting_of s id) e (in_range_each s 
 
 wrote_fitting : (s r : Settings) (id : ℕ) → Sized s → Wrote s id r → Fitting s → Fitting r
 wrote_fitting s r id k w f j t e =
-    wrote_each (λ a z. (u : ValueType) → parameter_of a ≡ Parameter.ReadWrite u → Fit u z) s r id k w (λ t z e i u q. in_fits id u z q i) j (f j) t e
+    wrote_each (λ a z. (u : ValueType) → parameter_of a ≡ Parameter.ReadWrite u → Fit u z) s id r k w (λ t z e i u q. in_fits id u z q i) j (f j) t e
 
 pub set_fitting : (s : Settings) (id : ℕ) (v : ParamValue) → Sized s → Fitting s → Fitting (set_of s id v)
 set_fitting s id v k f = wrote_fitting s (set_of s id v) id k (set_wrote s id v) f
