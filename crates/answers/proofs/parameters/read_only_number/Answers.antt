@@ -1,4 +1,5 @@
 -- Each id computes to its row, and one that is none of them to 0.
+use native.Mathlib.Omega.{arith}
 use borrow.Author.Tests.{ne_eqb}
 use Rattle.answers.specs.Parameters.{read_only_number, number_in}
 use borrow.Author.Rules.{rules}
@@ -74,4 +75,6 @@ returns-in-26633 c = rw c.in-26633.is
 
 pub returns-in_default : goal.returns-in_default
 unfolding read_only_number number_in
-returns-in_default c = simp (ne_eqb _ _ c.in_default.rest.0.0.0.0.0.0.0.0.0.0.0.0.0.0.0.0.1, ne_eqb _ _ c.in_default.rest.0.0.0.0.0.0.0.0.0.0.0.0.0.0.0.1, ne_eqb _ _ c.in_default.rest.0.0.0.0.0.0.0.0.0.0.0.0.0.0.1, ne_eqb _ _ c.in_default.rest.0.0.0.0.0.0.0.0.0.0.0.0.0.1, ne_eqb _ _ c.in_default.rest.0.0.0.0.0.0.0.0.0.0.0.0.1, ne_eqb _ _ c.in_default.rest.0.0.0.0.0.0.0.0.0.0.0.1, ne_eqb _ _ c.in_default.rest.0.0.0.0.0.0.0.0.0.0.1, ne_eqb _ _ c.in_default.rest.0.0.0.0.0.0.0.0.0.1, ne_eqb _ _ c.in_default.rest.0.0.0.0.0.0.0.0.1, ne_eqb _ _ c.in_default.rest.0.0.0.0.0.0.0.1, ne_eqb _ _ c.in_default.rest.0.0.0.0.0.0.1, ne_eqb _ _ c.in_default.rest.0.0.0.0.0.1, ne_eqb _ _ c.in_default.rest.0.0.0.0.1, ne_eqb _ _ c.in_default.rest.0.0.0.1, ne_eqb _ _ c.in_default.rest.0.0.1, ne_eqb _ _ c.in_default.rest.0.1, ne_eqb _ _ c.in_default.rest.1)
+returns-in_default c =
+    let k = c.args.id in
+    simp (ne_eqb k 0x2800 (λ e. omega arith), ne_eqb k 0x2801 (λ e. omega arith), ne_eqb k 0x2802 (λ e. omega arith), ne_eqb k 0x4801 (λ e. omega arith), ne_eqb k 0x4802 (λ e. omega arith), ne_eqb k 0x4803 (λ e. omega arith), ne_eqb k 0x4804 (λ e. omega arith), ne_eqb k 0x4805 (λ e. omega arith), ne_eqb k 0x4806 (λ e. omega arith), ne_eqb k 0x480A (λ e. omega arith), ne_eqb k 0x480B (λ e. omega arith), ne_eqb k 0x480C (λ e. omega arith), ne_eqb k 0x480D (λ e. omega arith), ne_eqb k 0x480E (λ e. omega arith), ne_eqb k 0x480F (λ e. omega arith), ne_eqb k 0x4810 (λ e. omega arith), ne_eqb k 0x6809 (λ e. omega arith))
