@@ -3,9 +3,6 @@ use native.Mathlib.Omega.{arith}
 use mathlib.Core.Path.{sym}
 use Rattle.grammar.proofs.Digits.{digit_low, digit_high, digit_is}
 use borrow.Author.Rules.{rules}
-use Rattle.grammar.proofs.decimal.Reads as reads
-use Rattle.grammar.proofs.decimal.Lts as lts
-use Rattle.grammar.proofs.peek.Reads as peek-reads
 use Rattle.grammar.proofs.decimal.Goals as goal
 
 pub returns-then-x-lt48-clause-is : goal.returns-then-x-lt48-clause-is

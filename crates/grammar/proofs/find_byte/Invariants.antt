@@ -9,9 +9,11 @@ use lib.ListN.{length, drop}
 use Rattle.grammar.specs.Grammar.{first_from}
 use Rattle.grammar.specs.Views.{refusal_of}
 use Rattle.grammar.proofs.Bytes.{first_none, first_here, first_next, up_to_place, up_to_never}
-use Rattle.grammar.proofs.find_byte.Reads as reads
-use Rattle.grammar.proofs.find_byte.Lts as lts
 use Rattle.grammar.proofs.find_byte.Given as goal
+
+pub record Places (b : ℕ) (s : List ℕ) (at i : ℕ) : Type 0 where
+  pub past : at ≤ i
+  pub same : first_from b i (drop i s) ≡ first_from b at (drop at s)
 
 abbrev pub invariant-loop-i : goal.invariant-loop-i
 invariant-loop-i l = Places l.b l.s l.at l.i

@@ -9,13 +9,14 @@ use lib.ListN.{length, drop}
 use Rattle.grammar.specs.Grammar.{text}
 use Rattle.grammar.proofs.Refusals.{with_number}
 use Rattle.grammar.proofs.Bytes.{text_end, text_same, text_other}
-use Rattle.grammar.proofs.literal.Reads as reads
-use Rattle.grammar.proofs.literal.Lts as lts
-use Rattle.grammar.proofs.peek.Reads as peek-reads
 use Rattle.grammar.proofs.literal.Given as goal
 
+pub record Bytes (s : List ℕ) (at : ℕ) (wanted : List ℕ) (i k : ℕ) : Type 0 where
+  pub upto : k ≤ length wanted
+  pub same : text (drop k wanted) s i ≡ text wanted s at
+
 abbrev pub invariant-loop-k : goal.invariant-loop-k
-invariant-loop-k l = Bytes l.s l.at l.wanted l.initial.k l.k
+invariant-loop-k l = Bytes l.s l.at l.wanted l.i l.k
 
 abbrev pub decreases-loop-k : goal.decreases-loop-k
 decreases-loop-k l = length l.wanted - l.k

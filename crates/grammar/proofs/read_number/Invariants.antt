@@ -9,13 +9,15 @@ use lib.ListN.{length, drop}
 use Rattle.grammar.specs.Numbers.{digits, spells, digit_at}
 use Rattle.grammar.proofs.Refusals.{with_number}
 use Rattle.grammar.proofs.Digits.{stop, more, spells_grows, spells_end, spells_turn, number_none, number_zero, number_led, number_over, number_is}
-use Rattle.grammar.proofs.read_number.Reads as reads
-use Rattle.grammar.proofs.read_number.Lts as lts
-use Rattle.grammar.proofs.decimal.Reads as decimal-reads
 use Rattle.grammar.proofs.read_number.Given as goal
 
+pub record Spelt (s : List ℕ) (at limit v i : ℕ) : Type 0 where
+  pub small : v ≤ limit
+  pub same : spells v (digits (drop i s)) ≡ spells 0 (digits (drop at s))
+  pub ends : i + length (digits (drop i s)) ≡ at + length (digits (drop at s))
+
 abbrev pub invariant-loop-d : goal.invariant-loop-d
-invariant-loop-d l = Spelt l.s l.at l.limit l.initial.i l.i
+invariant-loop-d l = Spelt l.s l.at l.limit l.v l.i
 
 abbrev pub decreases-loop-d : goal.decreases-loop-d
 decreases-loop-d l = length l.s - l.i

@@ -10,36 +10,21 @@ use Rattle.hexadecimal.specs.Passes.{worth}
 use Rattle.grammar.specs.Numbers.{word}
 use Rattle.grammar.proofs.Refusals.{with_number}
 use Rattle.grammar.proofs.Words.{past_bad, word_end, word_bad, word_more, grows, small}
-use Rattle.grammar.proofs.read_word.Reads as reads
-use Rattle.grammar.proofs.read_word.Lts as lts
-use Rattle.grammar.proofs.peek.Reads as peek-reads
-use Rattle.hexadecimal.proofs.digit.Reads as digit-reads
 use Rattle.grammar.proofs.read_word.Goals as goal
 
-record Digits (s : List ℕ) (at v i left : ℕ) : Type 0 where
-  upto : left ≤ 8
-  fits : v < 2 ^ (32 - 4 * left)
-  same : word left v s i ≡ word 8 0 s at
-
-pub returns-then-x-gt255-clause-is : goal.returns-then-x-gt255-clause-is
-returns-then-x-gt255-clause-is c = (let l = c.loop-left in
+pub returns-then-x-gt255 : goal.returns-then-x-gt255
+returns-then-x-gt255 c =
+    let l = c.loop-left in
     let s = c.args.s.now in
-    with_number (sym (word_bad l.left l.v s l.i (omega arith) (past_bad _ (omega arith))) ∙ l.invariant.same)).0
+    let p = with_number (sym (word_bad l.left l.v s l.i (omega arith) (past_bad _ (omega arith))) ∙ l.invariant.same) in
+    record { is = p.0; number = p.1 }
 
-pub returns-then-x-gt255-clause-number : goal.returns-then-x-gt255-clause-number
-returns-then-x-gt255-clause-number c = (let l = c.loop-left in
+pub returns-in_default : goal.returns-in_default
+returns-in_default c =
+    let l = c.loop-left in
     let s = c.args.s.now in
-    with_number (sym (word_bad l.left l.v s l.i (omega arith) (past_bad _ (omega arith))) ∙ l.invariant.same)).1
-
-pub returns-in_default-clause-is : goal.returns-in_default-clause-is
-returns-in_default-clause-is c = (let l = c.loop-left in
-    let s = c.args.s.now in
-    with_number (sym (word_bad l.left l.v s l.i (omega arith) (sym (ap digit_of c.peek-x.ensures.is) ∙ sym c.digit.ensures.is ∙ c.in_default.is)) ∙ l.invariant.same)).0
-
-pub returns-in_default-clause-number : goal.returns-in_default-clause-number
-returns-in_default-clause-number c = (let l = c.loop-left in
-    let s = c.args.s.now in
-    with_number (sym (word_bad l.left l.v s l.i (omega arith) (sym (ap digit_of c.peek-x.ensures.is) ∙ sym c.digit.ensures.is ∙ c.in_default.is)) ∙ l.invariant.same)).1
+    let p = with_number (sym (word_bad l.left l.v s l.i (omega arith) (sym (ap digit_of c.peek-x.ensures.is) ∙ sym c.digit.ensures.is ∙ c.in_default.is)) ∙ l.invariant.same) in
+    record { is = p.0; number = p.1 }
 
 pub overflow_mul-v : goal.overflow_mul-v
 overflow_mul-v c = omega (arith, small c.loop-left.left)
@@ -65,10 +50,8 @@ loop-left-preserved c =
 pub overflow_cast-result : goal.overflow_cast-result
 overflow_cast-result c = omega (arith, small c.loop-left.left)
 
-pub returns-clause-is : goal.returns-clause-is
-returns-clause-is c = (let l = c.loop-left in
-    with_number (sym (word_end l.left l.v c.args.s.now l.i (omega arith)) ∙ l.invariant.same)).0
-
-pub returns-clause-number : goal.returns-clause-number
-returns-clause-number c = (let l = c.loop-left in
-    with_number (sym (word_end l.left l.v c.args.s.now l.i (omega arith)) ∙ l.invariant.same)).1
+pub returns : goal.returns
+returns c =
+    let l = c.loop-left in
+    let p = with_number (sym (word_end l.left l.v c.args.s.now l.i (omega arith)) ∙ l.invariant.same) in
+    record { is = p.0; number = p.1 }

@@ -10,14 +10,15 @@ use Rattle.hexadecimal.specs.Passes.{worth}
 use Rattle.grammar.specs.Numbers.{word}
 use Rattle.grammar.proofs.Refusals.{with_number}
 use Rattle.grammar.proofs.Words.{past_bad, word_end, word_bad, word_more, grows, small}
-use Rattle.grammar.proofs.read_word.Reads as reads
-use Rattle.grammar.proofs.read_word.Lts as lts
-use Rattle.grammar.proofs.peek.Reads as peek-reads
-use Rattle.hexadecimal.proofs.digit.Reads as digit-reads
 use Rattle.grammar.proofs.read_word.Given as goal
 
+pub record Digits (s : List ℕ) (at v i left : ℕ) : Type 0 where
+  pub upto : left ≤ 8
+  pub fits : v < 2 ^ (32 - 4 * left)
+  pub same : word left v s i ≡ word 8 0 s at
+
 abbrev pub invariant-loop-left : goal.invariant-loop-left
-invariant-loop-left l = Digits l.s l.at l.i l.initial.left l.left
+invariant-loop-left l = Digits l.s l.at l.v l.i l.left
 
 abbrev pub decreases-loop-left : goal.decreases-loop-left
 decreases-loop-left l = l.left
