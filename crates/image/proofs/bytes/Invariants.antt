@@ -9,7 +9,7 @@ use Rattle.image.proofs.Writing.{Walked, nothing_yet, whole, fits, laid}
 use Rattle.image.proofs.bytes.Given as goal
 
 abbrev pub invariant-loop-left : goal.invariant-loop-left
-invariant-loop-left l = (l.left ≤ 140) × Walked l.s l.at l.initial.left (140 - l.left)
+invariant-loop-left l = (l.left ≤ 140) × Walked l.s l.image l.at (140 - l.left)
 
 abbrev pub decreases-loop-left : goal.decreases-loop-left
 decreases-loop-left l = l.left

@@ -12,7 +12,7 @@ use Rattle.image.proofs.Reading.{SoFar, begun, one_more_lem, filled, number_plac
 use Rattle.image.proofs.int16s.Given as goal
 
 abbrev pub invariant-loop-i : goal.invariant-loop-i
-invariant-loop-i l = SoFar (signed 2) 2 42 (drop 24 l.image) l.initial.i l.i
+invariant-loop-i l = SoFar (signed 2) 2 42 (drop 24 l.image) l.values l.i
 
 abbrev pub decreases-loop-i : goal.decreases-loop-i
 decreases-loop-i l = 42 - l.i

@@ -11,7 +11,7 @@ use Rattle.image.proofs.Reading.{SoFar, begun, one_more_lem, filled, byte_first}
 use Rattle.image.proofs.int8s.Given as goal
 
 abbrev pub invariant-loop-i : goal.invariant-loop-i
-invariant-loop-i l = SoFar (signed 1) 1 21 l.image l.initial.i l.i
+invariant-loop-i l = SoFar (signed 1) 1 21 l.image l.values l.i
 
 abbrev pub decreases-loop-i : goal.decreases-loop-i
 decreases-loop-i l = 21 - l.i

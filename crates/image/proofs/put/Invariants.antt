@@ -11,7 +11,7 @@ use Rattle.image.proofs.Writing.{stored}
 use Rattle.image.proofs.put.Given as goal
 
 abbrev pub invariant-loop-i : goal.invariant-loop-i
-invariant-loop-i l = (l.i ≤ l.bytes) × (length l.initial.i ≡ length l.initial.image) × (length l.at ≡ 8) × (sets l.initial.i (l.image + l.i) (drop l.i (take l.bytes l.at)) ≡ sets l.initial.image l.image (take l.bytes l.at))
+invariant-loop-i l = (l.i ≤ l.n) × (length l.image ≡ length l.initial.image) × (length l.bytes ≡ 8) × (sets l.image (l.at + l.i) (drop l.i (take l.n l.bytes)) ≡ sets l.initial.image l.at (take l.n l.bytes))
 
 abbrev pub decreases-loop-i : goal.decreases-loop-i
-decreases-loop-i l = l.bytes - l.i
+decreases-loop-i l = l.n - l.i

@@ -9,7 +9,7 @@ use Rattle.image.proofs.Reading.{SoFar, begun, one_more_lem, filled, number_plac
 use Rattle.image.proofs.uint16s.Given as goal
 
 abbrev pub invariant-loop-i : goal.invariant-loop-i
-invariant-loop-i l = SoFar itself 2 68 (drop 108 l.image) l.initial.i l.i
+invariant-loop-i l = SoFar itself 2 68 (drop 108 l.image) l.values l.i
 
 abbrev pub decreases-loop-i : goal.decreases-loop-i
 decreases-loop-i l = 68 - l.i

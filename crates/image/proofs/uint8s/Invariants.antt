@@ -9,7 +9,7 @@ use Rattle.image.proofs.Reading.{SoFar, begun, one_more_lem, filled, byte_place}
 use Rattle.image.proofs.uint8s.Given as goal
 
 abbrev pub invariant-loop-i : goal.invariant-loop-i
-invariant-loop-i l = SoFar itself 1 3 (drop 21 l.image) l.initial.i l.i
+invariant-loop-i l = SoFar itself 1 3 (drop 21 l.image) l.values l.i
 
 abbrev pub decreases-loop-i : goal.decreases-loop-i
 decreases-loop-i l = 3 - l.i
