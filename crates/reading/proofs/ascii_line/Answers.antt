@@ -6,62 +6,23 @@ use lib.ListN.{length}
 use Rattle.reading.proofs.Numbers.{with_ascii_number}
 use Rattle.reading.proofs.ascii_line.Goals as goal
 
-pub returns-in-Bytes-clause-answer : goal.returns-in-Bytes-clause-answer
+pub returns-in-Bytes : goal.returns-in-Bytes
 unfolding ascii_line
-returns-in-Bytes-clause-answer c = (let a = c.args in
-    with_ascii_number a.behind a.payload.now (length a.scratch.now) (rw (sym c.read.ensures.answer ∙ c.in-Bytes.is), c.read.ensures.held)).0
+returns-in-Bytes c =
+    let a = c.args in
+    let p = with_ascii_number a.behind a.payload.now (length a.scratch.now) (rw (sym c.read.ensures.answer ∙ c.in-Bytes.is), c.read.ensures.held) in
+    record { answer = p.0; held = p.1.0; number = p.1.1.0; place = p.1.1.1 }
 
-pub returns-in-Bytes-clause-held : goal.returns-in-Bytes-clause-held
+pub returns-in-NotOfForm : goal.returns-in-NotOfForm
 unfolding ascii_line
-returns-in-Bytes-clause-held c = (let a = c.args in
-    with_ascii_number a.behind a.payload.now (length a.scratch.now) (rw (sym c.read.ensures.answer ∙ c.in-Bytes.is), c.read.ensures.held)).1.0
+returns-in-NotOfForm c =
+    let a = c.args in
+    let p = with_ascii_number a.behind a.payload.now (length a.scratch.now) (rw (sym c.read.ensures.answer ∙ c.in-NotOfForm.is), c.read.ensures.held) in
+    record { answer = p.0; held = p.1.0; number = p.1.1.0; place = p.1.1.1 }
 
-pub returns-in-Bytes-clause-number : goal.returns-in-Bytes-clause-number
+pub returns-in-TooShort : goal.returns-in-TooShort
 unfolding ascii_line
-returns-in-Bytes-clause-number c = (let a = c.args in
-    with_ascii_number a.behind a.payload.now (length a.scratch.now) (rw (sym c.read.ensures.answer ∙ c.in-Bytes.is), c.read.ensures.held)).1.1.0
-
-pub returns-in-Bytes-clause-place : goal.returns-in-Bytes-clause-place
-unfolding ascii_line
-returns-in-Bytes-clause-place c = (let a = c.args in
-    with_ascii_number a.behind a.payload.now (length a.scratch.now) (rw (sym c.read.ensures.answer ∙ c.in-Bytes.is), c.read.ensures.held)).1.1.1
-
-pub returns-in-NotOfForm-clause-answer : goal.returns-in-NotOfForm-clause-answer
-unfolding ascii_line
-returns-in-NotOfForm-clause-answer c = (let a = c.args in
-    with_ascii_number a.behind a.payload.now (length a.scratch.now) (rw (sym c.read.ensures.answer ∙ c.in-NotOfForm.is), c.read.ensures.held)).0
-
-pub returns-in-NotOfForm-clause-held : goal.returns-in-NotOfForm-clause-held
-unfolding ascii_line
-returns-in-NotOfForm-clause-held c = (let a = c.args in
-    with_ascii_number a.behind a.payload.now (length a.scratch.now) (rw (sym c.read.ensures.answer ∙ c.in-NotOfForm.is), c.read.ensures.held)).1.0
-
-pub returns-in-NotOfForm-clause-number : goal.returns-in-NotOfForm-clause-number
-unfolding ascii_line
-returns-in-NotOfForm-clause-number c = (let a = c.args in
-    with_ascii_number a.behind a.payload.now (length a.scratch.now) (rw (sym c.read.ensures.answer ∙ c.in-NotOfForm.is), c.read.ensures.held)).1.1.0
-
-pub returns-in-NotOfForm-clause-place : goal.returns-in-NotOfForm-clause-place
-unfolding ascii_line
-returns-in-NotOfForm-clause-place c = (let a = c.args in
-    with_ascii_number a.behind a.payload.now (length a.scratch.now) (rw (sym c.read.ensures.answer ∙ c.in-NotOfForm.is), c.read.ensures.held)).1.1.1
-
-pub returns-in-TooShort-clause-answer : goal.returns-in-TooShort-clause-answer
-unfolding ascii_line
-returns-in-TooShort-clause-answer c = (let a = c.args in
-    with_ascii_number a.behind a.payload.now (length a.scratch.now) (rw (sym c.read.ensures.answer ∙ c.in-TooShort.is), c.read.ensures.held)).0
-
-pub returns-in-TooShort-clause-held : goal.returns-in-TooShort-clause-held
-unfolding ascii_line
-returns-in-TooShort-clause-held c = (let a = c.args in
-    with_ascii_number a.behind a.payload.now (length a.scratch.now) (rw (sym c.read.ensures.answer ∙ c.in-TooShort.is), c.read.ensures.held)).1.0
-
-pub returns-in-TooShort-clause-number : goal.returns-in-TooShort-clause-number
-unfolding ascii_line
-returns-in-TooShort-clause-number c = (let a = c.args in
-    with_ascii_number a.behind a.payload.now (length a.scratch.now) (rw (sym c.read.ensures.answer ∙ c.in-TooShort.is), c.read.ensures.held)).1.1.0
-
-pub returns-in-TooShort-clause-place : goal.returns-in-TooShort-clause-place
-unfolding ascii_line
-returns-in-TooShort-clause-place c = (let a = c.args in
-    with_ascii_number a.behind a.payload.now (length a.scratch.now) (rw (sym c.read.ensures.answer ∙ c.in-TooShort.is), c.read.ensures.held)).1.1.1
+returns-in-TooShort c =
+    let a = c.args in
+    let p = with_ascii_number a.behind a.payload.now (length a.scratch.now) (rw (sym c.read.ensures.answer ∙ c.in-TooShort.is), c.read.ensures.held) in
+    record { answer = p.0; held = p.1.0; number = p.1.1.0; place = p.1.1.1 }

@@ -7,74 +7,26 @@ use lib.ListN.{length}
 use Rattle.reading.proofs.Numbers.{with_command_number}
 use Rattle.reading.proofs.command_line.Goals as goal
 
-pub returns-then-payload-gt-MOST-clause-answer : goal.returns-then-payload-gt-MOST-clause-answer
+pub returns-then-payload-gt-MOST : goal.returns-then-payload-gt-MOST
 unfolding command_line command_held
-returns-then-payload-gt-MOST-clause-answer c = (let long = lt-ltb 256 _ c.if-payload-gt-MOST.true in
+returns-then-payload-gt-MOST c =
+    let long = lt-ltb 256 _ c.if-payload-gt-MOST.true in
     let a = c.args in
-    with_command_number a.form (part a.start a.end a.received.now) a.start a.end a.behind (length a.scratch.now) (rw (← c.part-payload.ensures, long) (refl, refl))).0
+    let p = with_command_number a.form (part a.start a.end a.received.now) a.start a.end a.behind (length a.scratch.now) (rw (← c.part-payload.ensures, long) (refl, refl)) in
+    record { answer = p.0; held = p.1.0; number = p.1.1.0; place = p.1.1.1 }
 
-pub returns-then-payload-gt-MOST-clause-held : goal.returns-then-payload-gt-MOST-clause-held
+pub returns-in-Raw : goal.returns-in-Raw
 unfolding command_line command_held
-returns-then-payload-gt-MOST-clause-held c = (let long = lt-ltb 256 _ c.if-payload-gt-MOST.true in
+returns-in-Raw c =
+    let short = le-ltb 256 _ c.if-payload-gt-MOST.false in
     let a = c.args in
-    with_command_number a.form (part a.start a.end a.received.now) a.start a.end a.behind (length a.scratch.now) (rw (← c.part-payload.ensures, long) (refl, refl))).1.0
+    let p = with_command_number a.form (part a.start a.end a.received.now) a.start a.end a.behind (length a.scratch.now) (rw (← c.part-payload.ensures, short, c.in-Raw.is) (refl, refl)) in
+    record { answer = p.0; held = p.1.0; number = p.1.1.0; place = p.1.1.1 }
 
-pub returns-then-payload-gt-MOST-clause-number : goal.returns-then-payload-gt-MOST-clause-number
+pub returns-in-Ascii : goal.returns-in-Ascii
 unfolding command_line command_held
-returns-then-payload-gt-MOST-clause-number c = (let long = lt-ltb 256 _ c.if-payload-gt-MOST.true in
+returns-in-Ascii c =
+    let short = le-ltb 256 _ c.if-payload-gt-MOST.false in
     let a = c.args in
-    with_command_number a.form (part a.start a.end a.received.now) a.start a.end a.behind (length a.scratch.now) (rw (← c.part-payload.ensures, long) (refl, refl))).1.1.0
-
-pub returns-then-payload-gt-MOST-clause-place : goal.returns-then-payload-gt-MOST-clause-place
-unfolding command_line command_held
-returns-then-payload-gt-MOST-clause-place c = (let long = lt-ltb 256 _ c.if-payload-gt-MOST.true in
-    let a = c.args in
-    with_command_number a.form (part a.start a.end a.received.now) a.start a.end a.behind (length a.scratch.now) (rw (← c.part-payload.ensures, long) (refl, refl))).1.1.1
-
-pub returns-in-Raw-clause-answer : goal.returns-in-Raw-clause-answer
-unfolding command_line command_held
-returns-in-Raw-clause-answer c = (let short = le-ltb 256 _ c.if-payload-gt-MOST.false in
-    let a = c.args in
-    with_command_number a.form (part a.start a.end a.received.now) a.start a.end a.behind (length a.scratch.now) (rw (← c.part-payload.ensures, short, c.in-Raw.is) (refl, refl))).0
-
-pub returns-in-Raw-clause-held : goal.returns-in-Raw-clause-held
-unfolding command_line command_held
-returns-in-Raw-clause-held c = (let short = le-ltb 256 _ c.if-payload-gt-MOST.false in
-    let a = c.args in
-    with_command_number a.form (part a.start a.end a.received.now) a.start a.end a.behind (length a.scratch.now) (rw (← c.part-payload.ensures, short, c.in-Raw.is) (refl, refl))).1.0
-
-pub returns-in-Raw-clause-number : goal.returns-in-Raw-clause-number
-unfolding command_line command_held
-returns-in-Raw-clause-number c = (let short = le-ltb 256 _ c.if-payload-gt-MOST.false in
-    let a = c.args in
-    with_command_number a.form (part a.start a.end a.received.now) a.start a.end a.behind (length a.scratch.now) (rw (← c.part-payload.ensures, short, c.in-Raw.is) (refl, refl))).1.1.0
-
-pub returns-in-Raw-clause-place : goal.returns-in-Raw-clause-place
-unfolding command_line command_held
-returns-in-Raw-clause-place c = (let short = le-ltb 256 _ c.if-payload-gt-MOST.false in
-    let a = c.args in
-    with_command_number a.form (part a.start a.end a.received.now) a.start a.end a.behind (length a.scratch.now) (rw (← c.part-payload.ensures, short, c.in-Raw.is) (refl, refl))).1.1.1
-
-pub returns-in-Ascii-clause-answer : goal.returns-in-Ascii-clause-answer
-unfolding command_line command_held
-returns-in-Ascii-clause-answer c = (let short = le-ltb 256 _ c.if-payload-gt-MOST.false in
-    let a = c.args in
-    with_command_number a.form (part a.start a.end a.received.now) a.start a.end a.behind (length a.scratch.now) (rw (← c.part-payload.ensures, short, c.in-Ascii.is) (c.ascii_line.ensures.answer, c.ascii_line.ensures.held))).0
-
-pub returns-in-Ascii-clause-held : goal.returns-in-Ascii-clause-held
-unfolding command_line command_held
-returns-in-Ascii-clause-held c = (let short = le-ltb 256 _ c.if-payload-gt-MOST.false in
-    let a = c.args in
-    with_command_number a.form (part a.start a.end a.received.now) a.start a.end a.behind (length a.scratch.now) (rw (← c.part-payload.ensures, short, c.in-Ascii.is) (c.ascii_line.ensures.answer, c.ascii_line.ensures.held))).1.0
-
-pub returns-in-Ascii-clause-number : goal.returns-in-Ascii-clause-number
-unfolding command_line command_held
-returns-in-Ascii-clause-number c = (let short = le-ltb 256 _ c.if-payload-gt-MOST.false in
-    let a = c.args in
-    with_command_number a.form (part a.start a.end a.received.now) a.start a.end a.behind (length a.scratch.now) (rw (← c.part-payload.ensures, short, c.in-Ascii.is) (c.ascii_line.ensures.answer, c.ascii_line.ensures.held))).1.1.0
-
-pub returns-in-Ascii-clause-place : goal.returns-in-Ascii-clause-place
-unfolding command_line command_held
-returns-in-Ascii-clause-place c = (let short = le-ltb 256 _ c.if-payload-gt-MOST.false in
-    let a = c.args in
-    with_command_number a.form (part a.start a.end a.received.now) a.start a.end a.behind (length a.scratch.now) (rw (← c.part-payload.ensures, short, c.in-Ascii.is) (c.ascii_line.ensures.answer, c.ascii_line.ensures.held))).1.1.1
+    let p = with_command_number a.form (part a.start a.end a.received.now) a.start a.end a.behind (length a.scratch.now) (rw (← c.part-payload.ensures, short, c.in-Ascii.is) (c.ascii_line.ensures.answer, c.ascii_line.ensures.held)) in
+    record { answer = p.0; held = p.1.0; number = p.1.1.0; place = p.1.1.1 }

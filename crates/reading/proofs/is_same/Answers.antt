@@ -10,10 +10,6 @@ use Rattle.frames.proofs.Scanning.{starts_end, starts_same, starts_other}
 use Rattle.reading.proofs.Same.{different, differing, alike}
 use Rattle.reading.proofs.is_same.Goals as goal
 
-record Bytes (s text : List ℕ) (i : ℕ) : Type 0 where
-  upto : i ≤ length s
-  same : starts_with (drop i text) (drop i s) ≡ starts_with text s
-
 pub returns-then-n-text : goal.returns-then-n-text
 returns-then-n-text c = different _ _ c.if-n-text.true
 

@@ -10,6 +10,10 @@ use Rattle.frames.proofs.Scanning.{starts_end, starts_same, starts_other}
 use Rattle.reading.proofs.Same.{different, differing, alike}
 use Rattle.reading.proofs.is_same.Given as goal
 
+pub record Bytes (s text : List ℕ) (i : ℕ) : Type 0 where
+  pub upto : i ≤ length s
+  pub same : starts_with (drop i text) (drop i s) ≡ starts_with text s
+
 abbrev pub invariant-loop-i : goal.invariant-loop-i
 invariant-loop-i l = Bytes l.s l.text l.i
 
