@@ -18,6 +18,7 @@ fn entry(i: usize) -> i16
 }
 
 // The temperature at a raw code, in hundredths of a degree. A code above 4095 has that of 4095.
+#[tactic(auto, unfolding(crate::specs::Temperature::temperature_of))]
 pub fn temperature(code: u16) -> i16
     ensures { result ≡ temperature_of code }
 {
