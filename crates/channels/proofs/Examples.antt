@@ -1,7 +1,6 @@
 -- Rows 13 and 14 of document 01's boundary table, as antt computes the definitions. Assumes nothing.
 use mathlib.Core.Path.{◌≡◌, refl}
-use mathlib.Core.List.{List, [], ◌∷◌}
-use Prim.Native.Nat.{ℕ}
+use mathlib.Core.List.{[], ◌∷◌}
 use lib.ListN.{replicate}
 use Rattle.channels.specs.Sets.{has, set_of, list_of}
 use Rattle.channels.specs.Chan.{whole}

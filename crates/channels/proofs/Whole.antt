@@ -2,8 +2,7 @@
 -- value to be `whole f` by `is_whole`. Assumes nothing.
 use mathlib.Core.Path.{◌≡◌, refl, sym, ap, ◌∙◌}
 use Prim.Native.Nat.{ℕ, ◌<◌, ◌^◌}
-use lib.ListN.{length, get_or}
-use Rattle.channels.specs.Sets.{has, set_of, list_of}
+use lib.ListN.{length}
 use Rattle.channels.specs.Chan.{Chan, chan, whole}
 use Rattle.channels.specs.declared.Channels.{Channels}
 use Rattle.channels.proofs.Sets.{set_of_lt, has_set_of, is_set_of, length_list_of, get_or_list_of, is_list_of}

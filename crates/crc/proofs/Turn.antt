@@ -1,13 +1,11 @@
 -- One bit of the division, as the code does it: twice the remainder without its highest bit, and the divisor taken off
 -- where that bit and the message's differ. Assumes nothing.
-use mathlib.Core.Path.{◌≡◌, refl, sym, ap, ◌∙◌}
-use mathlib.Core.Bool.{Bool, true, false, cond}
-use Prim.Native.Nat.{ℕ, zero, suc, ◌+◌, ◌*◌, ◌^◌, ◌<◌, ◌≤◌}
+use mathlib.Core.Path.{◌≡◌, refl, ap, ◌∙◌}
+use Prim.Native.Nat.{ℕ, zero, suc, ◌+◌, ◌*◌, ◌^◌, ◌<◌}
 use native.Mathlib.Omega.{arith}
-use lib.Bits.{bit_xor, xor_block, xor_zero_r, xor_self, xor_lt}
-use lib.Dec.{leb}
+use lib.Bits.{bit_xor, xor_block, xor_zero_r, xor_self}
 use borrow.Author.Tests.{le-leb, lt-leb}
-use Rattle.crc.specs.Division.{polynomial, divided}
+use Rattle.crc.specs.Division.{divided}
 
 -- the message's bit meets only the bit that leaves
 raised_at : (top bit moved : ℕ) → moved < 2 ^ 16 → bit_xor (top * 2 ^ 16 + moved) (bit * 2 ^ 16) ≡ bit_xor top bit * 2 ^ 16 + moved

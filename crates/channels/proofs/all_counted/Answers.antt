@@ -1,14 +1,11 @@
 -- `all_counted` meets its contract. The loop's invariant: the counts of the channels below c are counted, the others as
 -- they were. Assumes nothing.
 use mathlib.Core.Path.{refl, ◌∙◌}
-use Prim.Native.Nat.{◌-◌}
 use native.Mathlib.Omega.{arith}
 use borrow.Author.Rules.{rules}
-use lib.ListN.{get_or}
-use Rattle.channels.specs.Sets.{has}
-use Rattle.channels.specs.Counting.{count_one, count_all}
+use Rattle.channels.specs.Counting.{count_all}
 use Rattle.channels.proofs.Sets.{is_list_of, is_has}
-use Rattle.channels.proofs.Sofar.{Sofar, next}
+use Rattle.channels.proofs.Sofar.{next}
 use Rattle.channels.proofs.all_counted.Goals as goal
 
 pub loop-c-init : goal.loop-c-init

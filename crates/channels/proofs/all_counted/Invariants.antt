@@ -1,14 +1,10 @@
 -- `all_counted` meets its contract. The loop's invariant: the counts of the channels below c are counted, the others as
 -- they were. Assumes nothing.
-use mathlib.Core.Path.{refl, ◌∙◌}
 use Prim.Native.Nat.{◌-◌}
-use native.Mathlib.Omega.{arith}
-use borrow.Author.Rules.{rules}
 use lib.ListN.{get_or}
 use Rattle.channels.specs.Sets.{has}
-use Rattle.channels.specs.Counting.{count_one, count_all}
-use Rattle.channels.proofs.Sets.{is_list_of, is_has}
-use Rattle.channels.proofs.Sofar.{Sofar, next}
+use Rattle.channels.specs.Counting.{count_one}
+use Rattle.channels.proofs.Sofar.{Sofar}
 use Rattle.channels.proofs.all_counted.Given as goal
 
 abbrev pub invariant-loop-c : goal.invariant-loop-c

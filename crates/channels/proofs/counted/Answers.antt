@@ -1,5 +1,4 @@
 -- `counted` meets its contract: by whether it trips, and arithmetic. Assumes nothing.
-use borrow.Author.Rules.{rules}
 use native.Mathlib.Omega.{arith}
 use Rattle.channels.proofs.counted.Goals as goal
 

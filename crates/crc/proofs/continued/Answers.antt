@@ -1,11 +1,9 @@
 -- The checksum of what is left, from the remainder so far, is the checksum of the whole. Assumes nothing.
-use borrow.Author.Rules.{rules}
 use mathlib.Core.Path.{◌≡◌, refl, sym, ap, ◌∙◌}
-use Prim.Native.Nat.{ℕ, ◌+◌, ◌-◌, ◌≤◌}
 use native.Mathlib.Omega.{arith}
-use lib.ListN.{length, drop, get_or}
+use lib.ListN.{drop}
 use Rattle.laws.proofs.Lists.{drop_step, drop_end}
-use Rattle.crc.specs.Division.{along_bits, bits_of, continued_of}
+use Rattle.crc.specs.Division.{continued_of}
 use Rattle.crc.proofs.continued.Goals as goal
 
 pub loop-i-init : goal.loop-i-init

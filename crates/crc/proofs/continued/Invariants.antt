@@ -1,11 +1,8 @@
 -- The checksum of what is left, from the remainder so far, is the checksum of the whole. Assumes nothing.
-use borrow.Author.Rules.{rules}
-use mathlib.Core.Path.{◌≡◌, refl, sym, ap, ◌∙◌}
-use Prim.Native.Nat.{ℕ, ◌+◌, ◌-◌, ◌≤◌}
-use native.Mathlib.Omega.{arith}
-use lib.ListN.{length, drop, get_or}
-use Rattle.laws.proofs.Lists.{drop_step, drop_end}
-use Rattle.crc.specs.Division.{along_bits, bits_of, continued_of}
+use mathlib.Core.Path.{◌≡◌}
+use Prim.Native.Nat.{◌-◌, ◌≤◌}
+use lib.ListN.{length, drop}
+use Rattle.crc.specs.Division.{continued_of}
 use Rattle.crc.proofs.continued.Given as goal
 
 abbrev pub invariant-loop-i : goal.invariant-loop-i

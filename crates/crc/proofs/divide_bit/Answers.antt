@@ -1,6 +1,5 @@
 -- The bit that leaves the remainder meets the message's bit: where they are the same nothing is taken off, else the
 -- divisor is. Assumes nothing.
-use borrow.Author.Rules.{rules}
 use Prim.Native.Nat.{◌*◌, ◌/◌, ◌%◌}
 use mathlib.Core.Path.{sym}
 use native.Mathlib.Omega.{arith}

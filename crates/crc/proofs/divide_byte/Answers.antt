@@ -1,5 +1,4 @@
 -- Eight bits, one after the other. Assumes nothing.
-use borrow.Author.Rules.{rules}
 use Rattle.crc.specs.Division.{along_bits}
 use Rattle.crc.proofs.divide_byte.Goals as goal
 

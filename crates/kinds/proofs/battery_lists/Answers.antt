@@ -1,5 +1,4 @@
 -- The list that is walked is the battery board's, code by code.
-use borrow.Author.Rules.{rules}
 use Rattle.kinds.proofs.battery_lists.Goals as goal
 
 pub returns : goal.returns

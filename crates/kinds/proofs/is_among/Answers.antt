@@ -1,9 +1,6 @@
 -- Whether the code is in what is left from place i on is whether it is in the whole.
-use mathlib.Core.Path.{◌≡◌, refl, sym, ◌∙◌}
-use Prim.Native.Nat.{◌-◌, ◌≤◌}
+use mathlib.Core.Path.{refl, sym, ◌∙◌}
 use native.Mathlib.Omega.{arith}
-use lib.ListN.{length, drop}
-use Rattle.kinds.specs.Kinds.{is_in}
 use Rattle.kinds.proofs.Listing.{found, further, nowhere}
 use Rattle.kinds.proofs.is_among.Goals as goal
 

@@ -1,10 +1,8 @@
 -- Whether the code is in what is left from place i on is whether it is in the whole.
-use mathlib.Core.Path.{◌≡◌, refl, sym, ◌∙◌}
+use mathlib.Core.Path.{◌≡◌}
 use Prim.Native.Nat.{◌-◌, ◌≤◌}
-use native.Mathlib.Omega.{arith}
 use lib.ListN.{length, drop}
 use Rattle.kinds.specs.Kinds.{is_in}
-use Rattle.kinds.proofs.Listing.{found, further, nowhere}
 use Rattle.kinds.proofs.is_among.Given as goal
 
 abbrev pub invariant-loop-i : goal.invariant-loop-i

@@ -1,5 +1,4 @@
 -- Each kind has the list that the table gives it.
-use borrow.Author.Rules.{rules}
 use Rattle.kinds.proofs.lists.Goals as goal
 
 pub returns-in-Distribution : goal.returns-in-Distribution

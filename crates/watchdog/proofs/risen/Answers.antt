@@ -1,7 +1,6 @@
 -- Below the top it rises, at the top it stays. Assumes nothing.
 use native.Mathlib.Omega.{arith}
 use Rattle.watchdog.specs.Watchdog.{risen_of}
-use borrow.Author.Rules.{rules}
 use Rattle.watchdog.proofs.risen.Goals as goal
 
 pub returns-then-timer-lt18446744073709551615 : goal.returns-then-timer-lt18446744073709551615

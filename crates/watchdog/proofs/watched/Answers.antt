@@ -1,10 +1,7 @@
 -- By the timeout and the timer; the report comes at the one value that `report_at` gives. Assumes nothing.
-use mathlib.Core.Path.{sym, subst}
-use Prim.Native.Nat.{ℕ}
+use mathlib.Core.Path.{sym}
 use native.Mathlib.Omega.{arith}
-use Rattle.watchdog.specs.Report.{ReportAt}
 use Rattle.watchdog.proofs.Laws.{disabled, reset, reported, quiet}
-use borrow.Author.Rules.{rules}
 use Rattle.watchdog.proofs.watched.Goals as goal
 
 pub returns-then-timeout-eq0 : goal.returns-then-timeout-eq0

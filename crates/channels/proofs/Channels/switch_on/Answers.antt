@@ -1,6 +1,5 @@
 -- `switch_on` meets its contract: it is the group command with the one channel in the mask, and with none where there
 -- is no such channel. Assumes nothing.
-use borrow.Author.Rules.{rules}
 use mathlib.Core.Path.{◌∙◌}
 use lib.Dec.{eqb}
 use Rattle.laws.proofs.Cases.{cases}
