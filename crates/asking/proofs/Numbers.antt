@@ -29,11 +29,7 @@ asked_number_lem : (d : Decoded) → asked_number (asked_by d) ≡ some (decoded
 asked_number_lem (Decoded.Run c) = refl
 asked_number_lem (Decoded.Refused r) = refused_number r
 
-numbered : (kind : Kind) (bid : ℕ) (mode : Mode) (sent : Bool) (s : List ℕ) → asked_number (asked_of kind bid mode sent s) ≡ number_asked kind bid mode sent s
+pub numbered : (kind : Kind) (bid : ℕ) (mode : Mode) (sent : Bool) (s : List ℕ) → asked_number (asked_of kind bid mode sent s) ≡ number_asked kind bid mode sent s
 unfolding asked_of number_asked
 numbered kind bid mode true s = asked_number_lem (decode_of kind bid (is_startup mode) s) ∙ ap some (first_check kind bid (is_startup mode) s)
 numbered kind bid mode false s = refl
-
-pub with_number : {r : Asked} (kind : Kind) (bid : ℕ) (mode : Mode) (sent : Bool) (s : List ℕ) → r ≡ asked_of kind bid mode sent s
-    → (r ≡ asked_of kind bid mode sent s) × (asked_number r ≡ number_asked kind bid mode sent s)
-with_number kind bid mode sent s e = (e, ap asked_number e ∙ numbered kind bid mode sent s)
