@@ -9,15 +9,7 @@ use Rattle.grammar.specs.Views.{seen_next, seen_number}
 use Rattle.grammar.proofs.Digits.{number_most}
 use Rattle.sheet.specs.Form.{channels_from}
 use Rattle.sheet.proofs.Parts.{channels_end, channels_none, channels_low, channels_apart, channels_more}
-use Rattle.sheet.proofs.head.read_channels.Reads as reads
-use Rattle.sheet.proofs.head.read_channels.Lts as lts
-use Rattle.channels.proofs.with_channel.Reads as with-channel-reads
-use Rattle.grammar.proofs.read_number.Reads as read-number-reads
-use Rattle.sheet.proofs.head.read_gap.Reads as read-gap-reads
 use Rattle.sheet.proofs.head.read_channels.Goals as goal
-
-record Rising (s : List ℕ) (at count set least left i : ℕ) : Type 0 where
-  same : channels_from left least set s i ≡ channels_from count 0 0 s at
 
 pub returns-in_default : goal.returns-in_default
 returns-in_default c =
@@ -51,11 +43,11 @@ pub loop-left-preserved : goal.loop-left-preserved
 loop-left-preserved c =
     let a = c.args in
     let l = c.loop-left in
-    let g = c.c-1.given in
-    let channel = sym c.read_number.ensures.is ∙ ap seen_number g.1 in
+    let g = c.in-Is in
+    let channel = sym c.read_number.ensures.is ∙ ap seen_number g.is in
     let apart = sym c.read_gap.ensures ∙ ap seen_next c.in-To.is in
     record {
-      same = rw c.with_channel-set.ensures (sym (channels_more l.set a.s.now g.0.0 g.0.1.0 l.left l.least l.i _ _ (omega arith) channel (omega arith) (omega arith) apart _ (omega arith)) ∙ l.invariant.same);
+      same = rw c.with_channel-set.ensures (sym (channels_more l.set a.s.now g.c g.next l.left l.least l.i _ _ (omega arith) channel (omega arith) (omega arith) apart _ (omega arith)) ∙ l.invariant.same);
     }
 
 pub returns : goal.returns

@@ -4,10 +4,6 @@ use Rattle.grammar.specs.Views.{seen_next, seen_number}
 use Rattle.sheet.specs.Form.{count}
 use Rattle.sheet.proofs.Parts.{text_one}
 use borrow.Author.Rules.{rules}
-use Rattle.sheet.proofs.head.read_count.Reads as reads
-use Rattle.sheet.proofs.head.read_count.Lts as lts
-use Rattle.grammar.proofs.literal.Reads as literal-reads
-use Rattle.grammar.proofs.read_number.Reads as read-number-reads
 use Rattle.sheet.proofs.head.read_count.Goals as goal
 
 pub returns-in_default : goal.returns-in_default

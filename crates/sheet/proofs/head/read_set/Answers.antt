@@ -5,11 +5,6 @@ use Rattle.grammar.specs.Views.{seen_number}
 use Rattle.sheet.specs.Form.{channel_set}
 use Rattle.sheet.proofs.Parts.{list_some}
 use borrow.Author.Rules.{rules}
-use Rattle.sheet.proofs.head.read_set.Reads as reads
-use Rattle.sheet.proofs.head.read_set.Lts as lts
-use Rattle.sheet.proofs.head.empty_list.Reads as empty-list-reads
-use Rattle.sheet.proofs.head.read_channels.Reads as read-channels-reads
-use Rattle.sheet.proofs.head.read_count.Reads as read-count-reads
 use Rattle.sheet.proofs.head.read_set.Goals as goal
 
 pub returns-in_default : goal.returns-in_default

@@ -8,14 +8,7 @@ use mathlib.Core.List.{List}
 use lib.ListN.{length}
 use Rattle.sheet.specs.Answers.{are_ticks}
 use Rattle.sheet.proofs.Runs.{are_ticks_behind, ticks_turn, ticks_end}
-use Rattle.sheet.proofs.whole.are_ticks.Reads as reads
-use Rattle.sheet.proofs.whole.are_ticks.Lts as lts
-use Rattle.sheet.proofs.ticks.read_tick.Reads as read-tick-reads
 use Rattle.sheet.proofs.whole.are_ticks.Goals as goal
-
-record Ticks (s : List ℕ) (first count : ℕ) (transfer : List ℕ) (at left : ℕ) : Type 0 where
-  room : length transfer ≡ 256
-  same : are_ticks left s at ≡ are_ticks count s first
 
 pub loop-left-preserved : goal.loop-left-preserved
 loop-left-preserved c =

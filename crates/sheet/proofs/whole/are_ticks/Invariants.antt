@@ -8,13 +8,14 @@ use mathlib.Core.List.{List}
 use lib.ListN.{length}
 use Rattle.sheet.specs.Answers.{are_ticks}
 use Rattle.sheet.proofs.Runs.{are_ticks_behind, ticks_turn, ticks_end}
-use Rattle.sheet.proofs.whole.are_ticks.Reads as reads
-use Rattle.sheet.proofs.whole.are_ticks.Lts as lts
-use Rattle.sheet.proofs.ticks.read_tick.Reads as read-tick-reads
 use Rattle.sheet.proofs.whole.are_ticks.Given as goal
 
+pub record Ticks (s : List ℕ) (first count : ℕ) (transfer : List ℕ) (at left : ℕ) : Type 0 where
+  pub room : length transfer ≡ 256
+  pub same : are_ticks left s at ≡ are_ticks count s first
+
 abbrev pub invariant-loop-left : goal.invariant-loop-left
-invariant-loop-left l = Ticks l.s l.first l.count l.at l.initial.left l.left
+invariant-loop-left l = Ticks l.s l.first l.count l.transfer l.at l.left
 
 abbrev pub decreases-loop-left : goal.decreases-loop-left
 decreases-loop-left l = l.left
