@@ -1,9 +1,11 @@
 -- A checksum that is neither 0 nor the settings' own leaves all; either of the two stores. Assumes nothing.
-use mathlib.Core.Path.{sym}
-use mathlib.Core.Logic.{⊎_elim}
+use mathlib.Core.Path.{◌≡◌, sym}
 use native.Mathlib.Omega.{arith}
 use borrow.Author.Rules.{rules}
+use mathlib.Core.Bool.{true}
+use Rattle.memory.specs.Memory.{is_right}
 use Rattle.memory.proofs.Laws.{zero_right, own_right, other_wrong, right_stores, wrong_leaves}
+use Rattle.memory.proofs.Memory.save.Goals.{then-given-ne0+else-given-checksum, else-given-ne0}
 use Rattle.memory.proofs.Memory.save.Goals as goal
 
 pub returns-then-given-checksum : goal.returns-then-given-checksum
@@ -16,10 +18,8 @@ pub returns : goal.returns
 returns c =
     let a = c.args in
     let sum = c.checksum-checksum.ensures in
-    let right =
-    ⊎_elim
-    (λ w. own_right a.given a.self (omega (arith, sum)))
-    (λ w. zero_right a.given a.self (omega arith))
-    c.if-given-ne0.branch
-    in
+    let right : is_right a.given a.self ≡ true = elim c.if-given-ne0.branch [
+      | then-given-ne0+else-given-checksum w ↦ own_right a.given a.self (omega (arith, sum))
+      | else-given-ne0 w ↦ zero_right a.given a.self (omega arith)
+    ] in
     rw (c.one_more-save_count.ensures, c.stored_count.ensures, sum) (sym (right_stores a.given a.self right))
