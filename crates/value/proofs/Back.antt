@@ -18,7 +18,7 @@ use Rattle.wire.proofs.TwosComplement.{signed_pattern, pattern_signed, pattern_f
 use Rattle.wire.specs.Floats.{nan_pattern}
 use Rattle.wire.specs.Numbers.{Bytes, number, bytes_of, signed}
 use Rattle.value.proofs.Reading.{too_short, long_enough}
-use Rattle.value.specs.Types.{type_table, width, type_of}
+use Rattle.value.specs.Types.{width, type_of}
 use Rattle.value.specs.Answers.{read_number}
 use Rattle.value.specs.Values.{spelt, wire_bytes, value_of, read_of, Proper}
 use Rattle.value.specs.declared.ParamValue.{ParamValue}

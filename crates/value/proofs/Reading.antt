@@ -13,7 +13,7 @@ use Rattle.wire.specs.Floats.{nan_pattern, float32_of, float64_of}
 use Rattle.wire.specs.Numbers.{number, bytes_of}
 use Rattle.wire.specs.declared.floats.Float32.{Float32}
 use Rattle.wire.specs.declared.floats.Float64.{Float64}
-use Rattle.value.specs.Types.{type_table, width, type_of}
+use Rattle.value.specs.Types.{width, type_of}
 use Rattle.value.specs.Answers.{read_number, is_nan_value, spelt_number, value_number}
 use Rattle.value.specs.Values.{spelt, wire_bytes, value_bytes, value_of, read_of}
 use Rattle.value.specs.declared.ParamValue.{ParamValue}
@@ -123,8 +123,8 @@ value_number_lem t s = go (ltb (length s) (width t)) (value_of t (number (width 
     go true p = refl
     go false p = refl
 
-pub with_spelt_number : {r : Parsed} (t : ValueType) (x : ℕ) → r ≡ value_of t x → (r ≡ value_of t x) × (read_number r ≡ spelt_number t x)
-with_spelt_number t x e = (e, ap read_number e ∙ spelt_number_lem t x)
+pub with_spelt_number : {r : Parsed} (t : ValueType) (x : ℕ) → r ≡ value_of t x → record { value : r ≡ value_of t x; number : read_number r ≡ spelt_number t x }
+with_spelt_number t x e = record { value = e; number = ap read_number e ∙ spelt_number_lem t x }
 
-pub with_value_number : {r : Parsed} (t : ValueType) (s : List ℕ) → r ≡ read_of t s → (r ≡ read_of t s) × (read_number r ≡ value_number t s)
-with_value_number t s e = (e, ap read_number e ∙ value_number_lem t s)
+pub with_value_number : {r : Parsed} (t : ValueType) (s : List ℕ) → r ≡ read_of t s → record { value : r ≡ read_of t s; number : read_number r ≡ value_number t s }
+with_value_number t s e = record { value = e; number = ap read_number e ∙ value_number_lem t s }

@@ -1,6 +1,6 @@
 -- Values on the wire: the least significant byte first, signed ones in two's complement, floats as their patterns of
 -- bits.
-use Rattle.std.specs.Prelude.{ℕ, ◌-◌, length, take, replicate}
+use Rattle.std.specs.Prelude.{ℕ, ◌-◌, length, replicate}
 use mathlib.Core.{Bool.cond, Bool.false, List.List, List.◌++◌, Path.◌≡◌}
 use lib.{Dec.T, Dec.ltb, Ieee.binary32, Ieee.binary64, Ieee.of_bits, Ieee.is_nan, Ieee.fits}
 use Rattle.std.specs.Int.{w8, w16, w32, w64}

@@ -54,6 +54,7 @@ pub enum Parsed {
 }
 
 // How many bytes a value of a type has.
+#[tactic(auto, unfolding(crate::specs::Types::width))]
 pub fn width(t: ValueType) -> usize
     ensures { result ≡ width t }
 {
@@ -90,6 +91,7 @@ pub fn type_of(v: ParamValue) -> ValueType
 }
 
 // The number that a value's bytes spell, and that they hold it.
+#[tactic(auto, unfolding(crate::specs::Types::width, crate::specs::Values::spelt))]
 fn spelt(v: ParamValue) -> u64
     ensures { (result ≡ spelt v) × (result < 256 ^ width (type_of v)) }
 {

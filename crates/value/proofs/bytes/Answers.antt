@@ -1,6 +1,5 @@
 -- Eight bytes of the number are those of the value and then zeros.
 use mathlib.Core.Path.{ap, ◌∙◌}
-use borrow.Author.Rules.{rules}
 use Rattle.value.proofs.Reading.{in_room}
 use Rattle.value.specs.Types.{width}
 use Rattle.value.proofs.bytes.Goals as goal
