@@ -5,7 +5,7 @@ use Rattle.single.proofs.Seen.{same_line, same_next, same_number, same_signed, s
 use Rattle.grammar.proofs.peek.Reads as peek
 use Rattle.grammar.proofs.literal.Reads as literal
 use Rattle.grammar.proofs.find_byte.Reads as find-byte
-use Rattle.grammar.proofs.read_number.Reads as read_number_lem
+use Rattle.grammar.proofs.read_number.Reads as read_number
 use Rattle.grammar.proofs.read_signed.Reads as read-signed
 use Rattle.grammar.proofs.read_word.Reads as read_word
 

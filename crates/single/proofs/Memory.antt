@@ -2,7 +2,7 @@
 use mathlib.Core.Path.{sym, ◌∙◌}
 use Rattle.single.specs.Single.{Single}
 use Rattle.memory.proofs.Store.empty.Reads as store-empty
-use Rattle.memory.proofs.one_more.Reads as one_more_lem
+use Rattle.memory.proofs.one_more.Reads as one_more
 use Rattle.memory.proofs.Memory.loaded.Reads as memory-loaded
 use Rattle.memory.proofs.Memory.load.Reads as memory-load
 use Rattle.memory.proofs.Memory.to_defaults.Reads as memory-to-defaults
