@@ -15,13 +15,13 @@ pub slice_bounds-frame-end : goal.slice_bounds-frame-end
 slice_bounds-frame-end c = lent c.within-n.result c.args.room c.untouched-buffer.result c.within-n.ensures c.untouched-buffer.ensures
 
 pub slice_bounds-first-end : goal.slice_bounds-first-end
-slice_bounds-first-end c = let l : length c.frame-framed.new.1.0 ≡ length (take c.within-n.result c.untouched-buffer.result) = search rules in
-    whole c.within-n.result c.args.room c.untouched-buffer.result c.within-n.ensures c.untouched-buffer.ensures c.frame-framed.new.1.0 l
+slice_bounds-first-end c = let l : length c.frame-framed.new.out ≡ length (take c.within-n.result c.untouched-buffer.result) = search rules in
+    whole c.within-n.result c.args.room c.untouched-buffer.result c.within-n.ensures c.untouched-buffer.ensures c.frame-framed.new.out l
 
 pub returns : goal.returns
 unfolding framing_line
-returns c = let l : length c.frame-framed.new.1.0 ≡ length (take c.within-n.result c.untouched-buffer.result) = search rules in
+returns c = let l : length c.frame-framed.new.out ≡ length (take c.within-n.result c.untouched-buffer.result) = search rules in
     let u = untouched c.within-n.result c.args.room c.untouched-buffer.result c.within-n.ensures c.untouched-buffer.ensures in
-    let e = c.first.ensures ∙ front c.within-n.result c.args.room c.untouched-buffer.result c.within-n.ensures c.untouched-buffer.ensures c.frame-framed.new.1.0 l ∙ c.frame-framed.ensures.held ∙ ap (laid (due_of c.args.m)) u in
+    let e = c.first.ensures ∙ front c.within-n.result c.args.room c.untouched-buffer.result c.within-n.ensures c.untouched-buffer.ensures c.frame-framed.new.out l ∙ c.frame-framed.ensures.held ∙ ap (laid (due_of c.args.m)) u in
     let a = c.frame-framed.ensures.answer ∙ ap (λ (s : List ℕ). framed_of (due_of c.args.m) (length s)) u in
     rw (c.framed.ensures, e, a)
