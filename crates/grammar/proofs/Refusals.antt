@@ -1,5 +1,4 @@
 -- The number of an answer goes by what was read. Assumes nothing.
-use Prim.Native.Nat.{ℕ}
 use mathlib.Core.Path.{◌≡◌, ap}
 use Rattle.grammar.specs.Grammar.{Read}
 use Rattle.grammar.specs.Views.{refusal_of}

@@ -2,7 +2,6 @@
 use native.Mathlib.Omega.{arith}
 use mathlib.Core.Path.{sym}
 use Rattle.grammar.proofs.Digits.{digit_low, digit_high, digit_is}
-use borrow.Author.Rules.{rules}
 use Rattle.grammar.proofs.decimal.Goals as goal
 
 pub returns-then-x-lt48-clause-is : goal.returns-then-x-lt48-clause-is

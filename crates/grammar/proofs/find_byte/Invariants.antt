@@ -1,14 +1,10 @@
 -- `find_byte` meets its contract. The invariant: the first place from here on is the first place from `at` on. Assumes
 -- nothing.
-use borrow.Author.Rules.{rules}
-use native.Mathlib.Omega.{arith}
 use Prim.Native.Nat.{ℕ, ◌≤◌, ◌-◌}
-use mathlib.Core.Path.{◌≡◌, sym, ap, ◌∙◌}
+use mathlib.Core.Path.{◌≡◌}
 use mathlib.Core.List.{List}
 use lib.ListN.{length, drop}
 use Rattle.grammar.specs.Grammar.{first_from}
-use Rattle.grammar.specs.Views.{refusal_of}
-use Rattle.grammar.proofs.Bytes.{first_none, first_here, first_next, up_to_place, up_to_never}
 use Rattle.grammar.proofs.find_byte.Given as goal
 
 pub record Places (b : ℕ) (s : List ℕ) (at i : ℕ) : Type 0 where

@@ -1,14 +1,10 @@
 -- `literal` meets its contract. The invariant: what is left of the bytes stands here just where all of them stand at
 -- `at`. Assumes nothing.
-use borrow.Author.Rules.{rules}
-use native.Mathlib.Omega.{arith}
 use Prim.Native.Nat.{ℕ, ◌≤◌, ◌-◌}
-use mathlib.Core.Path.{◌≡◌, sym, ◌∙◌}
+use mathlib.Core.Path.{◌≡◌}
 use mathlib.Core.List.{List}
 use lib.ListN.{length, drop}
 use Rattle.grammar.specs.Grammar.{text}
-use Rattle.grammar.proofs.Refusals.{with_number}
-use Rattle.grammar.proofs.Bytes.{text_end, text_same, text_other}
 use Rattle.grammar.proofs.literal.Given as goal
 
 pub record Bytes (s : List ℕ) (at : ℕ) (wanted : List ℕ) (i k : ℕ) : Type 0 where

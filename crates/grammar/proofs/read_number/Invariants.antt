@@ -1,14 +1,10 @@
 -- `read_number` meets its contract. The invariant: what v and the digits from here on spell is what the digits from
 -- `at` on spell, and both end at the same place. Assumes nothing.
-use borrow.Author.Rules.{rules}
-use native.Mathlib.Omega.{arith}
-use Prim.Native.Nat.{ℕ, ◌+◌, ◌≤◌, ◌-◌, ◌*◌}
-use mathlib.Core.Path.{◌≡◌, sym, ap, ◌∙◌}
-use mathlib.Core.List.{List, []}
+use Prim.Native.Nat.{ℕ, ◌+◌, ◌≤◌, ◌-◌}
+use mathlib.Core.Path.{◌≡◌}
+use mathlib.Core.List.{List}
 use lib.ListN.{length, drop}
-use Rattle.grammar.specs.Numbers.{digits, spells, digit_at}
-use Rattle.grammar.proofs.Refusals.{with_number}
-use Rattle.grammar.proofs.Digits.{stop, more, spells_grows, spells_end, spells_turn, number_none, number_zero, number_led, number_over, number_is}
+use Rattle.grammar.specs.Numbers.{digits, spells}
 use Rattle.grammar.proofs.read_number.Given as goal
 
 pub record Spelt (s : List ℕ) (at limit v i : ℕ) : Type 0 where

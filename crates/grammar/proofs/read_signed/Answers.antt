@@ -8,7 +8,6 @@ use Rattle.grammar.specs.Views.{seen_number}
 use Rattle.grammar.proofs.Digits.{number_most}
 use Rattle.grammar.proofs.Signs.{pattern_above, pattern_below, kept, minus_fails, minus_zero, minus_is, plus_fails, plus_is}
 use Rattle.grammar.proofs.Refusals.{with_number}
-use borrow.Author.Rules.{rules}
 use Rattle.grammar.proofs.read_signed.Goals as goal
 
 pub overflow_add-at : goal.overflow_add-at

@@ -1,15 +1,9 @@
 -- `read_word` meets its contract. The invariant: the digits that are left, behind those that spelt v, spell what all
 -- eight do. Assumes nothing.
-use borrow.Author.Rules.{rules}
-use native.Mathlib.Omega.{arith}
 use Prim.Native.Nat.{ℕ, ◌*◌, ◌^◌, ◌≤◌, ◌<◌, ◌-◌}
-use mathlib.Core.Path.{◌≡◌, sym, ap, ◌∙◌}
+use mathlib.Core.Path.{◌≡◌}
 use mathlib.Core.List.{List}
-use Rattle.hexadecimal.specs.Hex.{digit_of}
-use Rattle.hexadecimal.specs.Passes.{worth}
 use Rattle.grammar.specs.Numbers.{word}
-use Rattle.grammar.proofs.Refusals.{with_number}
-use Rattle.grammar.proofs.Words.{past_bad, word_end, word_bad, word_more, grows, small}
 use Rattle.grammar.proofs.read_word.Given as goal
 
 pub record Digits (s : List ℕ) (at v i left : ℕ) : Type 0 where
