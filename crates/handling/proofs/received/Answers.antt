@@ -14,13 +14,13 @@ pub slice_bounds-read_line-end : goal.slice_bounds-read_line-end
 slice_bounds-read_line-end c = lent c.within-n.result c.args.room c.untouched-buffer.result c.within-n.ensures c.untouched-buffer.ensures
 
 pub slice_bounds-first-end : goal.slice_bounds-first-end
-slice_bounds-first-end c = let l : length c.read_line-heard.new.1.1.0 ≡ length (take c.within-n.result c.untouched-buffer.result) = search rules in
-    whole c.within-n.result c.args.room c.untouched-buffer.result c.within-n.ensures c.untouched-buffer.ensures c.read_line-heard.new.1.1.0 l
+slice_bounds-first-end c = let l : length c.read_line-heard.new.scratch ≡ length (take c.within-n.result c.untouched-buffer.result) = search rules in
+    whole c.within-n.result c.args.room c.untouched-buffer.result c.within-n.ensures c.untouched-buffer.ensures c.read_line-heard.new.scratch l
 
 pub returns : goal.returns
 unfolding received_of
-returns c = let l : length c.read_line-heard.new.1.1.0 ≡ length (take c.within-n.result c.untouched-buffer.result) = search rules in
+returns c = let l : length c.read_line-heard.new.scratch ≡ length (take c.within-n.result c.untouched-buffer.result) = search rules in
     let u = untouched c.within-n.result c.args.room c.untouched-buffer.result c.within-n.ensures c.untouched-buffer.ensures in
-    let e = c.first.ensures ∙ front c.within-n.result c.args.room c.untouched-buffer.result c.within-n.ensures c.untouched-buffer.ensures c.read_line-heard.new.1.1.0 l ∙ c.read_line-heard.ensures.held ∙ ap (line_held c.args.bench.machine.board.form c.args.bytes.now) u in
+    let e = c.first.ensures ∙ front c.within-n.result c.args.room c.untouched-buffer.result c.within-n.ensures c.untouched-buffer.ensures c.read_line-heard.new.scratch l ∙ c.read_line-heard.ensures.held ∙ ap (line_held c.args.bench.machine.board.form c.args.bytes.now) u in
     let a = c.read_line-heard.ensures.answer ∙ ap (λ (s : List ℕ). heard_of c.args.bytes.now (length s) c.args.bench.machine) u in
     rw (c.answer.ensures, e, ← a)
