@@ -5,12 +5,11 @@ use mathlib.Core.Bool.{Bool, true, false, cond, ◌||◌, false≢true}
 use mathlib.Core.List.{List, [], ◌∷◌, ◌++◌}
 use lib.IntN.{ℤ}
 use Rattle.laws.proofs.Cases.{cases}
-use Rattle.value.specs.declared.ValueType.{ValueType}
 use Rattle.value.specs.declared.ValueType.TheVariants.{Int8, Uint8, Int16, Uint16, Int32, Uint32, Float, Int64, Uint64, Double}
 use Rattle.settings.specs.declared.Parameter.{Parameter}
 use Rattle.settings.specs.declared.Got.{Got}
 use Rattle.settings.specs.declared.Settings.{Settings}
-use Rattle.settings.specs.Table.{Row, ◌to◌are◌with◌default◌, ◌to◌are_read◌, read_write_rows, read_only_rows, lies, Entry, read_write, read_only, missing, find, row_of, parameter_in, parameter_of}
+use Rattle.settings.specs.Table.{Row, ◌to◌are◌with◌default◌, ◌to◌are_read◌, read_write_rows, read_only_rows, lies, find, row_of, parameter_in, parameter_of}
 use Rattle.settings.specs.Values.{setting_of, got_as, get_of}
 use Rattle.settings.specs.Answers.{set_number, get_number, lists_id, settable_number, known_number}
 use Rattle.settings.proofs.Places.{none}

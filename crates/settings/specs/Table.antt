@@ -6,7 +6,7 @@ use mathlib.Core.{Bool.Bool, Bool.cond, Bool.◌&&◌, List.List, List.[], List.
 use lib.{Dec.leb, Dec.eqb, IntN.ℤ, IntN.pos, IntN.negsuc, Signed.lt_z, Signed.le_z}
 use Rattle.kinds.specs.{Kinds.board_of, declared.Kind.Kind}
 use Rattle.value.specs.declared.ValueType.{ValueType}
-use Rattle.value.specs.declared.ValueType.TheVariants.{Int8, Uint8, Int16, Uint16, Int32, Uint32, Float, Int64, Uint64, Double}
+use Rattle.value.specs.declared.ValueType.TheVariants.{Int8, Uint8, Int16, Uint16, Uint32}
 use Rattle.value.specs.Types.{Sign, Signed, Unsigned, sign_in, bytes_in, code_of, type_table as types}
 use Rattle.settings.specs.declared.Parameter.{Parameter}
 

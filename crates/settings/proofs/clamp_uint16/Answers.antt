@@ -2,7 +2,6 @@
 use mathlib.Core.Path.{ap}
 use Prim.Native.Nat.{◌+◌}
 use native.Mathlib.Omega.{arith}
-use borrow.Author.Rules.{rules}
 use lib.IntN.{pos}
 use Rattle.laws.proofs.Signed.{order, same, yes_lt, yes_le, plus, minus}
 use Rattle.value.specs.declared.ValueType.TheVariants.{Uint16}

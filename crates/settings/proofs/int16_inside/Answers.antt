@@ -1,7 +1,6 @@
 -- The tests that led to each answer say how the value compares with the two ends.
 use mathlib.Core.Path.{◌∙◌}
 use Prim.Native.Nat.{◌+◌}
-use borrow.Author.Rules.{rules}
 use mir.Syntax.{w16}
 use mir.ValLaws.{to_z-of_z}
 use Rattle.laws.proofs.Signed.{order, same, yes_le, no_le}

@@ -1,6 +1,5 @@
 -- The place of an id's value says what the id is.
 use mathlib.Core.Path.{sym, ◌∙◌}
-use borrow.Author.Rules.{rules}
 use Rattle.settings.proofs.Places.{stands_at}
 use Rattle.settings.proofs.Numbers.{with_set_number}
 use Rattle.settings.proofs.parameter_of.Goals as goal

@@ -1,7 +1,6 @@
 -- Each way out has the id in one block of the rows; the last has it in none, since it would have left before.
 use mathlib.Core.Path.{sym, ap, ◌∙◌}
 use native.Mathlib.Omega.{arith}
-use borrow.Author.Rules.{rules}
 use Rattle.settings.specs.declared.Place.{Place}
 use Rattle.settings.specs.Places.{place_of}
 use Rattle.settings.proofs.Rows.{lies_yes, lies_no, int8s, uint8s, int16s, uint16s, uint32s, int8s_read, uint8s_read, int16s_read, uint16s_read, uint32s_read}

@@ -2,7 +2,6 @@
 use mathlib.Core.Path.{◌≡◌, sym, ap, ◌∙◌}
 use Prim.Native.Nat.{ℕ}
 use native.Mathlib.Omega.{arith}
-use borrow.Author.Rules.{rules}
 use Rattle.settings.specs.Values.{get_of, defaults_of}
 use Rattle.settings.specs.declared.Settings.{Settings}
 use Rattle.settings.proofs.Resets.{reset_sets, reset_unread}

@@ -1,7 +1,6 @@
 -- The id's place is the one that is written, with the value at the nearer end of the id's range.
 use mathlib.Core.Path.{◌≡◌, refl, sym, ap, ◌∙◌}
 use native.Mathlib.Omega.{arith}
-use borrow.Author.Rules.{rules}
 use mir.Syntax.{w16}
 use mir.ValLaws.{to_z-of_z}
 use Rattle.value.specs.declared.ValueType.TheVariants.{Int16}

@@ -1,7 +1,6 @@
 -- The id's place is the one that is written, and no row of the type gives a range, so the value is kept as it is.
 use mathlib.Core.Path.{refl, sym, ◌∙◌}
 use native.Mathlib.Omega.{arith}
-use borrow.Author.Rules.{rules}
 use mir.Syntax.{w8}
 use mir.ValLaws.{to_z-of_z}
 use Rattle.value.specs.declared.ValueType.TheVariants.{Int8}

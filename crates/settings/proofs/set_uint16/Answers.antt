@@ -1,7 +1,6 @@
 -- The id's place is the one that is written, with the value at the nearer end of the id's range.
 use mathlib.Core.Path.{◌≡◌, refl, sym, ◌∙◌}
 use native.Mathlib.Omega.{arith}
-use borrow.Author.Rules.{rules}
 use lib.IntN.{pos}
 use Rattle.value.specs.declared.ValueType.TheVariants.{Uint16}
 use Rattle.value.specs.declared.ParamValue.{ParamValue}

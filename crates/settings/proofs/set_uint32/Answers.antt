@@ -1,7 +1,6 @@
 -- The id's place is the one that is written, and no row of the type gives a range, so the value is kept as it is.
 use mathlib.Core.Path.{refl, sym, ◌∙◌}
 use native.Mathlib.Omega.{arith}
-use borrow.Author.Rules.{rules}
 use lib.IntN.{pos}
 use Rattle.value.specs.declared.ValueType.TheVariants.{Uint32}
 use Rattle.value.specs.declared.ParamValue.{ParamValue}

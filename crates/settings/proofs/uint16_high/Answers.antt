@@ -1,6 +1,5 @@
 -- The table is the column of the ends that the rows give.
 use mathlib.Core.Path.{refl}
-use borrow.Author.Rules.{rules}
 use Rattle.settings.specs.Table.{high_of, row_of, find, lies, read_write_rows, read_only_rows, column}
 use Rattle.settings.proofs.Rows.{column_of}
 use Rattle.settings.proofs.uint16_high.Goals as goal

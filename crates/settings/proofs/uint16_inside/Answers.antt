@@ -1,6 +1,5 @@
 -- The tests that led to each answer say how the value compares with the two ends.
 use Prim.Native.Nat.{◌+◌}
-use borrow.Author.Rules.{rules}
 use lib.IntN.{pos}
 use Rattle.laws.proofs.Signed.{order, same, plus, minus, yes_le, no_le}
 use Rattle.settings.specs.Table.{low_of, high_of, inside_of}

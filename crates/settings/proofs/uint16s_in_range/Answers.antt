@@ -2,13 +2,11 @@
 use mathlib.Core.Bool.{true, false}
 use mathlib.Core.Path.{◌≡◌, refl, sym, ap, ◌∙◌}
 use mathlib.Core.List.{List}
-use Prim.Native.Nat.{ℕ, ◌+◌, ◌-◌, ◌≤◌}
+use Prim.Native.Nat.{ℕ, ◌+◌}
 use native.Mathlib.Omega.{arith}
-use borrow.Author.Rules.{rules}
 use lib.IntN.{pos}
 use lib.ListN.{get_or}
-use Rattle.settings.specs.declared.Settings.{Settings}
-use Rattle.settings.specs.Table.{from, inside_of}
+use Rattle.settings.specs.Table.{inside_of}
 use Rattle.settings.specs.Values.{all_inside}
 use Rattle.settings.proofs.Places.{uint16_number}
 use Rattle.settings.proofs.Walks.{from_start, next_in, next_out, none_left}

@@ -1,6 +1,4 @@
 -- The constant arrays are what the rows compute to at each id, by the kind of board.
-use mathlib.Core.Path.{refl}
-use borrow.Author.Rules.{rules}
 use Rattle.settings.specs.Table.{default_of, clamp_of, at_most, at_least, low_of, high_of, row_of, find, lies, read_write_rows, read_only_rows, column}
 use Rattle.settings.specs.Values.{defaults_of, default_n}
 use Rattle.settings.proofs.uint32_defaults.Goals as goal
