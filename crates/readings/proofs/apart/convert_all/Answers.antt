@@ -20,16 +20,16 @@ none = record { 0 = pos 0 }
 
 pub loop-i-init : goal.loop-i-init
 loop-i-init c =
-    let l : length c.args.t1 ≡ 130 = search rules in
-    (l, begun 122 (replicate 122 none) (converted_by layout c.args.t1) (length_converted layout c.args.t1 (omega (arith, length_layout)) ∙ length_layout) (length-replicate {A = Engineering} 122 none))
+    let l : length c.args.raws ≡ 130 = search rules in
+    (l, begun 122 (replicate 122 none) (converted_by layout c.args.raws) (length_converted layout c.args.raws (omega (arith, length_layout)) ∙ length_layout) (length-replicate {A = Engineering} 122 none))
 
 pub loop-i-preserved : goal.loop-i-preserved
 loop-i-preserved c =
-    let raws = c.args.t1 in
+    let raws = c.args.raws in
     let i = c.loop-i.i in
     let at = converted_at layout raws i (POWE (VIP-CH 31) by ChannelPowe) (raw_of 0) none (omega (arith, length_layout)) (omega (arith, c.loop-i.invariant.0)) in
     let e = c.convert-reading.ensures ∙ ap (λ (row : Row). engineering_of row (get_or raws i (raw_of 0))) c.row_at-row.ensures in
     (c.loop-i.invariant.0, turn 122 (replicate 122 none) (converted_by layout raws) none c.convert-reading.result c.loop-i.readings i c.loop-i.invariant.1 (omega arith) (e ∙ sym at))
 
 pub returns : goal.returns
-returns c = ended 122 (replicate 122 none) (converted_by layout c.args.t1) c.loop-i.readings c.loop-i.i c.loop-i.invariant.1 (omega arith)
+returns c = ended 122 (replicate 122 none) (converted_by layout c.args.raws) c.loop-i.readings c.loop-i.i c.loop-i.invariant.1 (omega arith)

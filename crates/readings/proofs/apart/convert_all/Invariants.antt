@@ -16,7 +16,7 @@ use Rattle.readings.proofs.Places.{length_layout, length_converted, converted_at
 use Rattle.readings.proofs.apart.convert_all.Given as goal
 
 abbrev pub invariant-loop-i : goal.invariant-loop-i
-invariant-loop-i l = (length l.raws ≡ 130) × Filled 122 l.initial.readings (converted_by layout l.raws) l.initial.i l.i
+invariant-loop-i l = (length l.raws ≡ 130) × Filled 122 (replicate 122 (record { 0 = pos 0 })) (converted_by layout l.raws) l.readings l.i
 
 abbrev pub decreases-loop-i : goal.decreases-loop-i
 decreases-loop-i l = 122 - l.i

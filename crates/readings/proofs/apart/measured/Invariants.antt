@@ -13,7 +13,7 @@ use Rattle.readings.proofs.Filling.{filled}
 use Rattle.readings.proofs.apart.measured.Given as goal
 
 abbrev pub invariant-loop-i : goal.invariant-loop-i
-invariant-loop-i l = (l.i ≤ l.count) × (l.initial.i ≡ paste l.initial.raws 0 (map raw_of l.words) l.i)
+invariant-loop-i l = (l.i ≤ l.count) × (l.raws ≡ paste none_measured 0 (map raw_of l.words) l.i)
 
 abbrev pub decreases-loop-i : goal.decreases-loop-i
 decreases-loop-i l = l.count - l.i

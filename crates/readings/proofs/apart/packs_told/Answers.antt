@@ -13,16 +13,16 @@ use Rattle.readings.proofs.apart.packs_told.Goals as goal
 
 pub loop-i-init : goal.loop-i-init
 loop-i-init c =
-    let l : length c.args.t1 ≡ 130 = search rules in
-    (l, begun 39 (replicate 39 0) (told_by packs c.args.t1) (length_packs_told c.args.t1 l) (length-replicate {A = ℕ} 39 0))
+    let l : length c.args.raws ≡ 130 = search rules in
+    (l, begun 39 (replicate 39 0) (told_by packs c.args.raws) (length_packs_told c.args.raws l) (length-replicate {A = ℕ} 39 0))
 
 pub loop-i-preserved : goal.loop-i-preserved
 loop-i-preserved c =
-    let raws = c.args.t1 in
+    let raws = c.args.raws in
     let i = c.loop-i.i in
     let at = told_at raws i (raw_of 0) 0 c.loop-i.invariant.0 (omega arith) in
     let e = c.told.ensures ∙ ap (λ (way : Way). word_by way (get_or raws i (raw_of 0))) c.way_at-way.ensures in
     (c.loop-i.invariant.0, turn 39 (replicate 39 0) (told_by packs raws) 0 c.told.result c.loop-i.words i c.loop-i.invariant.1 (omega arith) (e ∙ sym at))
 
 pub returns : goal.returns
-returns c = ended 39 (replicate 39 0) (told_by packs c.args.t1) c.loop-i.words c.loop-i.i c.loop-i.invariant.1 (omega arith)
+returns c = ended 39 (replicate 39 0) (told_by packs c.args.raws) c.loop-i.words c.loop-i.i c.loop-i.invariant.1 (omega arith)

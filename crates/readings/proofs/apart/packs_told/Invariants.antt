@@ -12,7 +12,7 @@ use Rattle.readings.proofs.PackPlaces.{length_packs_told, told_at}
 use Rattle.readings.proofs.apart.packs_told.Given as goal
 
 abbrev pub invariant-loop-i : goal.invariant-loop-i
-invariant-loop-i l = (length l.raws ≡ 130) × Filled 39 l.initial.words (told_by packs l.raws) l.initial.i l.i
+invariant-loop-i l = (length l.raws ≡ 130) × Filled 39 (replicate 39 0) (told_by packs l.raws) l.words l.i
 
 abbrev pub decreases-loop-i : goal.decreases-loop-i
 decreases-loop-i l = 39 - l.i

@@ -16,12 +16,12 @@ use Rattle.readings.proofs.apart.patterns.Goals as goal
 
 pub loop-i-init : goal.loop-i-init
 unfolding engineering_words
-loop-i-init c = begun 122 (replicate 122 0) (engineering_words c.args.t1) (length-map c.args.t1 (λ (r : Engineering). pattern 2 r.0) ∙ search rules) (length-replicate {A = ℕ} 122 0)
+loop-i-init c = begun 122 (replicate 122 0) (engineering_words c.args.readings) (length-map c.args.readings (λ (r : Engineering). pattern 2 r.0) ∙ search rules) (length-replicate {A = ℕ} 122 0)
 
 pub loop-i-preserved : goal.loop-i-preserved
 unfolding engineering_words pattern
 loop-i-preserved c =
-    let readings = c.args.t1 in
+    let readings = c.args.readings in
     let none : Engineering = record { 0 = pos 0 } in
     let x = (get_or readings c.loop-i.i none).0 in
     let f : SFits w16 x = search rules in
@@ -29,4 +29,4 @@ loop-i-preserved c =
     turn 122 (replicate 122 0) (engineering_words readings) 0 c.bits16.result c.loop-i.words c.loop-i.i c.loop-i.invariant (omega arith) (e ∙ sym (get_or-map (λ (r : Engineering). pattern 2 r.0) readings c.loop-i.i none))
 
 pub returns : goal.returns
-returns c = ended 122 (replicate 122 0) (engineering_words c.args.t1) c.loop-i.words c.loop-i.i c.loop-i.invariant (omega arith)
+returns c = ended 122 (replicate 122 0) (engineering_words c.args.readings) c.loop-i.words c.loop-i.i c.loop-i.invariant (omega arith)

@@ -15,7 +15,7 @@ use Rattle.readings.proofs.Filling.{Filled, begun, turn, ended}
 use Rattle.readings.proofs.apart.patterns.Given as goal
 
 abbrev pub invariant-loop-i : goal.invariant-loop-i
-invariant-loop-i l = Filled 122 l.initial.words (engineering_words l.readings) l.initial.i l.i
+invariant-loop-i l = Filled 122 (replicate 122 0) (engineering_words l.readings) l.words l.i
 
 abbrev pub decreases-loop-i : goal.decreases-loop-i
 decreases-loop-i l = 122 - l.i

@@ -11,13 +11,13 @@ use Rattle.readings.proofs.apart.words.Goals as goal
 
 pub loop-i-init : goal.loop-i-init
 unfolding raw_words
-loop-i-init c = begun 130 (replicate 130 0) (raw_words c.args.t1) (length-map c.args.t1 (λ (r : Raw). r.0) ∙ search rules) (length-replicate {A = ℕ} 130 0)
+loop-i-init c = begun 130 (replicate 130 0) (raw_words c.args.raws) (length-map c.args.raws (λ (r : Raw). r.0) ∙ search rules) (length-replicate {A = ℕ} 130 0)
 
 pub loop-i-preserved : goal.loop-i-preserved
 unfolding raw_words
 loop-i-preserved c =
-    let raws = c.args.t1 in
+    let raws = c.args.raws in
     turn 130 (replicate 130 0) (raw_words raws) 0 (get_or raws c.loop-i.i (raw_of 0)).0 c.loop-i.words c.loop-i.i c.loop-i.invariant (omega arith) (sym (get_or-map (λ (r : Raw). r.0) raws c.loop-i.i (raw_of 0)))
 
 pub returns : goal.returns
-returns c = ended 130 (replicate 130 0) (raw_words c.args.t1) c.loop-i.words c.loop-i.i c.loop-i.invariant (omega arith)
+returns c = ended 130 (replicate 130 0) (raw_words c.args.raws) c.loop-i.words c.loop-i.i c.loop-i.invariant (omega arith)

@@ -10,7 +10,7 @@ use Rattle.readings.proofs.Filling.{Filled, begun, turn, ended}
 use Rattle.readings.proofs.apart.words.Given as goal
 
 abbrev pub invariant-loop-i : goal.invariant-loop-i
-invariant-loop-i l = Filled 130 l.initial.words (raw_words l.raws) l.initial.i l.i
+invariant-loop-i l = Filled 130 (replicate 130 0) (raw_words l.raws) l.words l.i
 
 abbrev pub decreases-loop-i : goal.decreases-loop-i
 decreases-loop-i l = 130 - l.i
