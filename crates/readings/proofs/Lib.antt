@@ -3,4 +3,3 @@ pub mod Filling
 pub mod PackPlaces
 pub mod Places
 pub mod Rows
-pub mod Scaled

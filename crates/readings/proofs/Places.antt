@@ -94,12 +94,6 @@ module _ (p : Place) where
       ∙ up_to_at (λ k. channel (VIP-CH k)) (λ k. refl) 32 c q p h g
 
 -- ---- the row of a word within its block
-pub last_of_three : (a b c : Place) (word : ℕ) → (word ≡ 0 → ⊥) → (word ≡ 1 → ⊥) → get_or (a ∷ b ∷ c ∷ []) word c ≡ c
-last_of_three a b c zero z o = absurd (z refl)
-last_of_three a b c (suc zero) z o = absurd (o refl)
-last_of_three a b c (suc (suc zero)) z o = refl
-last_of_three a b c (suc (suc (suc word))) z o = refl
-
 -- the block makes no difference
 same_rows : (block : Block) (word : ℕ) (p : Place) → word < 3 → row_of (get_or (vip block) word p) ≡ vip_row word
 same_rows block zero p h = refl

@@ -73,6 +73,7 @@ pub fn convert(raw: Raw, row: Row) -> Engineering
 }
 
 // A raw reading of BAT_TEMP2 or BAT_TEMP3 in hundredths of a degree, by the curve of Table 3-13.
+#[tactic(auto, unfolding(crate::specs::Packs::pack_temperature))]
 pub fn pack_temperature(raw: Raw) -> Engineering
     ensures { result ≡ pack_temperature raw }
 {
@@ -139,6 +140,7 @@ fn pattern_of(reading: Engineering) -> u16
 }
 
 // The word that 0x62 tells of a raw reading, in the way of its field.
+#[tactic(auto, unfolding(crate::specs::Packs::word_by))]
 fn told(raw: Raw, way: Way) -> u16
     ensures { result ≡ word_by way raw }
 {

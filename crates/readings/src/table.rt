@@ -81,6 +81,7 @@ fn is_vipd(row: Row) -> bool
 }
 
 // The number that a word stands for.
+#[tactic(auto, unfolding(crate::specs::Table::number_of))]
 fn number(word: u16, vipd: bool) -> i64
     ensures { result ≡ number_of vipd (raw_of word) }
 {
