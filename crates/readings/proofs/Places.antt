@@ -93,8 +93,7 @@ module _ (p : Place) where
       past (supply ++ vip VIP_INPUT ++ domains) channels 26 (3 * c + q) p length_front
       ∙ up_to_at (λ k. channel (VIP-CH k)) (λ k. refl) 32 c q p h g
 
--- ---- the row of a word within its block
--- the block makes no difference
+-- ---- the row of a word within its block: the block makes no difference
 same_rows : (block : Block) (word : ℕ) (p : Place) → word < 3 → row_of (get_or (vip block) word p) ≡ vip_row word
 same_rows block zero p h = refl
 same_rows block (suc zero) p h = refl
