@@ -1,6 +1,5 @@
 -- The answer of the read of hex, case by case. Assumes nothing.
 use mathlib.Core.Path.{sym, ◌∙◌}
-use borrow.Author.Rules.{rules}
 use Rattle.reading.specs.Lines.{ascii_line}
 use lib.ListN.{length}
 use Rattle.reading.proofs.Numbers.{with_ascii_number}

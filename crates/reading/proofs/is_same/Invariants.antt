@@ -1,13 +1,9 @@
 -- What is left of the one stands at the front of what is left of the other just where the whole does. Assumes nothing.
-use borrow.Author.Rules.{rules}
-use native.Mathlib.Omega.{arith}
 use Prim.Native.Nat.{ℕ, ◌≤◌, ◌-◌}
-use mathlib.Core.Path.{◌≡◌, refl, sym, ◌∙◌}
+use mathlib.Core.Path.{◌≡◌}
 use mathlib.Core.List.{List}
 use lib.ListN.{length, drop}
 use Rattle.frames.specs.Frames.{starts_with}
-use Rattle.frames.proofs.Scanning.{starts_end, starts_same, starts_other}
-use Rattle.reading.proofs.Same.{different, differing, alike}
 use Rattle.reading.proofs.is_same.Given as goal
 
 pub record Bytes (s text : List ℕ) (i : ℕ) : Type 0 where

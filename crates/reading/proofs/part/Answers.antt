@@ -3,7 +3,6 @@ use native.Mathlib.Omega.{arith}
 use Prim.Native.Nat.{◌-◌}
 use mathlib.Core.Path.{◌≡◌}
 use Rattle.reading.specs.Lines.{part}
-use borrow.Author.Rules.{rules}
 use Rattle.reading.proofs.part.Goals as goal
 
 pub returns-then-end-start : goal.returns-then-end-start

@@ -1,5 +1,4 @@
 -- The form says which of the two slices it is. Assumes nothing.
-use borrow.Author.Rules.{rules}
 use Rattle.reading.proofs.payload.Goals as goal
 
 pub returns-in-Raw : goal.returns-in-Raw

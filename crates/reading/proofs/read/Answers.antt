@@ -1,7 +1,6 @@
 -- The scan's answer, then the switch's, then the command's. Assumes nothing.
 use mathlib.Core.Path.{refl, sym, ◌∙◌}
-use Rattle.reading.specs.Lines.{line_of, line_held, part}
-use borrow.Author.Rules.{rules}
+use Rattle.reading.specs.Lines.{line_of, line_held}
 use lib.ListN.{length}
 use Rattle.reading.proofs.Numbers.{with_line_number}
 use Rattle.reading.proofs.read.Goals as goal
