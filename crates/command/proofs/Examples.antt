@@ -13,7 +13,6 @@ use Rattle.kinds.specs.declared.Kind.{Kind}
 use Rattle.kinds.specs.declared.Kind.TheVariants.{Distribution, Battery}
 use Rattle.command.specs.Table.{command_table, find}
 use Rattle.command.specs.Decode.{fewer_than_four, header_is, group_in, carried, listed, decode_of}
-use Rattle.command.specs.declared.Group.{Group}
 use Rattle.command.specs.declared.Command.TheVariants.{CancelOperation, Report}
 use Rattle.command.specs.declared.Layout.TheVariants.{Short}
 use Rattle.command.specs.declared.Decoded.{Decoded}

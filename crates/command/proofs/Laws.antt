@@ -20,7 +20,6 @@ use Rattle.command.specs.Table.{Row, ◌is◌of◌bytes, ◌is◌of◌bytes_with
 use Rattle.command.specs.Decode.{fewer_than_four, header_is, stid_of, ivid_of, code_of, bid_of, byte_after, id_of, value_part, get_by, getting, valued, set_by, setting, reset_by, resetting, carried, header_of, listed, decode_of}
 use Rattle.command.specs.Answers.{refusal_number, decoded_number}
 use Rattle.command.specs.Checks.{first, header_differs, shorter, key_wrong, id_wrong, is_too_short, is_nan_value, value_reads, mode_alone, checks}
-use Rattle.command.specs.declared.Header.{Header}
 use Rattle.command.specs.declared.Decoded.{Decoded}
 use Rattle.command.specs.declared.Decoded.TheVariants.{Refused}
 use Rattle.command.specs.declared.Refusal.{Refusal}

@@ -3,7 +3,6 @@ use mathlib.Core.Path.{◌∙◌}
 use native.Mathlib.Omega.{arith}
 use Rattle.command.specs.Decode.{listed}
 use Rattle.command.proofs.Checks.{plain_short, plain_runs, keyed_short, keyed_wrong, keyed_runs}
-use borrow.Author.Rules.{rules}
 use Rattle.command.proofs.by_list.Goals as goal
 
 pub returns-then-transfer-needed : goal.returns-then-transfer-needed

@@ -1,6 +1,5 @@
 -- Each name is its command, with the bytes that its readers find.
 use Rattle.command.specs.Decode.{carried}
-use borrow.Author.Rules.{rules}
 use Rattle.command.proofs.carried.Goals as goal
 
 pub returns-in-SystemReset : goal.returns-in-SystemReset

@@ -3,7 +3,6 @@ use Rattle.command.specs.Decode.{group_in}
 use native.Mathlib.Omega.{arith}
 use lib.ListN.{length}
 use borrow.Author.Tests.{lt-ltb, le-ltb}
-use borrow.Author.Rules.{rules}
 use Rattle.command.proofs.group_in.Goals as goal
 
 pub returns-then-transfer-lt8 : goal.returns-then-transfer-lt8

@@ -1,5 +1,4 @@
 -- The STID is the kind's.
-use borrow.Author.Rules.{rules}
 use Rattle.command.proofs.header_of.Goals as goal
 
 pub returns : goal.returns

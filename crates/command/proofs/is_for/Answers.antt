@@ -3,7 +3,6 @@ use native.Mathlib.Omega.{arith}
 use lib.ListN.{get_or}
 use borrow.Author.Tests.{eq-eqb, ne_eqb}
 use Rattle.command.specs.Decode.{header_is}
-use borrow.Author.Rules.{rules}
 use Rattle.command.proofs.is_for.Goals as goal
 
 pub returns-then-byte-board : goal.returns-then-byte-board

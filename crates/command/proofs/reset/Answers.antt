@@ -1,7 +1,6 @@
 -- What the id is decides.
 use Rattle.command.specs.Decode.{resetting}
 use mathlib.Core.Path.{sym, ◌∙◌}
-use borrow.Author.Rules.{rules}
 use Rattle.command.proofs.reset.Goals as goal
 
 pub returns-in-ReadWrite : goal.returns-in-ReadWrite

@@ -1,7 +1,6 @@
 -- What the id is decides before the value is read.
 use Rattle.command.specs.Decode.{setting, value_part}
 use mathlib.Core.Path.{sym, ◌∙◌}
-use borrow.Author.Rules.{rules}
 use Rattle.command.proofs.set.Goals as goal
 
 pub returns-in-ReadWrite : goal.returns-in-ReadWrite

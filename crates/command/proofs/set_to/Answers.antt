@@ -1,6 +1,5 @@
 -- Each answer of the reader is one answer of the decoder.
 use Rattle.command.specs.Decode.{valued}
-use borrow.Author.Rules.{rules}
 use Rattle.command.proofs.set_to.Goals as goal
 
 pub returns-in-Value : goal.returns-in-Value
