@@ -2,10 +2,10 @@
 -- readings of words that are fewer or more than there is room for. Assumes nothing.
 use Prim.Native.Nat.{ℕ, ◌+◌, ◌≤◌, ◌<◌, min}
 use mathlib.Core.Path.{◌≡◌, ◌∙◌}
-use mathlib.Core.List.{List, ◌++◌, map}
+use mathlib.Core.List.{List, map}
 use mathlib.Core.Logic.{⊎_elim}
 use native.Mathlib.Omega.{arith}
-use lib.ListN.{length, get_or, take, drop, set, replicate, length-map, length-replicate, drop_of_length-le}
+use lib.ListN.{length, get_or, set, length-map, length-replicate, drop_of_length-le}
 use lib.Seq.{paste, paste-zero, take_all}
 use Rattle.laws.proofs.Lists.{lt_or_le, paste_more, paste_all}
 use Rattle.readings.specs.declared.apart.Raw.{Raw}

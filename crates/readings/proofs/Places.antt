@@ -1,7 +1,7 @@
 -- What stands at each of the 122 places: by name, the field of the page and the row for it. `get_or layout i p` is place
 -- i, and p only stands where there is none. Assumes nothing.
 use Prim.Native.Nat.{ℕ, zero, suc, ◌+◌, ◌*◌, ◌/◌, ◌%◌, ◌-◌, ◌≤◌, ◌<◌}
-use mathlib.Core.Path.{◌≡◌, refl, sym, ap, ◌∙◌}
+use mathlib.Core.Path.{◌≡◌, refl, ap, ◌∙◌}
 use mathlib.Core.List.{List, [], ◌∷◌, ◌++◌}
 use mathlib.Core.Logic.{⊎_elim}
 use native.Mathlib.Omega.{arith}
@@ -10,9 +10,9 @@ use lib.Seq.{get_or-append-add}
 use Rattle.laws.proofs.Lists.{lt_or_le}
 use Rattle.readings.specs.declared.apart.Raw.{Raw}
 use Rattle.readings.specs.declared.apart.Engineering.{Engineering}
-use Rattle.readings.specs.declared.table.Row.TheVariants.{VoltBrdsup, PduTemp, VipPowe, ChannelPowe}
+use Rattle.readings.specs.declared.table.Row.TheVariants.{VoltBrdsup, PduTemp, ChannelPowe}
 use Rattle.readings.specs.Table.{engineering_of}
-use Rattle.readings.specs.Layout.{Block, VIP_INPUT, VIP-VD, VIP-CH, Field, VOLT-BRDSUP, TEMP-MCU, VOLT, CURR, POWE, Place, ◌by◌, vip, channel, up_to, layout, row_of, converted_by, place_at, row_at, vip_row, channel_row}
+use Rattle.readings.specs.Layout.{Block, VIP_INPUT, VIP-VD, VIP-CH, VOLT-BRDSUP, TEMP-MCU, POWE, Place, ◌by◌, vip, channel, up_to, layout, row_of, converted_by, row_at, vip_row, channel_row}
 
 -- ---- blocks of three in a row
 module _ (f : ℕ → List Place) (three : (k : ℕ) → length (f k) ≡ 3) where

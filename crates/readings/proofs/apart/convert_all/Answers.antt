@@ -1,6 +1,5 @@
 -- What is passed stands in the units of its fields.
 use mathlib.Core.Path.{◌≡◌, sym, ◌∙◌, ap}
-use Prim.Native.Nat.{◌-◌}
 use native.Mathlib.Omega.{arith}
 use borrow.Author.Rules.{rules}
 use lib.IntN.{pos}
@@ -11,7 +10,7 @@ use Rattle.readings.specs.declared.table.Row.TheVariants.{ChannelPowe}
 use Rattle.readings.specs.Readings.{raw_of}
 use Rattle.readings.specs.Table.{engineering_of}
 use Rattle.readings.specs.Layout.{POWE, VIP-CH, ◌by◌, layout, converted_by}
-use Rattle.readings.proofs.Filling.{Filled, begun, turn, ended}
+use Rattle.readings.proofs.Filling.{begun, turn, ended}
 use Rattle.readings.proofs.Places.{length_layout, length_converted, converted_at}
 use Rattle.readings.proofs.apart.convert_all.Goals as goal
 

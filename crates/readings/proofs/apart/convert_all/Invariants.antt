@@ -1,18 +1,10 @@
 -- What is passed stands in the units of its fields.
-use mathlib.Core.Path.{◌≡◌, sym, ◌∙◌, ap}
+use mathlib.Core.Path.{◌≡◌}
 use Prim.Native.Nat.{◌-◌}
-use native.Mathlib.Omega.{arith}
-use borrow.Author.Rules.{rules}
 use lib.IntN.{pos}
-use lib.ListN.{get_or, length, replicate, length-replicate}
-use Rattle.readings.specs.declared.apart.Engineering.{Engineering}
-use Rattle.readings.specs.declared.table.Row.{Row}
-use Rattle.readings.specs.declared.table.Row.TheVariants.{ChannelPowe}
-use Rattle.readings.specs.Readings.{raw_of}
-use Rattle.readings.specs.Table.{engineering_of}
-use Rattle.readings.specs.Layout.{POWE, VIP-CH, ◌by◌, layout, converted_by}
-use Rattle.readings.proofs.Filling.{Filled, begun, turn, ended}
-use Rattle.readings.proofs.Places.{length_layout, length_converted, converted_at}
+use lib.ListN.{length, replicate}
+use Rattle.readings.specs.Layout.{layout, converted_by}
+use Rattle.readings.proofs.Filling.{Filled}
 use Rattle.readings.proofs.apart.convert_all.Given as goal
 
 abbrev pub invariant-loop-i : goal.invariant-loop-i

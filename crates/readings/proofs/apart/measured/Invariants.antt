@@ -1,15 +1,9 @@
 -- After i turns the first i words stand in the room as raw readings.
-use mathlib.Core.Path.{◌≡◌, sym}
+use mathlib.Core.Path.{◌≡◌}
 use mathlib.Core.List.{map}
 use Prim.Native.Nat.{◌-◌, ◌≤◌}
-use native.Mathlib.Omega.{arith}
-use borrow.Author.Rules.{rules}
-use lib.ListN.{get_or, length, length-map, length-replicate, get_or-map}
-use lib.Seq.{paste, paste-zero}
-use Rattle.laws.proofs.Lists.{paste_more}
-use Rattle.readings.specs.declared.apart.Raw.{Raw}
+use lib.Seq.{paste}
 use Rattle.readings.specs.Readings.{raw_of, none_measured}
-use Rattle.readings.proofs.Filling.{filled}
 use Rattle.readings.proofs.apart.measured.Given as goal
 
 abbrev pub invariant-loop-i : goal.invariant-loop-i

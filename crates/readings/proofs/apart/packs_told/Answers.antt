@@ -1,5 +1,5 @@
 -- What is passed stands as 0x62 tells it.
-use Prim.Native.Nat.{ℕ, ◌-◌}
+use Prim.Native.Nat.{ℕ}
 use mathlib.Core.Path.{◌≡◌, sym, ◌∙◌, ap}
 use native.Mathlib.Omega.{arith}
 use borrow.Author.Rules.{rules}
@@ -7,7 +7,7 @@ use lib.ListN.{get_or, length, replicate, length-replicate}
 use Rattle.readings.specs.declared.packs.Way.{Way}
 use Rattle.readings.specs.Readings.{raw_of}
 use Rattle.readings.specs.Packs.{packs, word_by, told_by}
-use Rattle.readings.proofs.Filling.{Filled, begun, turn, ended}
+use Rattle.readings.proofs.Filling.{begun, turn, ended}
 use Rattle.readings.proofs.PackPlaces.{length_packs_told, told_at}
 use Rattle.readings.proofs.apart.packs_told.Goals as goal
 

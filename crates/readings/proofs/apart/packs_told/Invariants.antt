@@ -1,14 +1,9 @@
 -- What is passed stands as 0x62 tells it.
-use Prim.Native.Nat.{ℕ, ◌-◌}
-use mathlib.Core.Path.{◌≡◌, sym, ◌∙◌, ap}
-use native.Mathlib.Omega.{arith}
-use borrow.Author.Rules.{rules}
-use lib.ListN.{get_or, length, replicate, length-replicate}
-use Rattle.readings.specs.declared.packs.Way.{Way}
-use Rattle.readings.specs.Readings.{raw_of}
-use Rattle.readings.specs.Packs.{packs, word_by, told_by}
-use Rattle.readings.proofs.Filling.{Filled, begun, turn, ended}
-use Rattle.readings.proofs.PackPlaces.{length_packs_told, told_at}
+use Prim.Native.Nat.{◌-◌}
+use mathlib.Core.Path.{◌≡◌}
+use lib.ListN.{length, replicate}
+use Rattle.readings.specs.Packs.{packs, told_by}
+use Rattle.readings.proofs.Filling.{Filled}
 use Rattle.readings.proofs.apart.packs_told.Given as goal
 
 abbrev pub invariant-loop-i : goal.invariant-loop-i

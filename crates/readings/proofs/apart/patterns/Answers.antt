@@ -1,6 +1,6 @@
 -- What is passed stands as the words on the wire.
 use mathlib.Core.Path.{sym, ◌∙◌, ap}
-use Prim.Native.Nat.{ℕ, ◌-◌}
+use Prim.Native.Nat.{ℕ}
 use native.Mathlib.Omega.{arith}
 use borrow.Author.Rules.{rules}
 use lib.IntN.{pos}
@@ -11,7 +11,7 @@ use mir.ValLaws.{to_z-of_z}
 use Rattle.wire.specs.Numbers.{pattern}
 use Rattle.readings.specs.declared.apart.Engineering.{Engineering}
 use Rattle.readings.specs.Readings.{engineering_words}
-use Rattle.readings.proofs.Filling.{Filled, begun, turn, ended}
+use Rattle.readings.proofs.Filling.{begun, turn, ended}
 use Rattle.readings.proofs.apart.patterns.Goals as goal
 
 pub loop-i-init : goal.loop-i-init

@@ -1,17 +1,8 @@
 -- What is passed stands as the words on the wire.
-use mathlib.Core.Path.{sym, ◌∙◌, ap}
-use Prim.Native.Nat.{ℕ, ◌-◌}
-use native.Mathlib.Omega.{arith}
-use borrow.Author.Rules.{rules}
-use lib.IntN.{pos}
-use lib.ListN.{get_or, replicate, length-map, length-replicate, get_or-map}
-use mir.Syntax.{w16}
-use mir.Val.{SFits}
-use mir.ValLaws.{to_z-of_z}
-use Rattle.wire.specs.Numbers.{pattern}
-use Rattle.readings.specs.declared.apart.Engineering.{Engineering}
+use Prim.Native.Nat.{◌-◌}
+use lib.ListN.{replicate}
 use Rattle.readings.specs.Readings.{engineering_words}
-use Rattle.readings.proofs.Filling.{Filled, begun, turn, ended}
+use Rattle.readings.proofs.Filling.{Filled}
 use Rattle.readings.proofs.apart.patterns.Given as goal
 
 abbrev pub invariant-loop-i : goal.invariant-loop-i

@@ -1,12 +1,12 @@
 -- What is passed stands as the words that were measured.
 use mathlib.Core.Path.{sym, ◌∙◌}
-use Prim.Native.Nat.{ℕ, ◌-◌}
+use Prim.Native.Nat.{ℕ}
 use native.Mathlib.Omega.{arith}
 use borrow.Author.Rules.{rules}
 use lib.ListN.{get_or, replicate, length-map, length-replicate, get_or-map}
 use Rattle.readings.specs.declared.apart.Raw.{Raw}
 use Rattle.readings.specs.Readings.{raw_of, raw_words}
-use Rattle.readings.proofs.Filling.{Filled, begun, turn, ended}
+use Rattle.readings.proofs.Filling.{begun, turn, ended}
 use Rattle.readings.proofs.apart.words.Goals as goal
 
 pub loop-i-init : goal.loop-i-init

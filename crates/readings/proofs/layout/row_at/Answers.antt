@@ -4,7 +4,6 @@ use native.Mathlib.Omega.{arith}
 use Rattle.readings.specs.Layout.{POWE, VIP-CH, ◌by◌, row_of, row_at}
 use Rattle.readings.specs.declared.table.Row.TheVariants.{ChannelPowe}
 use Rattle.readings.proofs.Places.{supply_at, temperature_at, vip_row_at, channel_row_at}
-use borrow.Author.Rules.{rules}
 use Rattle.readings.proofs.layout.row_at.Goals as goal
 
 pub returns-then-i-eq0 : goal.returns-then-i-eq0

@@ -1,8 +1,7 @@
 -- Part by part of a pack.
-use Prim.Native.Nat.{ℕ, ◌+◌, ◌-◌}
+use Prim.Native.Nat.{◌+◌, ◌-◌}
 use mathlib.Core.Path.{◌≡◌, sym, ap, ◌∙◌}
 use native.Mathlib.Omega.{arith}
-use borrow.Author.Rules.{rules}
 use Rattle.readings.specs.declared.packs.Way.TheVariants.{ByRow}
 use Rattle.readings.specs.Packs.{pack_way}
 use Rattle.readings.proofs.PackPlaces.{vipd_ways, cell_ways, curve_ways}

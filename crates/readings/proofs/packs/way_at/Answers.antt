@@ -1,7 +1,6 @@
 -- The five words in front, the board's status, then packs.
 use mathlib.Core.Path.{sym, ap, ◌∙◌}
 use native.Mathlib.Omega.{arith}
-use borrow.Author.Rules.{rules}
 use Rattle.readings.specs.declared.packs.Way.TheVariants.{ByRow, ByCurve}
 use Rattle.readings.specs.Layout.{BAT-TEMP}
 use Rattle.readings.specs.Packs.{◌told◌, way_of, way_at, pack_way}

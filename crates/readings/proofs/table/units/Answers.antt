@@ -15,7 +15,6 @@ use Rattle.readings.specs.Table.{factors_of, is_vipd, number_of, above_the_line,
 use Rattle.readings.specs.declared.table.Factors.{Factors}
 use Rattle.readings.specs.declared.table.Row.{Row}
 use Rattle.readings.proofs.Rows.{small, number_small, above_small}
-use borrow.Author.Rules.{rules}
 use Rattle.readings.proofs.table.units.Goals as goal
 
 -- what the steps before have, in the table's words
