@@ -2,11 +2,11 @@
 use mathlib.Core.Bool.{true}
 use mathlib.Core.Path.{◌≡◌, refl, sym, ap, ap₂, ◌∙◌, subst}
 use mathlib.Core.List.{List, [], ◌∷◌, ◌++◌, append_assoc, append-nil}
-use Prim.Native.Nat.{ℕ, zero, suc, ◌+◌, ◌*◌, ◌^◌, ◌≤◌, ◌<◌}
-use native.Mathlib.Nat.{add-zero, not-suc-le-zero}
+use Prim.Native.Nat.{ℕ, suc, ◌+◌, ◌^◌, ◌<◌}
+use native.Mathlib.Nat.{add-zero}
 use native.Mathlib.Omega.{arith}
 use lib.IntN.{ℤ, pos, negsuc}
-use lib.ListN.{length, take, drop, get_or, length-append}
+use lib.ListN.{length, drop, get_or}
 use lib.Seq.{drop_at, drop-drop}
 use lib.Signed.{le_z}
 use mir.Syntax.{Width, w8, w16}
@@ -15,7 +15,7 @@ use borrow.Author.Tests.{leb-true}
 use Rattle.wire.specs.Numbers.{number, bytes_of, signed, pattern}
 use Rattle.wire.proofs.LittleEndian.{number_append, number_bytes_of, length_bytes_of}
 use Rattle.wire.proofs.TwosComplement.{signed_pattern, pattern_fits}
-use Rattle.value.specs.Types.{type_table, width, type_of}
+use Rattle.value.specs.Types.{width}
 use Rattle.value.specs.Values.{wire_bytes, spelt}
 use Rattle.settings.specs.Table.{read_write_rows, read_only_rows, lies, find, row_of, parameter_of, column, from}
 use Rattle.settings.specs.declared.Settings.{Settings}

@@ -1,7 +1,7 @@
 -- The image is written one id after another: a value's bytes behind those of the ids before it. Assumes nothing.
 use mathlib.Core.Path.{◌≡◌, refl, sym, ap, ap₂, ◌∙◌}
 use mathlib.Core.List.{List, [], ◌∷◌, ◌++◌, append_assoc, append-nil}
-use Prim.Native.Nat.{ℕ, zero, suc, ◌+◌, ◌-◌, ◌≤◌, ◌<◌}
+use Prim.Native.Nat.{ℕ, ◌+◌, ◌-◌, ◌≤◌, ◌<◌}
 use native.Mathlib.Numerals.{add-one}
 use native.Mathlib.Omega.{arith}
 use lib.ListN.{length, take, drop, get_or, set, replicate, length-append, take-append-drop}
@@ -10,8 +10,7 @@ use lib.IntN.{ℤ}
 use Rattle.laws.proofs.Lists.{drop_step, sets_turn}
 use Rattle.wire.proofs.LittleEndian.{length_bytes_of}
 use Rattle.wire.specs.Numbers.{bytes_of}
-use Rattle.value.specs.Types.{type_table, width, type_of}
-use Rattle.value.specs.declared.ValueType.{ValueType}
+use Rattle.value.specs.Types.{width, type_of}
 use Rattle.value.specs.declared.ValueType.TheVariants.{Int8, Uint8, Int16, Uint16, Int32, Uint32, Float, Int64, Uint64, Double}
 use Rattle.value.specs.Values.{wire_bytes, value_bytes, spelt}
 use Rattle.value.specs.declared.ParamValue.{ParamValue}

@@ -1,7 +1,7 @@
 -- The settings as bytes: what the checksum is taken over, what is stored, and how it is read back.
 -- Assumes nothing: these are definitions.
 use Rattle.std.specs.Prelude.{ℕ, zero, suc, List, [], ◌∷◌, ◌++◌}
-use lib.{ListN.drop, IntN.ℤ}
+use lib.{ListN.drop}
 use Rattle.wire.specs.Numbers.{number, signed}
 use Rattle.crc.specs.Division.{checksum_of}
 use Rattle.value.specs.Values.{wire_bytes}

@@ -1,11 +1,10 @@
 -- After each turn the image begins with the bytes of the ids walked so far. Assumes nothing.
-use borrow.Author.Rules.{rules}
 use mathlib.Core.Path.{◌≡◌, refl, ap, ◌∙◌}
-use Prim.Native.Nat.{ℕ, ◌+◌, ◌-◌, ◌≤◌}
+use Prim.Native.Nat.{ℕ, ◌+◌, ◌-◌}
 use native.Mathlib.Omega.{arith}
 use lib.ListN.{get_or}
 use Rattle.settings.specs.Table.{ids}
-use Rattle.image.proofs.Writing.{Walked, nothing_yet, whole, fits, laid}
+use Rattle.image.proofs.Writing.{nothing_yet, whole, fits, laid}
 use Rattle.image.proofs.bytes.Goals as goal
 
 pub loop-left-init : goal.loop-left-init

@@ -1,11 +1,6 @@
 -- After each turn the image begins with the bytes of the ids walked so far. Assumes nothing.
-use borrow.Author.Rules.{rules}
-use mathlib.Core.Path.{◌≡◌, refl, ap, ◌∙◌}
-use Prim.Native.Nat.{ℕ, ◌+◌, ◌-◌, ◌≤◌}
-use native.Mathlib.Omega.{arith}
-use lib.ListN.{get_or}
-use Rattle.settings.specs.Table.{ids}
-use Rattle.image.proofs.Writing.{Walked, nothing_yet, whole, fits, laid}
+use Prim.Native.Nat.{◌-◌, ◌≤◌}
+use Rattle.image.proofs.Writing.{Walked}
 use Rattle.image.proofs.bytes.Given as goal
 
 abbrev pub invariant-loop-left : goal.invariant-loop-left

@@ -2,7 +2,6 @@
 use mathlib.Core.Path.{ap, ◌∙◌}
 use Rattle.crc.specs.Division.{checksum_of}
 use Rattle.image.specs.Image.{settings_checksum}
-use borrow.Author.Rules.{rules}
 use Rattle.image.proofs.checksum.Goals as goal
 
 pub returns : goal.returns

@@ -1,5 +1,4 @@
 -- The constant table is the list of the rows' ids: one computed test. Assumes nothing.
-use borrow.Author.Rules.{rules}
 use mathlib.Core.Path.{refl}
 use Rattle.settings.specs.Table.{ids, ids_of, from, column, read_write_rows}
 use Rattle.image.proofs.id_at.Goals as goal

@@ -1,14 +1,13 @@
 -- The first i values are the first i numbers of 2 bytes of the image from place 24 on. Assumes nothing.
 use borrow.Author.Rules.{rules}
 use mathlib.Core.Path.{refl, ap, ◌∙◌}
-use Prim.Native.Nat.{◌-◌}
 use native.Mathlib.Omega.{arith}
 use lib.ListN.{drop}
 use mir.Syntax.{w16}
 use mir.Val.{SFits}
 use mir.ValLaws.{to_z-of_z}
 use Rattle.wire.specs.Numbers.{signed}
-use Rattle.image.proofs.Reading.{SoFar, begun, one_more_lem, filled, number_place}
+use Rattle.image.proofs.Reading.{begun, one_more_lem, filled, number_place}
 use Rattle.image.proofs.int16s.Goals as goal
 
 pub loop-i-init : goal.loop-i-init

@@ -1,7 +1,6 @@
 -- By what is read of the id. Assumes nothing.
 use mathlib.Core.Path.{sym, ◌∙◌}
 use Rattle.image.proofs.Writing.{room_value, room_none, got_is}
-use borrow.Author.Rules.{rules}
 use Rattle.image.proofs.parameter_bytes.Goals as goal
 
 pub returns-in-Value : goal.returns-in-Value

@@ -1,13 +1,9 @@
 -- The stores that are left, made on what the image holds now, give what all of them give on what it held at first.
 -- Assumes nothing.
-use borrow.Author.Rules.{rules}
-use mathlib.Core.Path.{◌≡◌, refl, sym, ap, ◌∙◌}
+use mathlib.Core.Path.{◌≡◌}
 use Prim.Native.Nat.{◌+◌, ◌-◌, ◌≤◌}
-use native.Mathlib.Omega.{arith}
-use lib.ListN.{length, take, drop, length-set, length-take}
+use lib.ListN.{length, take, drop}
 use lib.Seq.{sets}
-use Rattle.laws.proofs.Lists.{drop_end}
-use Rattle.image.proofs.Writing.{stored}
 use Rattle.image.proofs.put.Given as goal
 
 abbrev pub invariant-loop-i : goal.invariant-loop-i

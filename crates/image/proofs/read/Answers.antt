@@ -1,7 +1,5 @@
 -- Each type's values, read by its own function. Assumes nothing.
-use mathlib.Core.Path.{◌≡◌}
 use Rattle.image.specs.Image.{settings_of}
-use borrow.Author.Rules.{rules}
 use Rattle.image.proofs.read.Goals as goal
 
 pub returns : goal.returns

@@ -1,11 +1,9 @@
 -- The first i values are the first i numbers of 4 bytes of the image from place 244 on. Assumes nothing.
-use borrow.Author.Rules.{rules}
 use mathlib.Core.Path.{refl, ◌∙◌}
-use Prim.Native.Nat.{◌-◌}
 use native.Mathlib.Omega.{arith}
 use lib.ListN.{drop}
 use Rattle.image.specs.Image.{itself}
-use Rattle.image.proofs.Reading.{SoFar, begun, one_more_lem, filled, number_place}
+use Rattle.image.proofs.Reading.{begun, one_more_lem, filled, number_place}
 use Rattle.image.proofs.uint32s.Goals as goal
 
 pub loop-i-init : goal.loop-i-init
