@@ -1,6 +1,5 @@
 -- The width of the fields, the tail behind them, and the line by its letter. Assumes nothing.
 use Rattle.lines.specs.Lines.{behind_fields, asked_of, spelt_by}
-use borrow.Author.Rules.{rules}
 use Rattle.lines.proofs.asks.Goals as goal
 
 pub returns-clause-answer : goal.returns-clause-answer

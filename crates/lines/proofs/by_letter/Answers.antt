@@ -1,7 +1,6 @@
 -- Each letter has its form, and one that is none of them has none. Assumes nothing.
 use borrow.Author.Tests.{ne_eqb}
 use Rattle.lines.specs.Lines.{line_by}
-use borrow.Author.Rules.{rules}
 use Rattle.lines.proofs.by_letter.Goals as goal
 
 pub returns-in-66 : goal.returns-in-66

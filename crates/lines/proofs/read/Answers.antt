@@ -1,5 +1,4 @@
 -- By what the size is. Assumes nothing.
-use borrow.Author.Rules.{rules}
 use Rattle.lines.proofs.read.Goals as goal
 
 pub returns-in-Number : goal.returns-in-Number

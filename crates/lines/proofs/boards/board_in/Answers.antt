@@ -1,6 +1,5 @@
 -- By what the kind and the form are. Assumes nothing.
 use Rattle.lines.specs.Lines.{board_in}
-use borrow.Author.Rules.{rules}
 use Rattle.lines.proofs.boards.board_in.Goals as goal
 
 pub returns-in_default : goal.returns-in_default

@@ -1,5 +1,4 @@
 -- By whether both are there. Assumes nothing.
-use borrow.Author.Rules.{rules}
 use Rattle.lines.proofs.boards.kind_from.Goals as goal
 
 pub returns : goal.returns

@@ -1,6 +1,5 @@
 -- By the spaces between the fields. Assumes nothing.
 use Rattle.lines.specs.Lines.{kind_in}
-use borrow.Author.Rules.{rules}
 use Rattle.lines.proofs.boards.kind_in.Goals as goal
 
 pub returns-then-separated : goal.returns-then-separated

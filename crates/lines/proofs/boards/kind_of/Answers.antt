@@ -4,7 +4,6 @@ use borrow.Author.Tests.{eq-eqb, ne_eqb}
 use Rattle.kinds.specs.Kinds.{board_of}
 use Rattle.kinds.specs.declared.Kind.TheVariants.{Distribution, Battery}
 use Rattle.lines.specs.Lines.{abf_in}
-use borrow.Author.Rules.{rules}
 use Rattle.lines.proofs.boards.kind_of.Goals as goal
 
 pub returns-then-stid : goal.returns-then-stid

@@ -1,6 +1,5 @@
 -- By the space between the two fields. Assumes nothing.
 use Rattle.lines.specs.Lines.{lend_in}
-use borrow.Author.Rules.{rules}
 use Rattle.lines.proofs.fields.lend.Goals as goal
 
 pub returns-then-is_at : goal.returns-then-is_at

@@ -1,7 +1,6 @@
 -- By whether there is a number, and the limit. Assumes nothing.
 use native.Mathlib.Omega.{arith}
 use borrow.Author.Tests.{le-leb, lt-leb}
-use borrow.Author.Rules.{rules}
 use Rattle.lines.proofs.fields.limited.Goals as goal
 
 pub returns-then-n-most : goal.returns-then-n-most

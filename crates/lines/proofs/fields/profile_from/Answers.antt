@@ -1,5 +1,4 @@
 -- By what each of the three numbers is. Assumes nothing.
-use borrow.Author.Rules.{rules}
 use Rattle.lines.proofs.fields.profile_from.Goals as goal
 
 pub returns : goal.returns

@@ -1,6 +1,5 @@
 -- The three numbers are the line's. Assumes nothing.
 use Rattle.lines.specs.Lines.{profile_of}
-use borrow.Author.Rules.{rules}
 use Rattle.lines.proofs.fields.profile_of.Goals as goal
 
 pub returns-then-separated : goal.returns-then-separated

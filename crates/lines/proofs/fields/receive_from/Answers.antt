@@ -1,7 +1,6 @@
 -- By whether both are there and the limit holds. Assumes nothing.
 use native.Mathlib.Omega.{arith}
 use borrow.Author.Tests.{le-leb, lt-leb}
-use borrow.Author.Rules.{rules}
 use Rattle.lines.proofs.fields.receive_from.Goals as goal
 
 pub returns-then-count-gt600 : goal.returns-then-count-gt600

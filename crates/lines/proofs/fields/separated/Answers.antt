@@ -1,6 +1,5 @@
 -- By the first place that holds no space. Assumes nothing.
 use Rattle.lines.specs.Lines.{separated}
-use borrow.Author.Rules.{rules}
 use Rattle.lines.proofs.fields.separated.Goals as goal
 
 pub returns-then-is_at-2 : goal.returns-then-is_at-2

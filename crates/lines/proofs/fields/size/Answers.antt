@@ -1,6 +1,5 @@
 -- By the space behind the letter. Assumes nothing.
 use Rattle.lines.specs.Lines.{size_of}
-use borrow.Author.Rules.{rules}
 use Rattle.lines.proofs.fields.size.Goals as goal
 
 pub returns-then-is_at : goal.returns-then-is_at

@@ -1,5 +1,4 @@
 -- By what the profile is. Assumes nothing.
-use borrow.Author.Rules.{rules}
 use Rattle.lines.proofs.fields.start.Goals as goal
 
 pub returns-in-Profile : goal.returns-in-Profile

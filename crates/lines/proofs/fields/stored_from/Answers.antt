@@ -1,5 +1,4 @@
 -- By whether both are there. Assumes nothing.
-use borrow.Author.Rules.{rules}
 use Rattle.lines.proofs.fields.stored_from.Goals as goal
 
 pub returns-in_default-count : goal.returns-in_default-count

@@ -1,7 +1,6 @@
 -- By the length of the byte string and the spaces. Assumes nothing.
 use native.Mathlib.Omega.{arith}
 use borrow.Author.Tests.{eq-eqb, ne_eqb}
-use borrow.Author.Rules.{rules}
 use Rattle.lines.proofs.fields.stored_start.Goals as goal
 
 pub returns-then-n-ne268 : goal.returns-then-n-ne268

@@ -1,6 +1,5 @@
 -- By the spaces between the fields. Assumes nothing.
 use Rattle.lines.specs.Lines.{tick_in}
-use borrow.Author.Rules.{rules}
 use Rattle.lines.proofs.fields.tick.Goals as goal
 
 pub returns-then-separated : goal.returns-then-separated

@@ -1,5 +1,4 @@
 -- By what each of the three fields is. Assumes nothing.
-use borrow.Author.Rules.{rules}
 use Rattle.lines.proofs.fields.tick_from.Goals as goal
 
 pub returns-in-Nothing : goal.returns-in-Nothing

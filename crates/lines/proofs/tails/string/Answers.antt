@@ -1,5 +1,4 @@
 -- By what was spelt. Assumes nothing.
-use borrow.Author.Rules.{rules}
 use Rattle.lines.proofs.tails.string.Goals as goal
 
 pub returns-in-Bytes : goal.returns-in-Bytes

@@ -1,5 +1,4 @@
 -- By what the tail is. Assumes nothing.
-use borrow.Author.Rules.{rules}
 use Rattle.lines.proofs.tails.string_length.Goals as goal
 
 pub returns-in-Bytes : goal.returns-in-Bytes

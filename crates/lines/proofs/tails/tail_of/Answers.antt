@@ -3,7 +3,6 @@ use native.Mathlib.Omega.{arith}
 use lib.ListN.{length}
 use borrow.Author.Tests.{eq-eqb, ne_eqb}
 use Rattle.lines.specs.Tails.{tail_of}
-use borrow.Author.Rules.{rules}
 use Rattle.lines.proofs.tails.tail_of.Goals as goal
 
 pub returns-then-text-eq0-clause-answer : goal.returns-then-text-eq0-clause-answer
