@@ -56,17 +56,17 @@ unfolding by_forced between pair_of payload_of has set_of with_channel peek_at b
 wrong_lists = (refl, refl, refl, refl, refl)
 
 -- ---- one tick line, 0 00000000 and what stands behind the space
-by_command_lem : List ℕ → List ℕ
-by_command_lem rest =
+by_command : List ℕ → List ℕ
+by_command rest =
     board_word ++ (48 ∷ 10 ∷ []) ++ fitted_word ++ (48 ∷ 10 ∷ 10 ∷ []) ++ forced_word ++ (48 ∷ 10 ∷ 10 ∷ []) ++ ticks_word ++ (49 ∷ 10 ∷ [])
     ++ (48 ∷ 32 ∷ 48 ∷ 48 ∷ 48 ∷ 48 ∷ 48 ∷ 48 ∷ 48 ∷ 48 ∷ 32 ∷ rest)
 
 -- - with no line end; with CR; with a byte behind its line; no command; 11 without its line end
 wrong_ends :
-    (sheet_in (by_command_lem (45 ∷ [])) ≡ fails)
-    × (sheet_in (by_command_lem (45 ∷ 13 ∷ 10 ∷ [])) ≡ fails)
-    × (sheet_in (by_command_lem (45 ∷ 10 ∷ 10 ∷ [])) ≡ fails)
-    × (sheet_in (by_command_lem (10 ∷ [])) ≡ fails)
-    × (sheet_in (by_command_lem (49 ∷ 49 ∷ [])) ≡ fails)
-unfolding by_command_lem between pair_of payload_of has set_of with_channel peek_at byte end times text first_from up_to digits spells number signed hex_digit word count gap channels_from channel_list channel_set head command any_tick_line tick_line sheet sheet_in
+    (sheet_in (by_command (45 ∷ [])) ≡ fails)
+    × (sheet_in (by_command (45 ∷ 13 ∷ 10 ∷ [])) ≡ fails)
+    × (sheet_in (by_command (45 ∷ 10 ∷ 10 ∷ [])) ≡ fails)
+    × (sheet_in (by_command (10 ∷ [])) ≡ fails)
+    × (sheet_in (by_command (49 ∷ 49 ∷ [])) ≡ fails)
+unfolding by_command between pair_of payload_of has set_of with_channel peek_at byte end times text first_from up_to digits spells number signed hex_digit word count gap channels_from channel_list channel_set head command any_tick_line tick_line sheet sheet_in
 wrong_ends = (refl, refl, refl, refl, refl)

@@ -3,16 +3,16 @@ use Prim.Native.Nat.{ℕ, ◌+◌}
 use mathlib.Core.Path.{◌≡◌, refl, ap, ◌∙◌}
 use mathlib.Core.Bool.{Bool, true, false, cond}
 use mathlib.Core.Option.{Option, none, some}
-use mathlib.Core.List.{List, [], ◌∷◌, ◌++◌}
+use mathlib.Core.List.{List, [], ◌∷◌}
 use lib.Dec.{leb, leb-zero}
 use lib.IntN.{ℤ}
-use lib.ListN.{length, drop}
+use lib.ListN.{length}
 use Rattle.hexadecimal.specs.Hex.{payload_of, read_of, laid, held_after}
 use Rattle.hexadecimal.specs.declared.Payload.{Payload}
 use Rattle.hexadecimal.specs.declared.Payload.TheVariants.{Bytes, NotOfForm, TooShort}
 use Rattle.grammar.specs.Grammar.{Read, fails, reads, on, text, up_to}
 use Rattle.grammar.proofs.Bytes.{up_to_byte}
-use Rattle.sheet.specs.Form.{where_true, Transfer, silence, bytes, bytes_of, spells, command, Tick, any_tick_line, within, tick_line}
+use Rattle.sheet.specs.Form.{where_true, Transfer, silence, bytes_of, spells, command, Tick, any_tick_line, within, tick_line}
 use Rattle.sheet.specs.Answers.{is_sent, command_of, command_held, tick_of, tick_held, is_read, tick_number, tick_refusal}
 use Rattle.sheet.specs.declared.ticks.TickLine.{TickLine}
 use Rattle.sheet.specs.declared.ticks.Command.{Command}

@@ -1,7 +1,7 @@
 -- What the readers of a sheet answer and what a lent buffer then holds, by the form. Assumes nothing: these are
 -- definitions.
 use Rattle.std.specs.Prelude.{ℕ}
-use mathlib.Core.{Bool.Bool, Bool.true, Bool.false, Bool.cond, List.List, List.[]}
+use mathlib.Core.{Bool.Bool, Bool.true, Bool.false, Bool.cond, List.List}
 use lib.{Dec.leb, ListN.length}
 use Rattle.hexadecimal.specs.Hex.{laid}
 use Rattle.grammar.specs.Grammar.{Read, fails, reads, on, times, end}

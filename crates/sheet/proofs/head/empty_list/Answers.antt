@@ -3,7 +3,6 @@ use mathlib.Core.Path.{sym, ap, ◌∙◌}
 use Rattle.grammar.specs.Views.{seen_next}
 use Rattle.sheet.specs.Form.{channel_list}
 use Rattle.sheet.proofs.Parts.{text_one}
-use borrow.Author.Rules.{rules}
 use Rattle.sheet.proofs.head.empty_list.Goals as goal
 
 pub returns-in_default : goal.returns-in_default

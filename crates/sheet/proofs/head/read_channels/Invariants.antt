@@ -1,14 +1,9 @@
 -- `read_channels` meets its contract. The invariant: the channels that are left, behind those of the set, are read as
 -- all of them from the start. Assumes nothing.
-use borrow.Author.Rules.{rules}
-use native.Mathlib.Omega.{arith}
-use Prim.Native.Nat.{ℕ, ◌-◌}
-use mathlib.Core.Path.{◌≡◌, sym, ap, ◌∙◌}
+use Prim.Native.Nat.{ℕ}
+use mathlib.Core.Path.{◌≡◌}
 use mathlib.Core.List.{List}
-use Rattle.grammar.specs.Views.{seen_next, seen_number}
-use Rattle.grammar.proofs.Digits.{number_most}
 use Rattle.sheet.specs.Form.{channels_from}
-use Rattle.sheet.proofs.Parts.{channels_end, channels_none, channels_low, channels_apart, channels_more}
 use Rattle.sheet.proofs.head.read_channels.Given as goal
 
 pub record Rising (s : List ℕ) (at count set least left i : ℕ) : Type 0 where

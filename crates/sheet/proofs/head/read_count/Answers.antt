@@ -3,7 +3,6 @@ use mathlib.Core.Path.{sym, ap, ◌∙◌}
 use Rattle.grammar.specs.Views.{seen_next, seen_number}
 use Rattle.sheet.specs.Form.{count}
 use Rattle.sheet.proofs.Parts.{text_one}
-use borrow.Author.Rules.{rules}
 use Rattle.sheet.proofs.head.read_count.Goals as goal
 
 pub returns-in_default : goal.returns-in_default

@@ -2,7 +2,6 @@
 use native.Mathlib.Omega.{arith}
 use mathlib.Core.Path.{◌∙◌}
 use Rattle.sheet.proofs.Parts.{gap_last, gap_more}
-use borrow.Author.Rules.{rules}
 use Rattle.sheet.proofs.head.read_gap.Goals as goal
 
 pub returns-then-left-eq0 : goal.returns-then-left-eq0

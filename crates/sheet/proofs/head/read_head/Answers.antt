@@ -1,11 +1,10 @@
 -- `read_head` meets its contract: each answer on the way rewrites the form. Assumes nothing.
 use native.Mathlib.Omega.{arith}
 use Prim.Native.Nat.{◌%◌}
-use mathlib.Core.Path.{refl, ◌≡◌, sym, ap, ◌∙◌}
+use mathlib.Core.Path.{◌≡◌, sym, ap, ◌∙◌}
 use Rattle.grammar.specs.Views.{seen_number, seen_word}
 use Rattle.sheet.specs.Form.{board_word, ticks_word, head}
 use Rattle.sheet.proofs.Parts.{count_most, count_by}
-use borrow.Author.Rules.{rules}
 use Rattle.sheet.proofs.head.read_head.Goals as goal
 
 pub returns-in_default-clause-answer : goal.returns-in_default-clause-answer

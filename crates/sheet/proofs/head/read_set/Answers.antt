@@ -4,7 +4,6 @@ use mathlib.Core.Path.{◌≡◌, sym, ap, ◌∙◌}
 use Rattle.grammar.specs.Views.{seen_number}
 use Rattle.sheet.specs.Form.{channel_set}
 use Rattle.sheet.proofs.Parts.{list_some}
-use borrow.Author.Rules.{rules}
 use Rattle.sheet.proofs.head.read_set.Goals as goal
 
 pub returns-in_default : goal.returns-in_default

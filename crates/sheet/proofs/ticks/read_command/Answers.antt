@@ -4,7 +4,6 @@ use mathlib.Core.Path.{refl, sym, ap, ◌∙◌}
 use lib.ListN.{length}
 use Rattle.grammar.specs.Views.{seen_next, seen_line}
 use Rattle.sheet.proofs.Lines.{laid_none, silence_fits, command_silent, command_endless, command_spelt}
-use borrow.Author.Rules.{rules}
 use Rattle.sheet.proofs.ticks.read_command.Goals as goal
 
 pub returns-in-To-clause-answer : goal.returns-in-To-clause-answer

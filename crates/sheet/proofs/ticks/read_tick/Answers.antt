@@ -11,7 +11,6 @@ use Rattle.grammar.proofs.Signs.{kept}
 use Rattle.sheet.specs.Form.{command, any_tick_line}
 use Rattle.sheet.proofs.Parts.{text_one}
 use Rattle.sheet.proofs.Lines.{tick_by, tick_told, tick_held_lem, with_number}
-use borrow.Author.Rules.{rules}
 use Rattle.sheet.proofs.ticks.read_tick.Goals as goal
 
 -- the answer and what the buffer then holds, by the form

@@ -3,7 +3,6 @@ use mathlib.Core.Path.{sym, ap, ◌∙◌}
 use lib.ListN.{length}
 use Rattle.hexadecimal.specs.Hex.{payload_of}
 use Rattle.sheet.proofs.Lines.{command_by, spells_told, spells_held}
-use borrow.Author.Rules.{rules}
 use Rattle.sheet.proofs.ticks.spelt.Goals as goal
 
 pub returns-in-Bytes : goal.returns-in-Bytes

@@ -1,13 +1,10 @@
 -- `are_ticks` meets its contract. The invariant: the lines that are left stand from here on just where all of them
 -- stand from the first on. Assumes nothing.
-use borrow.Author.Rules.{rules}
-use native.Mathlib.Omega.{arith}
-use Prim.Native.Nat.{ℕ, ◌-◌}
-use mathlib.Core.Path.{◌≡◌, sym, ap, ◌∙◌}
+use Prim.Native.Nat.{ℕ}
+use mathlib.Core.Path.{◌≡◌}
 use mathlib.Core.List.{List}
 use lib.ListN.{length}
 use Rattle.sheet.specs.Answers.{are_ticks}
-use Rattle.sheet.proofs.Runs.{are_ticks_behind, ticks_turn, ticks_end}
 use Rattle.sheet.proofs.whole.are_ticks.Given as goal
 
 pub record Ticks (s : List ℕ) (first count : ℕ) (transfer : List ℕ) (at left : ℕ) : Type 0 where
