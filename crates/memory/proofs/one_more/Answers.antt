@@ -1,6 +1,5 @@
 -- Below the top it rises, at the top it stays. Assumes nothing.
 use native.Mathlib.Omega.{arith}
-use borrow.Author.Rules.{rules}
 use Rattle.memory.specs.Memory.{one_more}
 use Rattle.memory.proofs.one_more.Goals as goal
 

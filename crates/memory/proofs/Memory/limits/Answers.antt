@@ -1,6 +1,5 @@
 -- Field by field; the casts leave their number as it is. Assumes nothing.
 use native.Mathlib.Omega.{arith}
-use borrow.Author.Rules.{rules}
 use Rattle.memory.proofs.Laws.{limits_are, widened}
 use Rattle.memory.proofs.Memory.limits.Goals as goal
 

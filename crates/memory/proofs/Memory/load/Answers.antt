@@ -1,5 +1,4 @@
 -- The store, loaded. Assumes nothing.
-use borrow.Author.Rules.{rules}
 use Rattle.memory.specs.Memory.{load_of}
 use Rattle.memory.proofs.Memory.load.Goals as goal
 

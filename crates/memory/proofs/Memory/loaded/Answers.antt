@@ -1,5 +1,4 @@
 -- By whether something is stored. Assumes nothing.
-use borrow.Author.Rules.{rules}
 use Rattle.memory.specs.Memory.{loaded_from}
 use Rattle.memory.proofs.Memory.loaded.Goals as goal
 

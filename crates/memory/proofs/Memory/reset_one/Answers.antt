@@ -1,5 +1,4 @@
 -- The settings with one at its default, and all else as it was. Assumes nothing.
-use borrow.Author.Rules.{rules}
 use Rattle.memory.specs.Memory.{reset_in}
 use Rattle.memory.proofs.Memory.reset_one.Goals as goal
 

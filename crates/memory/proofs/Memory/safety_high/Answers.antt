@@ -1,6 +1,5 @@
 -- What stands at 0x4043. Assumes nothing.
 use native.Mathlib.Omega.{arith}
-use borrow.Author.Rules.{rules}
 use Rattle.memory.specs.Limits.{safety_high}
 use Rattle.memory.proofs.Laws.{uint16_value}
 use Rattle.memory.proofs.Memory.safety_high.Goals as goal

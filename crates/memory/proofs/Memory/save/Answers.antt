@@ -1,7 +1,6 @@
 -- A checksum that is neither 0 nor the settings' own leaves all; either of the two stores. Assumes nothing.
 use mathlib.Core.Path.{◌≡◌, sym}
 use native.Mathlib.Omega.{arith}
-use borrow.Author.Rules.{rules}
 use mathlib.Core.Bool.{true}
 use Rattle.memory.specs.Memory.{is_right}
 use Rattle.memory.proofs.Laws.{zero_right, own_right, other_wrong, right_stores, wrong_leaves}

@@ -1,5 +1,4 @@
 -- The settings with one set, and all else as it was. Assumes nothing.
-use borrow.Author.Rules.{rules}
 use Rattle.memory.specs.Memory.{set_in}
 use Rattle.memory.proofs.Memory.set.Goals as goal
 

@@ -1,6 +1,5 @@
 -- What stands at 0x4000. Assumes nothing.
 use native.Mathlib.Omega.{arith}
-use borrow.Author.Rules.{rules}
 use Rattle.memory.specs.Limits.{timeout_of}
 use Rattle.memory.proofs.Laws.{uint16_value}
 use Rattle.memory.proofs.Memory.timeout.Goals as goal

@@ -1,5 +1,4 @@
 -- As loaded from a store that holds nothing, and the store as it was. Assumes nothing.
-use borrow.Author.Rules.{rules}
 use Rattle.memory.specs.Memory.{loaded_from, defaulted_of}
 use Rattle.memory.proofs.Memory.to_defaults.Goals as goal
 

@@ -1,5 +1,4 @@
 -- The defaults stand where nothing is held. Assumes nothing.
-use borrow.Author.Rules.{rules}
 use Rattle.memory.specs.Memory.{empty_store}
 use Rattle.memory.proofs.Store.empty.Goals as goal
 
