@@ -15,7 +15,7 @@ pub returns : goal.returns
 unfolding channel_words
 returns c =
     let a = c.args in
-    let l : length a.t6 ≡ 32 = search rules in
+    let l : length a.counts ≡ 32 = search rules in
     rw (
       c.append_words-2.ensures,
       c.append_words.ensures,
@@ -24,6 +24,6 @@ returns c =
       after_words,
       c.channel_words-four.ensures,
       faults_row,
-      drop_step a.t6 0 (omega arith),
+      drop_step a.counts 0 (omega arith),
     )
     (same_row (start a.board a.code a.stat) (cons_eq (omega arith) (cons_eq (omega arith) (cons_eq (omega arith) (cons_eq (omega arith) refl)))))
