@@ -1,6 +1,8 @@
--- The length and the mode, then the header, then the list of codes, and behind them what the table says of the code. The
+-- The length and the mode, then the header, then the list of codes, and behind them what the table says of the code; the
 -- number is that of the first check, since the answer is the decoder's.
-use mathlib.Core.Path.{sym, ap, ◌∙◌}
+use mathlib.Core.Path.{ap, ◌∙◌}
+use Rattle.std.proofs.Common.{arith}
+use Rattle.std.proofs.lemmas.Grind.{common_steps}
 use Rattle.command.specs.Decode.{decode_of}
 use Rattle.command.specs.Answers.{decoded_number}
 use Rattle.command.proofs.Laws.{first_check}
@@ -8,42 +10,23 @@ use Rattle.command.proofs.decode.Goals as goal
 
 pub returns-then-short-clause-value : goal.returns-then-short-clause-value
 unfolding decode_of
-returns-then-short-clause-value c = rw (sym c.too_short-short.ensures ∙ c.if-short.true)
+returns-then-short-clause-value c = grind (arith, common_steps)
 
 pub returns-then-in_startup-clause-value : goal.returns-then-in_startup-clause-value
 unfolding decode_of
-returns-then-in_startup-clause-value c = rw (sym c.too_short-short.ensures ∙ c.if-short.false, c.if-in_startup.true)
+returns-then-in_startup-clause-value c = grind (arith, common_steps)
 
 pub returns-then-not-ours-clause-value : goal.returns-then-not-ours-clause-value
 unfolding decode_of
-returns-then-not-ours-clause-value c =
-    rw (sym c.too_short-short.ensures ∙ c.if-short.false, c.if-in_startup.false, ← c.header_of.ensures, sym c.is_for-ours.ensures ∙ c.if-not-ours.true)
+returns-then-not-ours-clause-value c = grind (arith, common_steps)
 
 pub returns-then-not-listed-clause-value : goal.returns-then-not-listed-clause-value
 unfolding decode_of
-returns-then-not-listed-clause-value c =
-    rw (
-      sym c.too_short-short.ensures ∙ c.if-short.false,
-      c.if-in_startup.false,
-      ← c.header_of.ensures,
-      sym c.is_for-ours.ensures ∙ c.if-not-ours.false,
-      sym c.byte-code.ensures,
-      sym c.lists-listed.ensures ∙ c.if-not-listed.true,
-    )
+returns-then-not-listed-clause-value c = grind (arith, common_steps)
 
 pub returns-clause-value : goal.returns-clause-value
 unfolding decode_of
-returns-clause-value c =
-    rw (
-      sym c.too_short-short.ensures ∙ c.if-short.false,
-      c.if-in_startup.false,
-      ← c.header_of.ensures,
-      sym c.is_for-ours.ensures ∙ c.if-not-ours.false,
-      sym c.byte-code.ensures,
-      sym c.lists-listed.ensures ∙ c.if-not-listed.false,
-      c.by_list.ensures,
-      c.listed_as.ensures,
-    )
+returns-clause-value c = grind (arith, common_steps)
 
 pub returns-then-short-clause-number : goal.returns-then-short-clause-number
 returns-then-short-clause-number c = ap decoded_number (returns-then-short-clause-value c) ∙ first_check c.args.kind c.args.bid c.args.in_startup c.args.transfer.now
