@@ -2,15 +2,13 @@
 use mir.Syntax.{w16}
 use mir.ValLaws.{to_z-of_z}
 use Rattle.unit.specs.Machine.{told_of}
-use borrow.Author.Rules.{rules}
 use Rattle.unit.proofs.tick.Goals as goal
 
 pub returns-clause-value : goal.returns-clause-value
 unfolding told_of
-returns-clause-value c = (let ticked = rw (to_z-of_z w16 c.args.rail c.ranges.rail) at c.tick-t.ensures.value in
-    (rw (c.due_after-due.ensures, ← ticked), rw (to_z-of_z w16 c.args.rail c.ranges.rail) at c.tick-t.ensures.number)).0
+returns-clause-value c =
+    let ticked = rw (to_z-of_z w16 c.args.rail c.ranges.rail) at c.tick-t.ensures.value in
+    rw (c.due_after-due.ensures, ← ticked)
 
 pub returns-clause-number : goal.returns-clause-number
-unfolding told_of
-returns-clause-number c = (let ticked = rw (to_z-of_z w16 c.args.rail c.ranges.rail) at c.tick-t.ensures.value in
-    (rw (c.due_after-due.ensures, ← ticked), rw (to_z-of_z w16 c.args.rail c.ranges.rail) at c.tick-t.ensures.number)).1
+returns-clause-number c = rw (to_z-of_z w16 c.args.rail c.ranges.rail) at c.tick-t.ensures.number
