@@ -27,6 +27,7 @@ fn longer(board: Header, code: u8, stat: u8) -> Reply
 }
 
 // The four channel words: of the channels on and then of those latched, 0 to 15 and then 16 to 31.
+#[tactic(auto, unfolding(crate::specs::Layouts::channel_words))]
 fn channel_words(on: u32, latched: u32) -> [u16; 4]
     ensures { result ≡ channel_words on latched }
 {
