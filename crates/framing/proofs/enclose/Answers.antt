@@ -1,6 +1,5 @@
 -- Two runs of stores, before the text and behind it. Assumes nothing.
 use native.Mathlib.Omega.{arith}
-use mathlib.Core.Path.{refl}
 use borrow.Author.Rules.{rules}
 use Rattle.framing.proofs.enclose.Goals as goal
 
@@ -11,13 +10,9 @@ pub overflow_add-n : goal.overflow_add-n
 overflow_add-n c = let room = rw c.in-Written.is at c.requires in search rules
 
 pub lay-requires-in-Written : goal.lay-requires-in-Written
-lay-requires-in-Written c = let room = rw c.in-Written.is at c.requires in omega (arith, c.lay.auto.0)
+lay-requires-in-Written c = let room = rw c.in-Written.is at c.requires in omega (arith, c.lay.auto.out)
 
-pub returns-in-Written-clause-answer : goal.returns-in-Written-clause-answer
-returns-in-Written-clause-answer c = (rw c.in-Written.is (refl, (rw c.lay.ensures at c.lay-in-Written.ensures, refl))).0
-
-pub returns-in-Written-clause-held : goal.returns-in-Written-clause-held
-returns-in-Written-clause-held c = (rw c.in-Written.is (refl, (rw c.lay.ensures at c.lay-in-Written.ensures, refl))).1.0
-
-pub returns-in-Written-clause-number : goal.returns-in-Written-clause-number
-returns-in-Written-clause-number c = (rw c.in-Written.is (refl, (rw c.lay.ensures at c.lay-in-Written.ensures, refl))).1.1
+pub returns-in-Written : goal.returns-in-Written
+returns-in-Written c =
+    let held = rw c.lay.ensures at c.lay-in-Written.ensures in
+    record { answer = rw c.in-Written.is; held = rw c.in-Written.is held; number = rw c.in-Written.is }

@@ -4,36 +4,21 @@ use mathlib.Core.Path.{sym}
 use mathlib.Core.List.{[]}
 use lib.ListN.{length}
 use Rattle.framing.proofs.Enclosing.{framed_fits, laid_fits}
-use borrow.Author.Rules.{rules}
 use Rattle.framing.proofs.Numbers.{with_framed_number}
 use Rattle.framing.proofs.frame.Goals as goal
 
-pub returns-in-Nothing-clause-answer : goal.returns-in-Nothing-clause-answer
-returns-in-Nothing-clause-answer c = (let a = c.args in
-    rw c.in-Nothing.is (with_framed_number [] (length a.out.now) (sym (framed_fits [] (length a.out.now) (omega arith)), sym (laid_fits [] a.out.now (omega arith))))).0
+pub returns-in-Nothing : goal.returns-in-Nothing
+returns-in-Nothing c =
+    let room = length c.args.out.now in
+    let e = with_framed_number [] room (sym (framed_fits [] room (omega arith)), sym (laid_fits [] c.args.out.now (omega arith))) in
+    record { answer = rw c.in-Nothing.is e.0; held = rw c.in-Nothing.is e.1.0; number = rw c.in-Nothing.is e.1.1 }
 
-pub returns-in-Nothing-clause-held : goal.returns-in-Nothing-clause-held
-returns-in-Nothing-clause-held c = (let a = c.args in
-    rw c.in-Nothing.is (with_framed_number [] (length a.out.now) (sym (framed_fits [] (length a.out.now) (omega arith)), sym (laid_fits [] a.out.now (omega arith))))).1.0
+pub returns-in-Reply : goal.returns-in-Reply
+returns-in-Reply c =
+    let e = c.reply_frame.ensures in
+    record { answer = rw c.in-Reply.is e.answer; held = rw c.in-Reply.is e.held; number = rw c.in-Reply.is e.number }
 
-pub returns-in-Nothing-clause-number : goal.returns-in-Nothing-clause-number
-returns-in-Nothing-clause-number c = (let a = c.args in
-    rw c.in-Nothing.is (with_framed_number [] (length a.out.now) (sym (framed_fits [] (length a.out.now) (omega arith)), sym (laid_fits [] a.out.now (omega arith))))).1.1
-
-pub returns-in-Reply-clause-answer : goal.returns-in-Reply-clause-answer
-returns-in-Reply-clause-answer c = (rw c.in-Reply.is c.reply_frame.ensures).0
-
-pub returns-in-Reply-clause-held : goal.returns-in-Reply-clause-held
-returns-in-Reply-clause-held c = (rw c.in-Reply.is c.reply_frame.ensures).1.0
-
-pub returns-in-Reply-clause-number : goal.returns-in-Reply-clause-number
-returns-in-Reply-clause-number c = (rw c.in-Reply.is c.reply_frame.ensures).1.1
-
-pub returns-in-Echo-clause-answer : goal.returns-in-Echo-clause-answer
-returns-in-Echo-clause-answer c = (rw c.in-Echo.is c.echo_frame.ensures).0
-
-pub returns-in-Echo-clause-held : goal.returns-in-Echo-clause-held
-returns-in-Echo-clause-held c = (rw c.in-Echo.is c.echo_frame.ensures).1.0
-
-pub returns-in-Echo-clause-number : goal.returns-in-Echo-clause-number
-returns-in-Echo-clause-number c = (rw c.in-Echo.is c.echo_frame.ensures).1.1
+pub returns-in-Echo : goal.returns-in-Echo
+returns-in-Echo c =
+    let e = c.echo_frame.ensures in
+    record { answer = rw c.in-Echo.is e.answer; held = rw c.in-Echo.is e.held; number = rw c.in-Echo.is e.number }

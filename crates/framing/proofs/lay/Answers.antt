@@ -3,9 +3,9 @@
 use borrow.Author.Rules.{rules}
 use native.Mathlib.Omega.{arith}
 use native.Mathlib.Nat.{add-zero}
-use Prim.Native.Nat.{◌+◌, ◌≤◌, ◌-◌}
+use Prim.Native.Nat.{◌+◌}
 use mathlib.Core.Path.{◌≡◌, refl, sym, ap, ◌∙◌}
-use lib.ListN.{length, drop, length-set}
+use lib.ListN.{length-set}
 use lib.Seq.{sets}
 use Rattle.laws.proofs.Lists.{drop_step, drop_end, sets_turn}
 use Rattle.framing.proofs.lay.Goals as goal

@@ -1,21 +1,12 @@
 -- The text of the one form or of the other is copied. Assumes nothing.
-use borrow.Author.Rules.{rules}
 use Rattle.framing.proofs.switch_text.Goals as goal
 
-pub returns-in-Raw-clause-answer : goal.returns-in-Raw-clause-answer
-returns-in-Raw-clause-answer c = (rw c.in-Raw.is c.copy.ensures).0
+pub returns-in-Raw : goal.returns-in-Raw
+returns-in-Raw c =
+    let e = c.copy.ensures in
+    record { answer = rw c.in-Raw.is e.answer; held = rw c.in-Raw.is e.held; number = rw c.in-Raw.is e.number }
 
-pub returns-in-Raw-clause-held : goal.returns-in-Raw-clause-held
-returns-in-Raw-clause-held c = (rw c.in-Raw.is c.copy.ensures).1.0
-
-pub returns-in-Raw-clause-number : goal.returns-in-Raw-clause-number
-returns-in-Raw-clause-number c = (rw c.in-Raw.is c.copy.ensures).1.1
-
-pub returns-in-Ascii-clause-answer : goal.returns-in-Ascii-clause-answer
-returns-in-Ascii-clause-answer c = (rw c.in-Ascii.is c.copy-in-Ascii.ensures).0
-
-pub returns-in-Ascii-clause-held : goal.returns-in-Ascii-clause-held
-returns-in-Ascii-clause-held c = (rw c.in-Ascii.is c.copy-in-Ascii.ensures).1.0
-
-pub returns-in-Ascii-clause-number : goal.returns-in-Ascii-clause-number
-returns-in-Ascii-clause-number c = (rw c.in-Ascii.is c.copy-in-Ascii.ensures).1.1
+pub returns-in-Ascii : goal.returns-in-Ascii
+returns-in-Ascii c =
+    let e = c.copy-in-Ascii.ensures in
+    record { answer = rw c.in-Ascii.is e.answer; held = rw c.in-Ascii.is e.held; number = rw c.in-Ascii.is e.number }
