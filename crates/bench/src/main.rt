@@ -2,47 +2,66 @@
 // `session` and `transcript` say what is printed.
 #![tactic(auto)]
 
-ghost use Rattle.std.specs.Prelude.{◌≡◌};
+ghost use Rattle.std.specs.Prelude.{◌≡◌, ◌≤◌, IfOk, length};
 ghost use Rattle.sheet.specs.Form.{tick_line};
 ghost use Rattle.session.specs.Sessions.{next_by};
 
-use libc::{STDIN_FILENO, STDOUT_FILENO};
 use session::Session;
+use std::io;
+use std::io::Read;
 
 // Writes what was printed into a buffer.
-fn print(out: &[u8], printed: usize) {
-    io::write_all(STDOUT_FILENO, script::printing::shown(out, printed));
+fn print(rt: &impl Print, out: &[u8], printed: usize) -> io::Result<()> {
+    rt.write_all(script::printing::shown(out, printed))
 }
 
-// Runs one tick and prints its line; the session is the one that the step leaves.
-fn run_tick(session: Session, sheet: &[u8]) -> Session
-    ensures { result ≡ next_by (tick_line 256 sheet.now session.at) session }
+// Runs one tick and prints its line; the session is the one that the step leaves, also where its line was not written.
+fn run_tick(rt: &impl Print, session: Session, sheet: &[u8]) -> (Session, io::Result<()>)
+    ensures { result.0 ≡ next_by (tick_line 256 sheet.now session.at) session }
 {
-    let mut out = io::buffer();
+    let mut out = [0u8; 4096];
     let stepped = session::step(session, sheet, &mut out);
-    print(&out, stepped.printed);
-    stepped.session
+    let written = print(rt, &out, stepped.printed);
+    (stepped.session, written)
 }
 
 // Opens a sheet, prints its first line or why it is refused, and runs its ticks.
-fn run(sheet: &[u8]) {
-    let mut out = io::buffer();
+fn run(rt: &impl Print, sheet: &[u8]) -> io::Result<()> {
+    let mut out = [0u8; 4096];
     let opened = session::open(sheet, &mut out);
-    print(&out, opened.printed);
+    print(rt, &out, opened.printed)?;
     let answer = opened.answer;
     let printed = transcript::refusal(answer, &mut out);
-    print(&out, printed);
+    print(rt, &out, printed)?;
     let mut now = opened.session;
     let mut left = now.left;
     while 0 < left {
-        now = run_tick(now, sheet);
+        let (next, written) = run_tick(rt, now, sheet);
+        written?;
+        now = next;
         left -= 1;
     }
+    Ok(())
+}
+
+// Reads until the room is full or the input ends, and answers how many bytes came.
+fn read_full(input: &mut impl Read, room: &mut [u8]) -> io::Result<usize>
+    ensures { IfOk result (λ n. n ≤ length room.new) }
+{
+    let mut filled = 0;
+    while filled < room.len() {
+        let n = input.read(&mut room[filled..])?;
+        if n == 0 {
+            break;
+        }
+        filled += n;
+    }
+    Ok(filled)
 }
 
 // Reads one byte more than a sheet may have, so that a longer one is known.
-fn main() {
+fn main(rt: HostRuntime) -> io::Result<()> {
     let mut input = [0u8; 65537];
-    let n = io::read_full(STDIN_FILENO, &mut input);
-    run(wire::first(&input, n));
+    let n = read_full(&mut rt.stdin(), &mut input)?;
+    run(&rt, wire::first(&input, n))
 }

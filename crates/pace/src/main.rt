@@ -4,26 +4,42 @@
 
 mod run;
 
-use libc::{STDIN_FILENO, STDOUT_FILENO};
+ghost use Rattle.std.specs.Prelude.{◌≤◌, IfOk, length};
+
 use pattern::Asked;
+use std::io;
+use std::io::Read;
 
 // Prints a digest.
 // argued: an instrument; its digest is compared with the second program's
-fn print(digest: u32) {
+fn print(rt: &impl Print, digest: u32) -> io::Result<()> {
     let text = hexadecimal::write_word(digest);
-    io::write_all(STDOUT_FILENO, b"digest ");
-    io::write_all(STDOUT_FILENO, &text);
-    io::write_all(STDOUT_FILENO, b"\n");
+    rt.write_all(b"digest ")?;
+    rt.write_all(&text)?;
+    rt.write_all(b"\n")
+}
+
+// Reads until the room is full or the input ends, and answers how many bytes came.
+fn read_full(input: &mut impl Read, room: &mut [u8]) -> io::Result<usize>
+    ensures { IfOk result (λ n. n ≤ length room.new) }
+{
+    let mut filled = 0;
+    while filled < room.len() {
+        let n = input.read(&mut room[filled..])?;
+        if n == 0 {
+            break;
+        }
+        filled += n;
+    }
+    Ok(filled)
 }
 
 // Reads one byte more than the longest line has, runs what it asks for and prints the digest, or `bad`.
-fn main() {
+fn main(rt: HostRuntime) -> io::Result<()> {
     let mut input = [0u8; 13];
-    let n = io::read_full(STDIN_FILENO, &mut input);
+    let n = read_full(&mut rt.stdin(), &mut input)?;
     match pattern::asked_by(wire::first(&input, n)) {
-        Asked::Run(kind, count) => print(run::digest_of(kind, count)),
-        Asked::Bad => {
-            io::write_all(STDOUT_FILENO, b"bad\n");
-        }
+        Asked::Run(kind, count) => print(&rt, run::digest_of(kind, count)),
+        Asked::Bad => rt.write_all(b"bad\n"),
     }
 }

@@ -2,7 +2,8 @@
 #![tactic(auto)]
 
 use handling::Bench;
-use libc::{STDIN_FILENO, STDOUT_FILENO};
+use std::io;
+use std::io::Read;
 
 // The bench, how much of a line was taken from the input, and whether the line is too long and more input is to come.
 #[derive(Clone, Copy)]
@@ -15,18 +16,23 @@ struct Turn {
 
 // Runs one line and writes what it prints.
 // argued: an instrument; what it prints is compared line by line with the second program
-fn run_one(bench: Bench, line: &[u8]) -> Bench {
-    let mut held = io::buffer();
-    let mut out = io::buffer();
+fn run_one(rt: &impl Print, bench: Bench, line: &[u8]) -> io::Result<Bench> {
+    let mut held = [0u8; 4096];
+    let mut out = [0u8; 4096];
     let asked = lines::asks(line, &mut held);
     let ran = trial::run(bench, asked, &held, &mut out);
-    io::write_all(STDOUT_FILENO, script::printing::shown(&out, ran.printed));
-    ran.bench
+    rt.write_all(script::printing::shown(&out, ran.printed))?;
+    Ok(ran.bench)
 }
 
 // Runs the lines that a chunk of input ends, and keeps the piece behind the last of them.
 // argued: an instrument; what it prints is compared line by line with the second program
-fn run_chunk(chunk: &[u8], line: &mut [u8; 4096], turn: Turn) -> Turn {
+fn run_chunk(
+    rt: &impl Print,
+    chunk: &[u8],
+    line: &mut [u8; 4096],
+    turn: Turn,
+) -> io::Result<Turn> {
     let mut bench = turn.bench;
     let mut filled = turn.filled;
     let mut over = turn.over;
@@ -34,7 +40,7 @@ fn run_chunk(chunk: &[u8], line: &mut [u8; 4096], turn: Turn) -> Turn {
     while i < chunk.len() {
         let b = chunk[i];
         if b == 10 {
-            bench = run_one(bench, script::reading::line_of(line, filled, over));
+            bench = run_one(rt, bench, script::reading::line_of(line, filled, over))?;
             filled = 0;
             over = false;
         } else if filled < 4096 {
@@ -45,38 +51,44 @@ fn run_chunk(chunk: &[u8], line: &mut [u8; 4096], turn: Turn) -> Turn {
         }
         i += 1;
     }
-    Turn {
+    Ok(Turn {
         bench,
         filled,
         over,
         more: true,
-    }
+    })
 }
 
 // Reads once, and runs the lines that came; with nothing more to read there is no more to run.
 // argued: an instrument; what it prints is compared line by line with the second program
-fn run_some(line: &mut [u8; 4096], mut turn: Turn) -> Turn {
-    let mut chunk = io::large_buffer();
-    let got = libc::read(STDIN_FILENO, &mut chunk);
-    if got <= 0 {
+fn run_some(
+    rt: &impl Print,
+    input: &mut impl Read,
+    line: &mut [u8; 4096],
+    mut turn: Turn,
+) -> io::Result<Turn> {
+    let mut chunk = [0u8; 65536];
+    let n = input.read(&mut chunk)?;
+    if n == 0 {
         turn.more = false;
-        return turn;
+        return Ok(turn);
     }
-    let n = io::count(got, &chunk);
-    run_chunk(&chunk[..n], line, turn)
+    run_chunk(rt, &chunk[..n], line, turn)
 }
 
 // A last piece without a line end is bad.
-fn finish(filled: usize) {
+fn finish(rt: &impl Print, filled: usize) -> io::Result<()> {
     if filled > 0 {
-        io::write_all(STDOUT_FILENO, b"bad\n");
+        rt.write_all(b"bad\n")?;
     }
+    Ok(())
 }
 
 // Runs the script to its end. A proved loop has to end, and nothing says that an input does: the count of turns is one
 // that no run uses up.
-fn main() {
-    let mut line = io::buffer();
+fn main(rt: HostRuntime) -> io::Result<()> {
+    let mut input = rt.stdin();
+    let mut line = [0u8; 4096];
     let mut turn = Turn {
         bench: handling::none(),
         filled: 0,
@@ -85,8 +97,8 @@ fn main() {
     };
     let mut turns = u64::MAX;
     while turns > 0 && turn.more {
-        turn = run_some(&mut line, turn);
+        turn = run_some(&rt, &mut input, &mut line, turn)?;
         turns -= 1;
     }
-    finish(turn.filled);
+    finish(&rt, turn.filled)
 }
