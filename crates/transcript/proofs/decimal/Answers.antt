@@ -1,20 +1,13 @@
 -- The digits that are left, put behind what stands on the page now. Assumes nothing.
 use borrow.Author.Rules.{rules}
 use native.Mathlib.Omega.{arith}
-use Prim.Native.Nat.{ℕ, ◌-◌, ◌^◌}
-use mathlib.Core.Path.{◌≡◌, refl, ap, sym, ◌∙◌}
-use mathlib.Core.List.{List}
-use lib.ListN.{length}
+use Prim.Native.Nat.{◌-◌}
+use mathlib.Core.Path.{refl, ap, sym, ◌∙◌}
 use Rattle.script.specs.Printing.{page, typed}
 use Rattle.script.proofs.Turns.{turn}
 use Rattle.transcript.specs.Transcript.{digit_for, digits_for}
 use Rattle.transcript.proofs.Digits.{digits_turn, power_turn, power_some, digits_last}
 use Rattle.transcript.proofs.decimal.Goals as goal
-
-record Digits (out₀ : List ℕ) (at n : ℕ) (out : List ℕ) (place power left : ℕ) : Type 0 where
-  kept : length out ≡ length out₀
-  tens : power ≡ 10 ^ left
-  same : typed (page out place) (digits_for left n) ≡ typed (page out₀ at) (digits_for 9 n)
 
 pub loop-left-init : goal.loop-left-init
 loop-left-init c = record { kept = refl; tens = refl; same = refl }

@@ -1,9 +1,6 @@
 -- The line of each answer. Assumes nothing.
 use Rattle.script.specs.Printing.{typed}
 use borrow.Author.Rules.{rules}
-use Rattle.transcript.proofs.refusal.Reads as reads
-use Rattle.transcript.proofs.refusal.Lts as lts
-use Rattle.script.proofs.printing.text.Reads as text-reads
 use Rattle.transcript.proofs.refusal.Goals as goal
 
 pub returns-in-Running : goal.returns-in-Running

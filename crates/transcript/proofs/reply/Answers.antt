@@ -13,14 +13,15 @@ unfolding shown
 returns-in-Length c =
     let a = c.args in
     let whole : length a.r.bytes ≡ 274 = search rules in
-    let written = rw c.first.ensures at c.write.ensures in
-    let shown-bytes = digits_written (take a.r.len a.r.bytes) (replicate 1024 0) (shown_short a.r.len a.r.bytes whole) (length-replicate {A = ℕ} 1024 0) _ (sym written.0 ∙ c.in-Length.is) in
-    rw (c.text.ensures, c.first-in-Length.ensures, written.1.0) (ap (typed (page a.out.now a.at)) shown-bytes)
+    let told = rw c.first.ensures at c.write.ensures.answer in
+    let held = rw c.first.ensures at c.write.ensures.held in
+    let shown-bytes = digits_written (take a.r.len a.r.bytes) (replicate 1024 0) (shown_short a.r.len a.r.bytes whole) (length-replicate {A = ℕ} 1024 0) _ (sym told ∙ c.in-Length.is) in
+    rw (c.text.ensures, c.first-in-Length.ensures, held) (ap (typed (page a.out.now a.at)) shown-bytes)
 
 pub returns-in-NoRoom : goal.returns-in-NoRoom
 unfolding shown
 returns-in-NoRoom c =
     let a = c.args in
     let whole : length a.r.bytes ≡ 274 = search rules in
-    let written = rw c.first.ensures at c.write.ensures in
-    absurd (digits_fit (take a.r.len a.r.bytes) (replicate 1024 0) (shown_short a.r.len a.r.bytes whole) (length-replicate {A = ℕ} 1024 0) (sym written.0 ∙ c.in-NoRoom.is))
+    let told = rw c.first.ensures at c.write.ensures.answer in
+    absurd (digits_fit (take a.r.len a.r.bytes) (replicate 1024 0) (shown_short a.r.len a.r.bytes whole) (length-replicate {A = ℕ} 1024 0) (sym told ∙ c.in-NoRoom.is))
