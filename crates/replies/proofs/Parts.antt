@@ -1,6 +1,6 @@
 -- A long reply is the six bytes that each of them starts with, and then one row of words, or the id and a value.
 -- Assumes nothing.
-use Prim.Native.Nat.{ℕ, ◌≤◌, min}
+use Prim.Native.Nat.{ℕ, ◌≤◌}
 use mathlib.Core.Bool.{Bool, true, false}
 use mathlib.Core.List.{List, [], ◌∷◌, ◌++◌, append_assoc}
 use mathlib.Core.Path.{◌≡◌, refl, sym, ap, ◌∙◌}
@@ -9,7 +9,7 @@ use lib.ListN.{length, get_or, take, drop, length-take}
 use lib.Seq.{take_all}
 use Rattle.laws.proofs.Lists.{drop_two, drop_three}
 use Rattle.wire.specs.Numbers.{bytes_of}
-use Rattle.wire.specs.Replies.{Field, ◌bytes◌, laid_out, words, reply_of, after}
+use Rattle.wire.specs.Replies.{Field, laid_out, words, reply_of, after}
 use Rattle.wire.proofs.Room.{after_reply_of}
 use Rattle.wire.proofs.Rows.{laid_out_append, laid_out_words, words_append}
 use Rattle.command.specs.declared.Header.{Header}

@@ -1,7 +1,6 @@
 -- The six bytes, and the same byte twice.
 use Rattle.wire.proofs.Room.{after_reply_of}
 use Rattle.replies.proofs.Parts.{abf_parts}
-use borrow.Author.Rules.{rules}
 use Rattle.replies.proofs.abf.Goals as goal
 
 pub returns : goal.returns

@@ -1,7 +1,6 @@
 -- One row of words behind the six bytes.
 use Rattle.wire.proofs.Room.{after_reply_of}
 use Rattle.replies.proofs.Parts.{battery_row}
-use borrow.Author.Rules.{rules}
 use Rattle.replies.proofs.engineering_battery.Goals as goal
 
 pub returns : goal.returns

@@ -4,7 +4,6 @@ use Rattle.wire.specs.Numbers.{bytes_of}
 use Rattle.wire.specs.Replies.{laid_out}
 use Rattle.wire.proofs.Room.{after_reply_of}
 use Rattle.replies.specs.Layouts.{short_reply}
-use borrow.Author.Rules.{rules}
 use Rattle.replies.proofs.longer.Goals as goal
 
 pub returns : goal.returns

@@ -2,7 +2,6 @@
 use mathlib.Core.Path.{refl}
 use Rattle.wire.proofs.Room.{after_reply_of}
 use Rattle.replies.proofs.Parts.{parameter_parts}
-use borrow.Author.Rules.{rules}
 use Rattle.replies.proofs.parameter.Goals as goal
 
 pub returns : goal.returns

@@ -1,9 +1,7 @@
 -- Five words, the channel words and the other words are one row behind the six bytes.
-use lib.ListN.{take}
 use Rattle.wire.proofs.Room.{after_reply_of}
 use Rattle.readings.specs.Readings.{raw_words}
 use Rattle.replies.proofs.Parts.{after_words, take_again, housekeeping_row_lem}
-use borrow.Author.Rules.{rules}
 use Rattle.replies.proofs.raw_housekeeping.Goals as goal
 
 pub returns : goal.returns
