@@ -5,7 +5,7 @@ use Rattle.std.specs.Prelude.{ℕ, Bool, List, take}
 use Rattle.wire.specs.{declared.reply.Reply.Reply, declared.forms.Form.Form}
 use Rattle.wire.specs.declared.forms.Form.TheVariants.{Raw, Ascii}
 use Rattle.channels.specs.declared.Channels.{Channels}
-use Rattle.kinds.specs.{Kinds.board_of, declared.Kind.Kind}
+use Rattle.kinds.specs.{Kinds.board_of}
 use Rattle.kinds.specs.declared.Kind.TheVariants.{Distribution, Battery}
 use Rattle.modes.specs.{declared.ModeAge.ModeAge, declared.Mode.Mode}
 use Rattle.readings.specs.{Readings.raw_words, Readings.engineering_words, Layout.layout, Layout.converted_by, Packs.packs, Packs.told_by}

@@ -1,9 +1,7 @@
 -- From 1 on, and to the kind's last.
 use native.Mathlib.Omega.{arith}
-use mathlib.Core.Path.{◌≡◌, sym}
 use borrow.Author.Tests.{le-leb, lt-leb}
 use Rattle.state.specs.Start.{bid_in_range}
-use borrow.Author.Rules.{rules}
 use Rattle.state.proofs.starting.bid_in_range.Goals as goal
 
 pub returns-then-profile-lt1 : goal.returns-then-profile-lt1

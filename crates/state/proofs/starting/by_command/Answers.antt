@@ -1,5 +1,4 @@
 use Rattle.state.specs.Start.{by_command}
-use borrow.Author.Rules.{rules}
 use Rattle.state.proofs.starting.by_command.Goals as goal
 
 pub returns : goal.returns

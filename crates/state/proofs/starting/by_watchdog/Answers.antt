@@ -1,5 +1,4 @@
 use Rattle.state.specs.Start.{by_watchdog}
-use borrow.Author.Rules.{rules}
 use Rattle.state.proofs.starting.by_watchdog.Goals as goal
 
 pub returns : goal.returns

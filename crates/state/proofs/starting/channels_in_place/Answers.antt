@@ -1,7 +1,6 @@
 -- Rule by rule, the first that is broken decides.
 use mathlib.Core.Path.{sym, ◌∙◌}
 use Rattle.state.specs.Start.{channels_in_place}
-use borrow.Author.Rules.{rules}
 use Rattle.state.proofs.starting.channels_in_place.Goals as goal
 
 pub returns-then-not-any_fitted : goal.returns-then-not-any_fitted

@@ -1,5 +1,4 @@
 use Rattle.state.specs.Start.{command_reset_of}
-use borrow.Author.Rules.{rules}
 use Rattle.state.proofs.starting.command_reset.Goals as goal
 
 pub returns : goal.returns

@@ -1,5 +1,4 @@
 use Rattle.state.specs.Start.{fresh_of}
-use borrow.Author.Rules.{rules}
 use Rattle.state.proofs.starting.fresh.Goals as goal
 
 pub returns : goal.returns

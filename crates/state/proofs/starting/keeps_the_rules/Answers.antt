@@ -1,7 +1,6 @@
 -- Rule by rule, the first that is broken decides.
 use mathlib.Core.Path.{sym, ◌∙◌}
 use Rattle.state.specs.Start.{keeps_the_rules}
-use borrow.Author.Rules.{rules}
 use Rattle.state.proofs.starting.keeps_the_rules.Goals as goal
 
 pub returns-then-not-is_served : goal.returns-then-not-is_served

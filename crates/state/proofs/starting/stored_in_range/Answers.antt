@@ -1,5 +1,4 @@
 -- What is not held is not looked at.
-use borrow.Author.Rules.{rules}
 use Rattle.state.proofs.starting.stored_in_range.Goals as goal
 
 pub returns-then-store : goal.returns-then-store

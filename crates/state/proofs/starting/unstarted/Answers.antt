@@ -1,5 +1,4 @@
 use Rattle.state.specs.Start.{unstarted_board}
-use borrow.Author.Rules.{rules}
 use Rattle.state.proofs.starting.unstarted.Goals as goal
 
 pub returns : goal.returns

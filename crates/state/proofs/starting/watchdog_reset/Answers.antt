@@ -1,5 +1,4 @@
 use Rattle.state.specs.Start.{watchdog_reset_of}
-use borrow.Author.Rules.{rules}
 use Rattle.state.proofs.starting.watchdog_reset.Goals as goal
 
 pub returns : goal.returns
