@@ -1,7 +1,5 @@
 -- By what the read answers. Assumes nothing.
-use Rattle.script.specs.Printing.{typed}
 use Rattle.speaking.specs.Speaking.{line_text}
-use borrow.Author.Rules.{rules}
 use Rattle.speaking.proofs.answer.Goals as goal
 
 pub returns-in-Command : goal.returns-in-Command

@@ -1,8 +1,6 @@
 -- The payload stands behind the place. Assumes nothing.
-use Rattle.script.specs.Printing.{typed}
 use Rattle.script.proofs.Turns.{typed_append}
 use Rattle.speaking.specs.Speaking.{command_text}
-use borrow.Author.Rules.{rules}
 use Rattle.speaking.proofs.command.Goals as goal
 
 pub returns : goal.returns

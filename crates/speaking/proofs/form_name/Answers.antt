@@ -1,6 +1,4 @@
 -- Each form has its name. Assumes nothing.
-use Rattle.script.specs.Printing.{typed}
-use borrow.Author.Rules.{rules}
 use Rattle.speaking.proofs.form_name.Goals as goal
 
 pub returns-in-Raw : goal.returns-in-Raw

@@ -1,7 +1,5 @@
 -- By what the framing answers. Assumes nothing.
-use Rattle.script.specs.Printing.{typed}
 use Rattle.speaking.specs.Speaking.{framed_text}
-use borrow.Author.Rules.{rules}
 use Rattle.speaking.proofs.framing.Goals as goal
 
 pub returns-in-Written : goal.returns-in-Written

@@ -1,8 +1,6 @@
 -- The buffer stands behind the answer. Assumes nothing.
-use Rattle.script.specs.Printing.{typed}
 use Rattle.script.proofs.Turns.{typed_append}
 use Rattle.speaking.specs.Speaking.{heard_line}
-use borrow.Author.Rules.{rules}
 use Rattle.speaking.proofs.heard.Goals as goal
 
 pub returns : goal.returns

@@ -1,5 +1,4 @@
 -- Only a command has a payload. Assumes nothing.
-use borrow.Author.Rules.{rules}
 use Rattle.speaking.proofs.span_of.Goals as goal
 
 pub returns-in-Command : goal.returns-in-Command

@@ -1,7 +1,5 @@
 -- The number stands behind the word. Assumes nothing.
-use Rattle.script.specs.Printing.{typed}
 use Rattle.script.proofs.Turns.{typed_append}
-use borrow.Author.Rules.{rules}
 use Rattle.speaking.proofs.told.Goals as goal
 
 pub returns : goal.returns

@@ -1,7 +1,5 @@
 -- The line's end stands behind the buffer. Assumes nothing.
-use Rattle.script.specs.Printing.{typed}
 use Rattle.script.proofs.Turns.{typed_append}
-use borrow.Author.Rules.{rules}
 use Rattle.speaking.proofs.whole.Goals as goal
 
 pub returns : goal.returns
