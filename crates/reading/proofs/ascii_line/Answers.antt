@@ -1,4 +1,4 @@
--- The answer of the read of hex, case by case. Assumes nothing.
+-- The answer of hexadecimal's read, case by case. Assumes nothing.
 use mathlib.Core.Path.{sym, ◌∙◌}
 use Rattle.reading.specs.Lines.{ascii_line}
 use lib.ListN.{length}

@@ -1,4 +1,4 @@
--- `spelt` meets its contract: the answer of the read of hex, case by case. Assumes nothing.
+-- `spelt` meets its contract: the answer of hexadecimal's read, case by case. Assumes nothing.
 use mathlib.Core.Path.{sym, ap, ◌∙◌}
 use lib.ListN.{length}
 use Rattle.hexadecimal.specs.Hex.{payload_of}
