@@ -1,13 +1,6 @@
 -- The answer of the start says which of the two it is. Assumes nothing.
 use Rattle.session.specs.Sessions.{started_of}
 use borrow.Author.Rules.{rules}
-use Rattle.session.proofs.started.Reads as reads
-use Rattle.session.proofs.started.Lts as lts
-use Rattle.memory.proofs.Store.empty.Reads as empty-reads
-use Rattle.session.proofs.none.Reads as none_reads
-use Rattle.transcript.proofs.ticks_line.Reads as ticks-line-reads
-use Rattle.unit.proofs.start.Reads as start-reads
-use Rattle.unit.proofs.unstarted.Reads as unstarted-reads
 use Rattle.session.proofs.started.Goals as goal
 
 pub returns-in-Accepted : goal.returns-in-Accepted

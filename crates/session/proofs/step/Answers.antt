@@ -7,12 +7,6 @@ use lib.ListN.{replicate}
 use Rattle.session.specs.Sessions.{stepped_of}
 use Rattle.session.proofs.Ticks.{read_tick, no_tick, too_long, transfer_held}
 use borrow.Author.Rules.{rules}
-use Rattle.session.proofs.step.Reads as reads
-use Rattle.session.proofs.step.Lts as lts
-use Rattle.session.proofs.ended.Reads as ended-reads
-use Rattle.session.proofs.ticked.Reads as ticked-reads
-use Rattle.sheet.proofs.read_tick.Reads as read-tick-reads
-use Rattle.wire.proofs.first.Reads as first_reads
 use Rattle.session.proofs.step.Goals as goal
 
 pub returns-then-session-eq0 : goal.returns-then-session-eq0
@@ -34,17 +28,17 @@ unfolding stepped_of
 returns-else-session c =
     let a = c.args in
     let t = read_tick 256 a.s.now a.session.at _ _ _ _ _ (sym c.in-Is.is ∙ c.read_tick.ensures.answer) in
-    let held = transfer_held a.s.now a.session.at (replicate 256 0) t.tick _ _ t.is_any t.short t.its-count in
+    let held = transfer_held a.s.now a.session.at (replicate 256 0) t.tick _ _ t.is_any t.short t.its_count in
     let rail = c.in-Is.rail in
-    let ran = rw (kept rail rail refl (omega (arith, c.known_told-1.given.0.1))) at c.ticked.ensures in
+    let ran = rw (kept rail rail refl (omega arith)) at c.ticked.ensures in
     let transfer = rw (c.read_tick.ensures.held, held) at c.first.ensures in
     rw (
       t.is,
       ne_eqb a.session.left 0 (λ e. absurd (omega arith)),
       le-ltb a.session.count a.session.left (omega arith),
-      t.its-rail,
-      t.its-set,
-      t.its-sent,
+      t.its_rail,
+      t.its_set,
+      t.its_sent,
       ← transfer,
     )
     ran
