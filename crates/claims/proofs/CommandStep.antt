@@ -62,8 +62,8 @@ obeying o b = of-channels.obeyed b.profile.fitted b.profile.forced o b.channels
 
 -- what a decoded transfer is to the small machine
 abbrev pub asked : Decoded → small.Command
-asked (Run Command.SwitchToNominal) = small.switchToNominal
-asked (Run Command.SwitchToSafety) = small.switchToSafety
+asked (Run Command.SwitchToNominal) = small.switch_to_nominal
+asked (Run Command.SwitchToSafety) = small.switch_to_safety
 asked (Run (Command.GroupOn g)) = small.switch_on
 asked (Run (Command.GroupOff g)) = small.switch_on
 asked (Run (Command.GroupState g)) = small.switch_on
@@ -88,8 +88,8 @@ pub data Does (rail : ℤ) (limits : Limits) (d : Decoded) (ask : small.Command)
   refuses : ask ≡ small.switch_on → Stays b c.board → Does rail limits d ask b c
   switches : ask ≡ small.switch_on → mode_of b ≡ Nominal → (o : of-channels.Command) → Becomes b.phase (obeying o b) c.board → Does rail limits d ask b c
   cancels : ask ≡ small.other → Becomes b.phase (obeying of-channels.command_enabled_off_lem b) c.board → Does rail limits d ask b c
-  to_safety_lem : ask ≡ small.switchToSafety → Changes (to_safety b.phase) b c.board → Does rail limits d ask b c
-  to_nominal_lem : ask ≡ small.switchToNominal → Changes (to_nominal b.phase rail limits) b c.board → Does rail limits d ask b c
+  to_safety_lem : ask ≡ small.switch_to_safety → Changes (to_safety b.phase) b c.board → Does rail limits d ask b c
+  to_nominal_lem : ask ≡ small.switch_to_nominal → Changes (to_nominal b.phase rail limits) b c.board → Does rail limits d ask b c
   restarts : d ≡ Run Command.SystemReset → c.outcome ≡ Answered Accepted → c.board ≡ command_reset_of b → Does rail limits d ask b c
 
 -- ---- each command

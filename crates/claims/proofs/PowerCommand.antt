@@ -53,8 +53,8 @@ pub data DoesAt (k : ℕ) (rail : ℤ) (limits : Limits) (d : Decoded) (ask : sm
   idle : is_startup (mode_of b) ≡ true → Moved k b.phase b c.board → DoesAt k rail limits d ask b c
   left : ask ≡ small.other → Moved k b.phase b c.board → DoesAt k rail limits d ask b c
   switched : ask ≡ small.switch_on → Moved k b.phase b c.board ⊎ Lit k b c.board → DoesAt k rail limits d ask b c
-  made_safe : ask ≡ small.switchToSafety → Moved k (leaves (to_safety b.phase) b.phase) b c.board → DoesAt k rail limits d ask b c
-  made_nominal : ask ≡ small.switchToNominal → Moved k (leaves (to_nominal b.phase rail limits) b.phase) b c.board → DoesAt k rail limits d ask b c
+  made_safe : ask ≡ small.switch_to_safety → Moved k (leaves (to_safety b.phase) b.phase) b c.board → DoesAt k rail limits d ask b c
+  made_nominal : ask ≡ small.switch_to_nominal → Moved k (leaves (to_nominal b.phase rail limits) b.phase) b c.board → DoesAt k rail limits d ask b c
   restarted : d ≡ Run SystemReset → c.outcome ≡ Answered Accepted → c.board ≡ command_reset_of b → DoesAt k rail limits d ask b c
 
 -- what a change of mode does to one force-enabled channel

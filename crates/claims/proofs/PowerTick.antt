@@ -83,8 +83,8 @@ unmoved : (rail : ℤ) (limits : Limits) (c : small.Command) (s : small.State) �
 unfolding to_safety to_nominal
 unmoved rail limits small.other s e h = refl
 unmoved rail limits small.switch_on s e h = ap (λ (o : Bool). record { phase = s.phase; on = o }) (nominal_on s.phase.mode s.on h)
-unmoved rail limits small.switchToSafety s e h = rw e (ap (λ (o : Bool). record { phase = Startup aged s.phase.age; on = o }) (sym (h ∙ ap is_lit e)))
-unmoved rail limits small.switchToNominal s e h = rw e (ap (λ (o : Bool). record { phase = Startup aged s.phase.age; on = o }) (sym (h ∙ ap is_lit e)))
+unmoved rail limits small.switch_to_safety s e h = rw e (ap (λ (o : Bool). record { phase = Startup aged s.phase.age; on = o }) (sym (h ∙ ap is_lit e)))
+unmoved rail limits small.switch_to_nominal s e h = rw e (ap (λ (o : Bool). record { phase = Startup aged s.phase.age; on = o }) (sym (h ∙ ap is_lit e)))
 
 -- startup is the one mode that is startup
 startup_is : (m : Mode) → is_startup m ≡ true → m ≡ Startup

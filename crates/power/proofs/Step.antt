@@ -10,7 +10,7 @@ use Rattle.modes.specs.Table.{◌reaches◌, ◌exceeds◌, ◌at_least◌, ◌a
 use Rattle.modes.specs.Commands.{to_safety, to_nominal}
 use Rattle.modes.specs.declared.Mode.{Mode}
 use Rattle.modes.specs.declared.Mode.TheVariants.{Startup, Nominal, Safety, Emergency}
-use Rattle.power.specs.Machine.{State, Times, Command, switchToNominal, switchToSafety, switch_on, other, Input, limits_in, is_lit, enters, obeyed, tick, InStep}
+use Rattle.power.specs.Machine.{State, Times, Command, switch_to_nominal, switch_to_safety, switch_on, other, Input, limits_in, is_lit, enters, obeyed, tick, InStep}
 
 -- a test cannot come to both
 pub clash : {X : Type 0} {b : Bool} → b ≡ true → b ≡ false → X
@@ -124,14 +124,14 @@ by_command_lem t i switch_on s Startup a o g = g
 by_command_lem t i switch_on s Nominal a o g = as_lit g
 by_command_lem t i switch_on s Safety a o g = g
 by_command_lem t i switch_on s Emergency a o g = g
-by_command_lem t i switchToSafety s Startup a o g = as_lit g
-by_command_lem t i switchToSafety s Nominal a o g = to_safety_lem g
-by_command_lem t i switchToSafety s Safety a o g = g
-by_command_lem t i switchToSafety s Emergency a o g = as_lit g
-by_command_lem t i switchToNominal s Startup a o g = as_lit g
-by_command_lem t i switchToNominal s Nominal a o g = g
-by_command_lem t i switchToNominal s Safety a o g = cases (i.rail at_least i.safety_low) (λ e. rw e (to_nominal_lem g)) (λ e. rw e g)
-by_command_lem t i switchToNominal s Emergency a o g = as_lit g
+by_command_lem t i switch_to_safety s Startup a o g = as_lit g
+by_command_lem t i switch_to_safety s Nominal a o g = to_safety_lem g
+by_command_lem t i switch_to_safety s Safety a o g = g
+by_command_lem t i switch_to_safety s Emergency a o g = as_lit g
+by_command_lem t i switch_to_nominal s Startup a o g = as_lit g
+by_command_lem t i switch_to_nominal s Nominal a o g = g
+by_command_lem t i switch_to_nominal s Safety a o g = cases (i.rail at_least i.safety_low) (λ e. rw e (to_nominal_lem g)) (λ e. rw e g)
+by_command_lem t i switch_to_nominal s Emergency a o g = as_lit g
 
 -- a whole tick
 pub good : (t : Times) → t.period < 2 ^ 64 → (s : State) (i : Input) → InStep s → Good t s (tick t s i)

@@ -18,7 +18,7 @@ pub record Times : Type 0 where
 -- what a command is to this machine: 0x30, 0x32, one of the five that switch channels, by which a force-enabled one can
 -- only come on, or any other, which alters neither the mode nor the channel
 pub data Command : Type 0 where
-  switchToNominal switchToSafety switch_on other : Command
+  switch_to_nominal switch_to_safety switch_on other : Command
 
 -- what a tick brings: the rail and the four thresholds then in force, in millivolts with their sign, and a command
 pub record Input : Type 0 where
@@ -53,8 +53,8 @@ enters next s = record { phase = next; on = cond (is_lit next.mode) (cond (is_li
 
 -- channels are switched in nominal alone
 abbrev pub obeyed : Command → ℤ → Limits → State → State
-obeyed switchToNominal rail limits s = enters (leaves (to_nominal s.phase rail limits) s.phase) s
-obeyed switchToSafety rail limits s = enters (leaves (to_safety s.phase) s.phase) s
+obeyed switch_to_nominal rail limits s = enters (leaves (to_nominal s.phase rail limits) s.phase) s
+obeyed switch_to_safety rail limits s = enters (leaves (to_safety s.phase) s.phase) s
 obeyed switch_on rail limits s = record { phase = s.phase; on = same s.phase.mode Nominal || s.on }
 obeyed other rail limits s = s
 
