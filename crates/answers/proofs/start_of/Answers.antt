@@ -1,5 +1,4 @@
 use Rattle.answers.specs.Answers.{received_in}
-use borrow.Author.Rules.{rules}
 use Rattle.answers.proofs.start_of.Goals as goal
 
 pub returns : goal.returns

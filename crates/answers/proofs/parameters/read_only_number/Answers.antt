@@ -2,7 +2,6 @@
 use native.Mathlib.Omega.{arith}
 use borrow.Author.Tests.{ne_eqb}
 use Rattle.answers.specs.Parameters.{read_only_number, number_in}
-use borrow.Author.Rules.{rules}
 use Rattle.answers.proofs.parameters.read_only_number.Goals as goal
 
 pub returns-in-10240 : goal.returns-in-10240

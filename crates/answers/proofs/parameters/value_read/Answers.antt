@@ -2,7 +2,6 @@
 use mathlib.Core.Path.{sym, ◌∙◌}
 use Rattle.answers.proofs.Values.{cut_at_width, value_taken}
 use Rattle.answers.specs.Parameters.{value_read, room_read}
-use borrow.Author.Rules.{rules}
 use Rattle.answers.proofs.parameters.value_read.Goals as goal
 
 pub returns-in-Value-clause-read : goal.returns-in-Value-clause-read
