@@ -3,3 +3,4 @@ pub mod Filling
 pub mod PackPlaces
 pub mod Places
 pub mod Rows
+pub mod Scaled
