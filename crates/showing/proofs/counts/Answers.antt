@@ -1,6 +1,4 @@
 -- The counts are the channels'. Assumes nothing.
-use Rattle.script.specs.Printing.{typed}
-use borrow.Author.Rules.{rules}
 use Rattle.showing.proofs.counts.Goals as goal
 
 pub returns : goal.returns

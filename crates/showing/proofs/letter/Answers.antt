@@ -1,6 +1,5 @@
 -- The space, and the character behind it. Assumes nothing.
 use Rattle.script.specs.Printing.{typed}
-use borrow.Author.Rules.{rules}
 use Rattle.showing.proofs.letter.Goals as goal
 
 pub returns : goal.returns

@@ -1,6 +1,5 @@
 -- By whether a reply was made. Assumes nothing.
 use Rattle.showing.specs.Showing.{made_text}
-use borrow.Author.Rules.{rules}
 use Rattle.showing.proofs.made.Goals as goal
 
 pub returns-then-replied : goal.returns-then-replied

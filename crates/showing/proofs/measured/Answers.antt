@@ -1,5 +1,4 @@
 -- The words that count are a part of those held. Assumes nothing.
-use borrow.Author.Rules.{rules}
 use Rattle.showing.proofs.measured.Goals as goal
 
 pub returns : goal.returns

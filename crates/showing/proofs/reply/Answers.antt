@@ -1,7 +1,5 @@
 -- The bytes that the reply shows. Assumes nothing.
-use Rattle.script.specs.Printing.{typed}
 use Rattle.showing.specs.Showing.{reply_text}
-use borrow.Author.Rules.{rules}
 use Rattle.showing.proofs.reply.Goals as goal
 
 pub returns : goal.returns

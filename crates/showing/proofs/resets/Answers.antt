@@ -1,8 +1,7 @@
 -- Each field behind the one before it. Assumes nothing.
-use Rattle.script.specs.Printing.{Page, page, typed}
+use Rattle.script.specs.Printing.{typed}
 use Rattle.script.proofs.Turns.{typed_append}
 use Rattle.showing.specs.Showing.{resets_text}
-use borrow.Author.Rules.{rules}
 use Rattle.showing.proofs.resets.Goals as goal
 
 pub returns : goal.returns

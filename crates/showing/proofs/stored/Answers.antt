@@ -1,6 +1,5 @@
 -- By whether something is stored. Assumes nothing.
 use Rattle.showing.specs.Showing.{stored_text}
-use borrow.Author.Rules.{rules}
 use Rattle.showing.proofs.stored.Goals as goal
 
 pub returns-then-s : goal.returns-then-s

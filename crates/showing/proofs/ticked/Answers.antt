@@ -1,7 +1,5 @@
 -- By what the tick tells. Assumes nothing.
-use Rattle.script.specs.Printing.{typed}
 use Rattle.showing.specs.Showing.{ticked_line}
-use borrow.Author.Rules.{rules}
 use Rattle.showing.proofs.ticked.Goals as goal
 
 pub returns-in-WrongWordCount : goal.returns-in-WrongWordCount
