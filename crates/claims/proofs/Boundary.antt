@@ -5,7 +5,7 @@ use Rattle.kinds.specs.Kinds.{is_in}
 use Rattle.wire.specs.Replies as replies
 use Rattle.wire.specs.Numbers.{bytes_of, number}
 use Rattle.settings.specs.Table as tables
-use Rattle.settings.specs.Values.{with_number, set_of as setSetting, setting_of, defaults_of, default_n}
+use Rattle.settings.specs.Values.{with_number, set_of as set_setting, setting_of, defaults_of, default_n}
 use Rattle.modes.specs.Table.{step_of, older_of}
 use Rattle.channels.specs.Sets.{has, set_of}
 use Rattle.channels.specs.Chan.{whole}
@@ -37,7 +37,7 @@ in_one [] none = refl
 in_one (r ∷ rs) (p and ps) = rw (p, in_one rs ps)
 
 each_row : Each rows
-unfolding set rows tick_with risen_of older_of dog.risen_of changed_of step_of entering_of is_dark from_nominal_to_safety timer_after whole has set_of tripped_of overcurrent_at commanded_of transferred_of returning first checks_of checks header_differs id_wrong unavailable channel_codes channel_wrong checksum_wrong is_startup fewer_than_four decode_of header_is is_in command_table.command_table command_table.find listed carried group_in number bytes_of run_of reported_of group_off_of group_state_of switched_of is_nominal group_off group_state accepted_of accepted_with refused_of short_reply replies.shown replies.written replies.reply_of replies.room replies.laid_out replies.reply_code watched_in dog.watched_of timeout_of setting_of tables.parameter_of tables.row_of tables.find tables.read_write_rows tables.lies set_in setSetting with_number tables.same tables.clamp_of tables.at_least tables.at_most tables.low_of tables.high_of defaults_of default_n tables.column tables.default_of fresh_of watchdog_reset_of loaded_from empty_store
+unfolding set rows tick_with risen_of older_of dog.risen_of changed_of step_of entering_of is_dark from_nominal_to_safety timer_after whole has set_of tripped_of overcurrent_at commanded_of transferred_of returning first checks_of checks header_differs id_wrong unavailable channel_codes channel_wrong checksum_wrong is_startup fewer_than_four decode_of header_is is_in command_table.command_table command_table.find listed carried group_in number bytes_of run_of reported_of group_off_of group_state_of switched_of is_nominal group_off group_state accepted_of accepted_with refused_of short_reply replies.shown replies.written replies.reply_of replies.room replies.laid_out replies.reply_code watched_in dog.watched_of timeout_of setting_of tables.parameter_of tables.row_of tables.find tables.read_write_rows tables.lies set_in set_setting with_number tables.same tables.clamp_of tables.at_least tables.at_most tables.low_of tables.high_of defaults_of default_n tables.column tables.default_of fresh_of watchdog_reset_of loaded_from empty_store
 each_row =
     refl  -- 1
     and refl  -- 2

@@ -37,7 +37,7 @@ use Rattle.state.specs.declared.parts.Board.{Board}
 use Rattle.answers.specs.Answers.{told_number, accepted_with, accepted_of, refused_of, not_this_board_of}
 use Rattle.answers.specs.declared.Answer.{Answer}
 use Rattle.answers.specs.declared.Commanded.{Commanded}
-use Rattle.effects.specs.Effects.{is_nominal, switched_of, group_on_of, group_off_of, group_state_of, channel_on_of, channel_off_of, cancelled_of, switched_mode_of, faults_of, housekeeping_of, engineering_housekeeping_of, abf_of, battery_housekeeping_of, engineering_battery_housekeeping_of, parameter_answered as parameterRun, remembered_of, saved_in, restarted_of, reported_of, run_of}
+use Rattle.effects.specs.Effects.{is_nominal, switched_of, group_on_of, group_off_of, group_state_of, channel_on_of, channel_off_of, cancelled_of, switched_mode_of, faults_of, housekeeping_of, engineering_housekeeping_of, abf_of, battery_housekeeping_of, engineering_battery_housekeeping_of, parameter_answered as parameter_run, remembered_of, saved_in, restarted_of, reported_of, run_of}
 use Rattle.asking.specs.Checks.{◌is◌, is_startup, channel_codes, unavailable, channel_wrong, checksum_wrong, checks_of}
 use Rattle.commands.proofs.Stepwise.{turned_down, decoded_of, stepped_of}
 
@@ -117,19 +117,19 @@ module _ (rail : ℤ) (limits : Limits) (b : Board) where
 
     -- parameters
     got : (code id : ℕ) (p : Parameter) → told_of code (get_by id p) ≡ some (cond (id_wrong 0x82 p) 7 0)
-    unfolding decoded_of turned_down refused_of run_of reported_of parameterRun accepted_with id_wrong
+    unfolding decoded_of turned_down refused_of run_of reported_of parameter_run accepted_with id_wrong
     got code id (ReadWrite t) = refl
     got code id (ReadOnly t) = refl
     got code id Unknown = refl
 
     reset : (code id : ℕ) (p : Parameter) → told_of code (reset_by id p) ≡ some (cond (id_wrong 0x86 p) 7 0)
-    unfolding decoded_of turned_down refused_of run_of reported_of parameterRun accepted_with id_wrong
+    unfolding decoded_of turned_down refused_of run_of reported_of parameter_run accepted_with id_wrong
     reset code id (ReadWrite t) = refl
     reset code id (ReadOnly t) = refl
     reset code id Unknown = refl
 
     value_set : (code id : ℕ) (v : Parsed) → told_of code (valued id v) ≡ some (cond (is_too_short v) 5 (cond (is_nan_value v) 7 0))
-    unfolding decoded_of turned_down refused_of run_of reported_of parameterRun accepted_with valued
+    unfolding decoded_of turned_down refused_of run_of reported_of parameter_run accepted_with valued
     value_set code id (Parsed.Value v) = refl
     value_set code id Parsed.TooShort = refl
     value_set code id Parsed.NotANumber = refl

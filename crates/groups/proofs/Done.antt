@@ -46,7 +46,7 @@ use Rattle.answers.specs.Answers as answers
 use Rattle.answers.specs.Answers.{told_number, new, fed, accepted_with, accepted_of, refused_of, not_this_board_of}
 use Rattle.answers.specs.declared.Answer.{Answer}
 use Rattle.answers.specs.declared.Commanded.{Commanded}
-use Rattle.effects.specs.Effects.{is_nominal, switched_of, group_on_of, group_off_of, group_state_of, channel_on_of, channel_off_of, cancelled_of, switched_mode_of, faults_of, housekeeping_of, engineering_housekeeping_of, abf_of, battery_housekeeping_of, engineering_battery_housekeeping_of, parameter_answered as parameterRun, remembered_of, saved_in, restarted_of, reported_of, run_of}
+use Rattle.effects.specs.Effects.{is_nominal, switched_of, group_on_of, group_off_of, group_state_of, channel_on_of, channel_off_of, cancelled_of, switched_mode_of, faults_of, housekeeping_of, engineering_housekeeping_of, abf_of, battery_housekeeping_of, engineering_battery_housekeeping_of, parameter_answered as parameter_run, remembered_of, saved_in, restarted_of, reported_of, run_of}
 use Rattle.asking.specs.Checks.{is_startup}
 use Rattle.commands.specs.Step.{commanded_of}
 use Rattle.commands.proofs.Stepwise.{turned_down, decoded_of, stepped_of}
@@ -176,8 +176,8 @@ module _ (rail : ℤ) (limits : Limits) (s : List ℕ) (b : Board) where
   remembered m = accepting refl (remembers _ m)
 
   -- another memory, told with the value of an id
-  parameter : {k : ℕ} {m : Memory} (id : ℕ) → Remembers k m → Does k (parameterRun k id m b)
-  unfolding parameterRun accepted_with
+  parameter : {k : ℕ} {m : Memory} (id : ℕ) → Remembers k m → Does k (parameter_run k id m b)
+  unfolding parameter_run accepted_with
   parameter id m = accepting refl (remembers _ m)
 
   -- 0x94, which refuses a wrong checksum
@@ -191,7 +191,7 @@ module _ (rail : ℤ) (limits : Limits) (s : List ℕ) (b : Board) where
 
   -- 0x82
   got : (id : ℕ) (p : Parameter) → Runs 0x82 (get_by id p)
-  unfolding decoded_of run_of reported_of parameterRun accepted_with is_in
+  unfolding decoded_of run_of reported_of parameter_run accepted_with is_in
   got id (ReadWrite t) = accepting refl (replies _ _ refl)
   got id (ReadOnly t) = accepting refl (replies _ _ refl)
   got id Unknown = turned_down_lem 0x82 WrongParameter

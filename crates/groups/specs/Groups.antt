@@ -35,8 +35,8 @@ pub data Sentence : Type 0 where
   at◌each◌becomes◌ : ℕ → Bool → (Chan → Chan) → Sentence
 
 -- off, with no latch and a count of 0
-abbrev pub as_after_aReset : Chan → Chan
-as_after_aReset ch = clear_one
+abbrev pub as_after_a_reset : Chan → Chan
+as_after_a_reset ch = clear_one
 
 -- document 01's sentences, for channel c
 module _ (board : Board) (s : List ℕ) (c : ℕ) where
@@ -70,7 +70,7 @@ module _ (board : Board) (s : List ℕ) (c : ℕ) where
       ∷ at 0x18 each (is_command_enabled && is_the_one) becomes off_and_cleared
       ∷ at 0x04 each is_command_enabled becomes off_and_latch_kept
       ∷ at 0x32 each (same (mode_of board) Nominal && is_command_enabled) becomes off_and_latch_kept
-      ∷ at 0xAA each true becomes as_after_aReset
+      ∷ at 0xAA each true becomes as_after_a_reset
       ∷ []
 
 -- what some sentences make of a channel by a command of a code: a channel that none of them names stays as it is
