@@ -4,7 +4,7 @@ use Prim.Native.Nat.{ℕ, zero, suc, ◌+◌, ◌-◌, ◌*◌, ◌/◌, ◌%◌
 use mathlib.Core.Path.{◌≡◌, refl, sym, ap, ◌∙◌}
 use mathlib.Core.List.{List, [], ◌∷◌, ◌++◌}
 use native.Mathlib.Omega.{arith}
-use lib.ListN.{length, get_or, drop, set, length-set}
+use lib.ListN.{length, get_or, drop}
 use lib.Seq.{sets, set_out, get_or-drop, drop-drop}
 use lib.Dec.{ltb}
 use borrow.Author.Tests.{lt-ltb, le-ltb}
@@ -14,7 +14,7 @@ use Rattle.laws.proofs.Lists.{lt_or_le, drop_step, drop_two, drop_end}
 use Rattle.hexadecimal.specs.Hex.{capital_of, digit_of, pair_of}
 use Rattle.hexadecimal.specs.Passes.{worth}
 use Rattle.hexadecimal.specs.declared.Hex.{Hex}
-use Rattle.script.specs.Printing.{Page, page, and, typed, over, digits_of, row, hex_of}
+use Rattle.script.specs.Printing.{Page, and, typed, over, digits_of, row, hex_of}
 use Rattle.script.specs.Reading.{where_one, field_of, count_of, sound, words_of}
 use Rattle.script.specs.declared.reading.Field.{Field}
 use Rattle.script.specs.declared.reading.Count.{Count}

@@ -1,11 +1,8 @@
 -- What is left, taken in behind what was, makes what all of them make. Assumes nothing.
-use borrow.Author.Rules.{rules}
-use native.Mathlib.Omega.{arith}
 use Prim.Native.Nat.{◌-◌, ◌≤◌}
-use mathlib.Core.Path.{◌≡◌, refl, ap, sym, ◌∙◌}
+use mathlib.Core.Path.{◌≡◌}
 use lib.ListN.{length, drop}
 use Rattle.pattern.specs.Digest.{all_taken}
-use Rattle.pattern.proofs.Steps.{taken_turn, taken_end}
 use Rattle.pattern.proofs.digest.bytes_taken.Given as goal
 
 abbrev pub invariant-loop-i : goal.invariant-loop-i

@@ -1,10 +1,6 @@
 -- What is left, taken in behind what was, makes what all of them make. Assumes nothing.
-use borrow.Author.Rules.{rules}
 use native.Mathlib.Omega.{arith}
-use Prim.Native.Nat.{◌-◌, ◌≤◌}
-use mathlib.Core.Path.{◌≡◌, refl, ap, sym, ◌∙◌}
-use lib.ListN.{length, drop}
-use Rattle.pattern.specs.Digest.{all_taken}
+use mathlib.Core.Path.{refl, sym, ◌∙◌}
 use Rattle.pattern.proofs.Steps.{taken_turn, taken_end}
 use Rattle.pattern.proofs.digest.words_taken.Goals as goal
 

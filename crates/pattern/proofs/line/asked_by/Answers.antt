@@ -1,7 +1,6 @@
 -- By the kind, the space and the count. Assumes nothing.
-use borrow.Author.Rules.{rules}
 use borrow.Author.Tests.{eq-eqb, ne_eqb}
-use mathlib.Core.Path.{sym, ◌∙◌}
+use mathlib.Core.Path.{sym}
 use Rattle.pattern.proofs.line.asked_by.Goals as goal
 
 pub returns-in-Of : goal.returns-in-Of

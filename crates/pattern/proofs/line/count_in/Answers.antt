@@ -1,5 +1,4 @@
 -- Too short, too long, without LF, or digits. Assumes nothing.
-use borrow.Author.Rules.{rules}
 use borrow.Author.Tests.{lt-ltb, le-ltb, eq-eqb, ne_eqb}
 use mathlib.Core.Path.{sym, ◌∙◌}
 use Rattle.pattern.proofs.line.count_in.Goals as goal

@@ -1,5 +1,4 @@
 -- By cases of the letter. Assumes nothing.
-use borrow.Author.Tests.{ne_eqb}
 use native.Mathlib.Omega.{arith}
 use Rattle.std.proofs.lemmas.Grind.{common_steps}
 use Rattle.pattern.specs.Line.{kinds, is_in}

@@ -1,11 +1,8 @@
 -- The digits that are left, behind the number so far, make what all of them make. Assumes nothing.
-use borrow.Author.Rules.{rules}
-use native.Mathlib.Omega.{arith}
 use Prim.Native.Nat.{◌-◌, ◌≤◌}
-use mathlib.Core.Path.{◌≡◌, refl, sym, ◌∙◌}
+use mathlib.Core.Path.{◌≡◌}
 use lib.ListN.{length, drop}
 use Rattle.pattern.specs.Line.{count_in}
-use Rattle.pattern.proofs.Steps.{number_low, number_high, number_turn, number_end}
 use Rattle.pattern.proofs.line.number.Given as goal
 
 abbrev pub invariant-loop-i : goal.invariant-loop-i

@@ -1,5 +1,4 @@
 -- Each part is its function's. Assumes nothing.
-use borrow.Author.Rules.{rules}
 use Rattle.pattern.specs.Ticks.{brought_of, bringing}
 use Rattle.pattern.proofs.Steps.{rail_pos}
 use Rattle.pattern.proofs.ticks.brought_by.Goals as goal

@@ -1,7 +1,6 @@
 -- One word or none. Assumes nothing.
 use native.Mathlib.Omega.{arith}
 use borrow.Author.Tests.{eq-eqb, ne_eqb}
-use borrow.Author.Rules.{rules}
 use Rattle.pattern.proofs.ticks.change.Goals as goal
 
 pub offset_bounds-words-place : goal.offset_bounds-words-place

@@ -1,5 +1,4 @@
 -- As many as the board has.
-use borrow.Author.Rules.{rules}
 use Rattle.pattern.proofs.ticks.counted.Goals as goal
 
 pub returns : goal.returns

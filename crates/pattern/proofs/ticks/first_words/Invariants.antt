@@ -1,14 +1,9 @@
 -- The numbers that are left, stored behind those so far. Assumes nothing.
-use borrow.Author.Rules.{rules}
-use native.Mathlib.Omega.{arith}
-use Prim.Native.Nat.{ℕ, ◌≤◌, ◌-◌, ◌+◌}
-use mathlib.Core.Path.{◌≡◌, refl, ap, sym, ◌∙◌}
-use lib.ListN.{length, length-set}
+use Prim.Native.Nat.{◌≤◌, ◌-◌}
+use mathlib.Core.Path.{◌≡◌}
+use lib.ListN.{length}
 use lib.Seq.{sets}
-use Rattle.laws.proofs.Lists.{sets_turn}
-use Rattle.wire.proofs.Room.{covering}
 use Rattle.pattern.specs.Ticks.{numbers_from}
-use Rattle.pattern.proofs.Steps.{numbers_turn, numbers_length, numbers_end}
 use Rattle.pattern.proofs.ticks.first_words.Given as goal
 
 abbrev pub invariant-loop-left : goal.invariant-loop-left

@@ -1,5 +1,4 @@
 -- The STID is the distribution board's.
-use borrow.Author.Rules.{rules}
 use Rattle.pattern.proofs.ticks.framed.Goals as goal
 
 pub returns : goal.returns

@@ -1,5 +1,4 @@
 -- Waking, in the mix, or of the run's own kind. Assumes nothing.
-use borrow.Author.Rules.{rules}
 use borrow.Author.Tests.{lt-ltb, le-ltb, eq-eqb, ne_eqb}
 use Rattle.pattern.proofs.ticks.kind_at.Goals as goal
 

@@ -1,5 +1,4 @@
 -- An overcurrent or none. Assumes nothing.
-use borrow.Author.Rules.{rules}
 use borrow.Author.Tests.{eq-eqb, ne_eqb}
 use Rattle.pattern.proofs.ticks.named.Goals as goal
 

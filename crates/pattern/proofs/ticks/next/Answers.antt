@@ -1,6 +1,5 @@
 -- Waking or not. Assumes nothing.
 use borrow.Author.Tests.{lt-ltb, le-ltb}
-use borrow.Author.Rules.{rules}
 use Rattle.pattern.proofs.ticks.next.Goals as goal
 
 pub returns-then-turn-lt-WAKING : goal.returns-then-turn-lt-WAKING

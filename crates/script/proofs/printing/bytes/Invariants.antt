@@ -1,12 +1,8 @@
 -- The bytes that are left, put behind what stands on the page now. Assumes nothing.
-use borrow.Author.Rules.{rules}
-use native.Mathlib.Omega.{arith}
-use Prim.Native.Nat.{ℕ, ◌≤◌, ◌-◌, ◌+◌}
-use mathlib.Core.Path.{◌≡◌, refl, ap, sym, ◌∙◌}
-use mathlib.Core.List.{List, [], ◌∷◌}
-use lib.ListN.{length, drop, get_or}
-use Rattle.script.specs.Printing.{page, typed, digits_of, row, hex_of}
-use Rattle.script.proofs.Turns.{turn, row_turn, row_end, hex_none, hex_some}
+use Prim.Native.Nat.{◌≤◌, ◌-◌}
+use mathlib.Core.Path.{◌≡◌}
+use lib.ListN.{length, drop}
+use Rattle.script.specs.Printing.{page, typed, row}
 use Rattle.script.proofs.printing.bytes.Given as goal
 
 abbrev pub invariant-loop-i : goal.invariant-loop-i

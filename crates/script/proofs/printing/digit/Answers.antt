@@ -2,7 +2,6 @@
 use borrow.Author.Tests.{lt-ltb, le-ltb}
 use native.Mathlib.Omega.{arith}
 use Prim.Native.Nat.{◌%◌}
-use borrow.Author.Rules.{rules}
 use Rattle.script.proofs.printing.digit.Goals as goal
 
 pub returns-then-d-lt10 : goal.returns-then-d-lt10

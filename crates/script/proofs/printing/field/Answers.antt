@@ -1,7 +1,6 @@
 -- The space, and the digits behind it. Assumes nothing.
 use mathlib.Core.Path.{ap, ◌∙◌}
-use Rattle.script.specs.Printing.{Page, page, typed, digits_of}
-use borrow.Author.Rules.{rules}
+use Rattle.script.specs.Printing.{Page, typed, digits_of}
 use Rattle.script.proofs.printing.field.Goals as goal
 
 pub returns : goal.returns

@@ -1,10 +1,8 @@
 -- The digits that are left, put behind what stands on the page now. Assumes nothing.
-use borrow.Author.Rules.{rules}
 use native.Mathlib.Omega.{arith}
-use Prim.Native.Nat.{ℕ, ◌≤◌, ◌-◌, ◌+◌, ◌%◌}
+use Prim.Native.Nat.{ℕ, ◌-◌, ◌%◌}
 use mathlib.Core.Path.{◌≡◌, refl, ap, sym, ◌∙◌}
-use mathlib.Core.List.{List, [], ◌∷◌}
-use lib.ListN.{length}
+use mathlib.Core.List.{[], ◌∷◌}
 use Rattle.hexadecimal.specs.Hex.{capital_of}
 use Rattle.script.specs.Printing.{page, typed, over, digits_of}
 use Rattle.script.proofs.Turns.{turn, digits_turn}

@@ -1,13 +1,7 @@
 -- The digits that are left, put behind what stands on the page now. Assumes nothing.
-use borrow.Author.Rules.{rules}
-use native.Mathlib.Omega.{arith}
-use Prim.Native.Nat.{ℕ, ◌≤◌, ◌-◌, ◌+◌, ◌%◌}
-use mathlib.Core.Path.{◌≡◌, refl, ap, sym, ◌∙◌}
-use mathlib.Core.List.{List, [], ◌∷◌}
+use mathlib.Core.Path.{◌≡◌}
 use lib.ListN.{length}
-use Rattle.hexadecimal.specs.Hex.{capital_of}
-use Rattle.script.specs.Printing.{page, typed, over, digits_of}
-use Rattle.script.proofs.Turns.{turn, digits_turn}
+use Rattle.script.specs.Printing.{page, typed, digits_of}
 use Rattle.script.proofs.printing.number.Given as goal
 
 abbrev pub invariant-loop-left : goal.invariant-loop-left

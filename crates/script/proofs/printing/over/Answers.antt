@@ -1,6 +1,5 @@
 -- What is left to drop, dropped from what the number is now. Assumes nothing.
 use Prim.Native.Nat.{ℕ}
-use borrow.Author.Rules.{rules}
 use native.Mathlib.Omega.{arith}
 use mathlib.Core.Path.{◌≡◌, refl, ap, sym, ◌∙◌}
 use Rattle.script.specs.Printing.{over}

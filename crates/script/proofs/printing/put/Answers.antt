@@ -1,7 +1,6 @@
 -- A store where there is room, and none past the end. Assumes nothing.
 use borrow.Author.Tests.{lt-ltb, le-ltb}
 use Rattle.script.specs.Printing.{and, typed}
-use borrow.Author.Rules.{rules}
 use Rattle.script.proofs.printing.put.Goals as goal
 
 pub returns-then-at-out : goal.returns-then-at-out

@@ -1,7 +1,6 @@
 -- The space, and the bytes behind it. Assumes nothing.
 use mathlib.Core.Path.{ap, ◌∙◌}
-use Rattle.script.specs.Printing.{Page, page, typed, hex_of}
-use borrow.Author.Rules.{rules}
+use Rattle.script.specs.Printing.{Page, typed, hex_of}
 use Rattle.script.proofs.printing.string.Goals as goal
 
 pub returns : goal.returns

@@ -1,14 +1,9 @@
 -- What is left of the text, put behind what stands on the page now, gives what all of it gives on the page at first.
 -- Assumes nothing.
-use borrow.Author.Rules.{rules}
-use native.Mathlib.Omega.{arith}
-use Prim.Native.Nat.{◌≤◌, ◌-◌, ◌+◌}
-use mathlib.Core.Path.{◌≡◌, refl, ap, sym, ◌∙◌}
-use mathlib.Core.List.{[], ◌∷◌}
-use lib.ListN.{length, drop, get_or}
-use Rattle.laws.proofs.Lists.{drop_step, drop_end}
+use Prim.Native.Nat.{◌≤◌, ◌-◌}
+use mathlib.Core.Path.{◌≡◌}
+use lib.ListN.{length, drop}
 use Rattle.script.specs.Printing.{page, typed}
-use Rattle.script.proofs.Turns.{turn}
 use Rattle.script.proofs.printing.text.Given as goal
 
 abbrev pub invariant-loop-i : goal.invariant-loop-i

@@ -1,10 +1,9 @@
 -- The words that are left, put behind what stands on the page now. Assumes nothing.
 use borrow.Author.Rules.{rules}
 use native.Mathlib.Omega.{arith}
-use Prim.Native.Nat.{ℕ, ◌≤◌, ◌-◌, ◌+◌}
-use mathlib.Core.Path.{◌≡◌, refl, ap, sym, ◌∙◌}
-use mathlib.Core.List.{List, [], ◌∷◌}
-use lib.ListN.{length, drop, get_or}
+use Prim.Native.Nat.{◌+◌}
+use mathlib.Core.Path.{refl, ap, sym, ◌∙◌}
+use lib.ListN.{drop, get_or}
 use Rattle.script.specs.Printing.{Page, page, typed, digits_of, row}
 use Rattle.script.proofs.Turns.{turn, row_turn, row_end}
 use Rattle.script.proofs.printing.words.Goals as goal

@@ -1,5 +1,4 @@
 -- The byte at the place is what is compared. Assumes nothing.
-use borrow.Author.Rules.{rules}
 use Rattle.script.proofs.reading.is_at.Goals as goal
 
 pub returns : goal.returns

@@ -1,14 +1,9 @@
 -- The words that are left, stored behind those so far. Assumes nothing.
-use borrow.Author.Rules.{rules}
-use native.Mathlib.Omega.{arith}
-use Prim.Native.Nat.{ℕ, ◌≤◌, ◌-◌, ◌+◌, ◌*◌}
-use mathlib.Core.Path.{◌≡◌, refl, ap, sym, ◌∙◌}
-use lib.ListN.{length, drop, get_or, length-set}
+use Prim.Native.Nat.{◌≤◌, ◌-◌, ◌*◌}
+use mathlib.Core.Path.{◌≡◌}
+use lib.ListN.{length, drop}
 use lib.Seq.{sets}
-use Rattle.laws.proofs.Lists.{sets_turn}
-use Rattle.wire.proofs.Room.{covering}
 use Rattle.script.specs.Reading.{words_of}
-use Rattle.script.proofs.Turns.{words_turn, words_length, words_end}
 use Rattle.script.proofs.reading.lent_words.Given as goal
 
 abbrev pub invariant-loop-left : goal.invariant-loop-left

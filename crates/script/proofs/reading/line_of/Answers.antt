@@ -1,5 +1,4 @@
 -- Too long or not. Assumes nothing.
-use borrow.Author.Rules.{rules}
 use Rattle.script.proofs.reading.line_of.Goals as goal
 
 pub returns : goal.returns

@@ -1,14 +1,11 @@
 -- The digits that are left, behind the number so far, spell what all of them spell. Assumes nothing.
 use borrow.Author.Rules.{rules}
 use native.Mathlib.Omega.{arith}
-use Prim.Native.Nat.{ℕ, ◌≤◌, ◌-◌, ◌+◌, ◌*◌, ◌%◌}
-use mathlib.Core.Path.{◌≡◌, refl, ap, sym, ◌∙◌}
-use lib.ListN.{drop, get_or}
+use mathlib.Core.Path.{refl, ap, sym, ◌∙◌}
+use lib.ListN.{drop}
 use Rattle.hexadecimal.specs.Hex.{digit_of}
 use Rattle.hexadecimal.specs.Passes.{worth}
-use Rattle.hexadecimal.specs.declared.Hex.{Hex}
-use Rattle.script.specs.Reading.{field_of, where_one}
-use Rattle.script.specs.declared.reading.Field.{Field}
+use Rattle.script.specs.Reading.{field_of}
 use Rattle.script.proofs.Turns.{number_bad, number_good, number_end}
 use Rattle.script.proofs.reading.number.Goals as goal
 

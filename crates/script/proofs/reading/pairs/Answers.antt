@@ -1,17 +1,12 @@
 -- The pairs that are left, counted behind those so far and stored behind what they stored. Assumes nothing.
 use borrow.Author.Rules.{rules}
 use native.Mathlib.Omega.{arith}
-use borrow.Author.Tests.{lt-ltb, le-ltb}
-use Prim.Native.Nat.{ℕ, ◌≤◌, ◌-◌, ◌+◌, ◌*◌, ◌/◌}
+use Prim.Native.Nat.{◌+◌, ◌*◌, ◌/◌}
 use mathlib.Core.Path.{◌≡◌, refl, ap, sym, ◌∙◌}
-use mathlib.Core.List.{List, [], ◌∷◌}
-use lib.ListN.{length, drop, get_or, length-set}
+use lib.ListN.{length, drop, length-set}
 use lib.Seq.{sets}
 use Rattle.laws.proofs.Lists.{sets_turn}
-use Rattle.hexadecimal.specs.Hex.{pair_of}
-use Rattle.hexadecimal.specs.Passes.{worth}
-use Rattle.hexadecimal.specs.declared.Hex.{Hex}
-use Rattle.script.specs.Reading.{count_of, sound, where_one}
+use Rattle.script.specs.Reading.{sound}
 use Rattle.script.specs.declared.reading.Count.{Count}
 use Rattle.script.proofs.Turns.{sound_bad, sound_good, count_bad, count_full, count_good, count_end, count_half, sound_end, sets_out}
 use Rattle.script.proofs.reading.pairs.Goals as goal

@@ -1,19 +1,9 @@
 -- The pairs that are left, counted behind those so far and stored behind what they stored. Assumes nothing.
-use borrow.Author.Rules.{rules}
-use native.Mathlib.Omega.{arith}
-use borrow.Author.Tests.{lt-ltb, le-ltb}
-use Prim.Native.Nat.{ℕ, ◌≤◌, ◌-◌, ◌+◌, ◌*◌, ◌/◌}
-use mathlib.Core.Path.{◌≡◌, refl, ap, sym, ◌∙◌}
-use mathlib.Core.List.{List, [], ◌∷◌}
-use lib.ListN.{length, drop, get_or, length-set}
+use Prim.Native.Nat.{◌≤◌, ◌-◌, ◌*◌, ◌/◌}
+use mathlib.Core.Path.{◌≡◌}
+use lib.ListN.{length, drop}
 use lib.Seq.{sets}
-use Rattle.laws.proofs.Lists.{sets_turn}
-use Rattle.hexadecimal.specs.Hex.{pair_of}
-use Rattle.hexadecimal.specs.Passes.{worth}
-use Rattle.hexadecimal.specs.declared.Hex.{Hex}
-use Rattle.script.specs.Reading.{count_of, sound, where_one}
-use Rattle.script.specs.declared.reading.Count.{Count}
-use Rattle.script.proofs.Turns.{sound_bad, sound_good, count_bad, count_full, count_good, count_end, count_half, sound_end, sets_out}
+use Rattle.script.specs.Reading.{count_of, sound}
 use Rattle.script.proofs.reading.pairs.Given as goal
 
 abbrev pub invariant-loop-k : goal.invariant-loop-k
