@@ -1,7 +1,6 @@
 -- By what the modes before and after are.
 use mathlib.Core.Path.{sym, ◌∙◌}
 use Rattle.change.specs.Change.{entering_of}
-use borrow.Author.Rules.{rules}
 use Rattle.change.proofs.entering.Goals as goal
 
 pub returns-then-is_dark : goal.returns-then-is_dark

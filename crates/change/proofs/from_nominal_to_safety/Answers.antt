@@ -1,6 +1,5 @@
 -- By the two modes.
 use Rattle.change.specs.Change.{from_nominal_to_safety}
-use borrow.Author.Rules.{rules}
 use Rattle.change.proofs.from_nominal_to_safety.Goals as goal
 
 pub returns-in-Startup : goal.returns-in-Startup

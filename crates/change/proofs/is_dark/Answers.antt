@@ -1,5 +1,4 @@
 use Rattle.change.specs.Change.{is_dark}
-use borrow.Author.Rules.{rules}
 use Rattle.change.proofs.is_dark.Goals as goal
 
 pub returns-in-Startup : goal.returns-in-Startup

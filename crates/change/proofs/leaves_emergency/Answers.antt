@@ -1,6 +1,5 @@
 -- By the two modes.
 use Rattle.change.specs.Change.{leaves_emergency}
-use borrow.Author.Rules.{rules}
 use Rattle.change.proofs.leaves_emergency.Goals as goal
 
 pub returns-in-Startup : goal.returns-in-Startup

@@ -1,5 +1,4 @@
 use Rattle.change.specs.Change.{left_emergency}
-use borrow.Author.Rules.{rules}
 use Rattle.change.proofs.left_emergency.Goals as goal
 
 pub returns : goal.returns

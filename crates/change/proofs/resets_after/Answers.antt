@@ -1,7 +1,6 @@
 -- By whether emergency is left.
 use mathlib.Core.Path.{sym, ◌∙◌}
 use Rattle.change.specs.Change.{resets_after}
-use borrow.Author.Rules.{rules}
 use Rattle.change.proofs.resets_after.Goals as goal
 
 pub returns-then-leaves_emergency : goal.returns-then-leaves_emergency

@@ -1,7 +1,6 @@
 -- By what the modes before and after are.
 use mathlib.Core.Path.{sym, ◌∙◌}
 use Rattle.change.specs.Change.{timer_after}
-use borrow.Author.Rules.{rules}
 use Rattle.change.proofs.timer_after.Goals as goal
 
 pub returns-then-was_dark : goal.returns-then-was_dark
