@@ -1,6 +1,5 @@
 use Rattle.effects.specs.Effects.{engineering_housekeeping_of}
 use Rattle.answers.specs.Answers.{accepted_with, refused_of}
-use borrow.Author.Rules.{rules}
 use Rattle.effects.proofs.engineering_housekeeping.Goals as goal
 
 pub returns : goal.returns

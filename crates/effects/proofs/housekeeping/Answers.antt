@@ -1,6 +1,5 @@
 use Rattle.effects.specs.Effects.{housekeeping_of}
 use Rattle.answers.specs.Answers.{accepted_with, refused_of}
-use borrow.Author.Rules.{rules}
 use Rattle.effects.proofs.housekeeping.Goals as goal
 
 pub returns : goal.returns

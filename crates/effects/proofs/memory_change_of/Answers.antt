@@ -1,5 +1,4 @@
 -- Command by command.
-use borrow.Author.Rules.{rules}
 use Rattle.effects.proofs.memory_change_of.Goals as goal
 
 pub returns-in-SetParameter : goal.returns-in-SetParameter

@@ -1,5 +1,4 @@
 use Rattle.answers.specs.Answers.{refused_of}
-use borrow.Author.Rules.{rules}
 use Rattle.effects.proofs.only_fed.Goals as goal
 
 pub returns : goal.returns

@@ -1,7 +1,6 @@
 -- Layout by layout.
 use Rattle.answers.specs.Answers.{accepted_of, accepted_with, refused_of}
 use Rattle.effects.specs.Effects.{faults_of, housekeeping_of, engineering_housekeeping_of, abf_of, battery_housekeeping_of, engineering_battery_housekeeping_of, parameter_answered, reported_of}
-use borrow.Author.Rules.{rules}
 use Rattle.effects.proofs.reported.Goals as goal
 
 pub returns-in-Short : goal.returns-in-Short

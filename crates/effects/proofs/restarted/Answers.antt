@@ -1,6 +1,5 @@
 use Rattle.effects.specs.Effects.{restarted_of}
 use Rattle.state.specs.Start.{command_reset_of, fresh_of}
-use borrow.Author.Rules.{rules}
 use Rattle.effects.proofs.restarted.Goals as goal
 
 pub returns : goal.returns

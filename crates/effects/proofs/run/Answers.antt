@@ -3,7 +3,6 @@ use mir.Syntax.{w16}
 use mir.ValLaws.{to_z-of_z}
 use Rattle.answers.specs.Answers.{accepted_of, accepted_with, refused_of}
 use Rattle.effects.specs.Effects.{parameter_answered, remembered_of, run_of}
-use borrow.Author.Rules.{rules}
 use Rattle.effects.proofs.run.Goals as goal
 
 pub returns-in-SystemReset : goal.returns-in-SystemReset

@@ -2,7 +2,6 @@ use mathlib.Core.Path.{sym}
 use borrow.Author.Tests.{not-true, not-false}
 use Rattle.effects.specs.Effects.{saved_in, remembered_of}
 use Rattle.answers.specs.Answers.{accepted_of, accepted_with, refused_of}
-use borrow.Author.Rules.{rules}
 use Rattle.effects.proofs.saved.Goals as goal
 
 pub returns-then-not-s : goal.returns-then-not-s

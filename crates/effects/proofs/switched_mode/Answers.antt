@@ -1,6 +1,5 @@
 -- By whether the change is available.
 use Rattle.effects.specs.Effects.{switched_mode_of}
-use borrow.Author.Rules.{rules}
 use Rattle.effects.proofs.switched_mode.Goals as goal
 
 pub returns-in-Accepted : goal.returns-in-Accepted

@@ -1,6 +1,5 @@
 use Rattle.effects.specs.Effects.{cancelled_of}
 use Rattle.answers.specs.Answers.{accepted_of, accepted_with}
-use borrow.Author.Rules.{rules}
 use Rattle.effects.proofs.switching.cancelled.Goals as goal
 
 pub returns : goal.returns

@@ -1,5 +1,4 @@
 use Rattle.effects.specs.Effects.{channel_off_of}
-use borrow.Author.Rules.{rules}
 use Rattle.effects.proofs.switching.channel_off.Goals as goal
 
 pub returns : goal.returns

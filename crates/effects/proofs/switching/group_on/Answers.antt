@@ -1,5 +1,4 @@
 use Rattle.effects.specs.Effects.{group_on_of}
-use borrow.Author.Rules.{rules}
 use Rattle.effects.proofs.switching.group_on.Goals as goal
 
 pub returns : goal.returns

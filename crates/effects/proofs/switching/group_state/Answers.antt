@@ -1,5 +1,4 @@
 use Rattle.effects.specs.Effects.{group_state_of}
-use borrow.Author.Rules.{rules}
 use Rattle.effects.proofs.switching.group_state.Goals as goal
 
 pub returns : goal.returns

@@ -1,5 +1,4 @@
 use Rattle.effects.specs.Effects.{is_nominal}
-use borrow.Author.Rules.{rules}
 use Rattle.effects.proofs.switching.is_nominal.Goals as goal
 
 pub returns-in-Startup : goal.returns-in-Startup
