@@ -1,6 +1,5 @@
 -- Page by page.
 use Rattle.answering.specs.Answering.{reply_to}
-use borrow.Author.Rules.{rules}
 use Rattle.answering.proofs.reply_to.Goals as goal
 
 pub returns-in-Short : goal.returns-in-Short

@@ -1,6 +1,0 @@
--- The words that count are a part of those held.
-use borrow.Author.Rules.{rules}
-use Rattle.answering.proofs.battery_housekeeping.Goals as goal
-
-pub returns : goal.returns
-returns c = rw (c.raw_battery.ensures, c.new_where-stat.ensures, c.word_count-count.ensures)
