@@ -1,6 +1,5 @@
 -- Transfers to a board and the replies that then wait, byte by byte. Assumes nothing.
 use Prim.Native.Nat.{ℕ}
-use mathlib.Core.Bool.{true}
 use mathlib.Core.List.{List, [], ◌∷◌, map}
 use mathlib.Core.Path.{◌≡◌, refl}
 use lib.IntN.{pos}
@@ -16,11 +15,11 @@ use Rattle.memory.specs.Memory.{empty_store}
 use Rattle.memory.specs.Limits.{limits_of}
 use Rattle.command.specs.Table.{command_table, find}
 use Rattle.kinds.specs.Kinds.{is_in}
-use Rattle.command.specs.Decode.{fewer_than_four, header_is, getting, value_part, carried, listed, decode_of}
+use Rattle.command.specs.Decode.{fewer_than_four, header_is, getting, carried, listed, decode_of}
 use Rattle.command.specs.Checks.{first, header_differs, id_wrong, checks}
 use Rattle.replies.specs.Layouts.{short_reply, parameter_reply}
 use Rattle.state.specs.Parts.{distribution_board, with_phase}
-use Rattle.state.specs.Start.{fresh_of, never_reset, command_reset_of, by_command}
+use Rattle.state.specs.Start.{fresh_of, never_reset, command_reset_of}
 use Rattle.state.specs.declared.parts.Board.{Board}
 use Rattle.answers.specs.Answers.{accepted_with, accepted_of, refused_of, not_this_board_of}
 use Rattle.answers.specs.Parameters.{value_read, read_only_number, number_in}

@@ -25,9 +25,9 @@ use Rattle.channels.specs.declared.Channels.{Channels}
 use Rattle.command.specs.Table.{command_table, find}
 use Rattle.command.specs.Decode.{fewer_than_four, header_of, header_is, code_of, byte_after, id_of, value_part, checksum_in, get_by, getting, valued, set_by, setting, reset_by, resetting, carried, listed, decode_of}
 use Rattle.command.specs.Answers.{refusal_number}
-use Rattle.command.specs.Checks.{Check, ◌when◌, first, header_differs, shorter, key_wrong, id_wrong, is_too_short, is_nan_value, value_reads, checks}
+use Rattle.command.specs.Checks.{Check, ◌when◌, first, shorter, key_wrong, id_wrong, is_too_short, is_nan_value, value_reads, checks}
 use Rattle.command.specs.declared.Decoded.{Decoded}
-use Rattle.command.specs.declared.Decoded.TheVariants.{Run, Refused}
+use Rattle.command.specs.declared.Decoded.TheVariants.{Refused}
 use Rattle.command.specs.declared.Refusal.{Refusal}
 use Rattle.command.specs.declared.Refusal.TheVariants.{FewerThanFourBytes, InStartup, NotThisBoard, CodeNotListed, TooShort, WrongKey, WrongParameter, NotANumber}
 use Rattle.command.proofs.Laws.{none, ◌and◌, at_code, table_codes, has_a_command, header_check}

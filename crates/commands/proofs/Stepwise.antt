@@ -1,7 +1,6 @@
 -- The command step as the code goes through it: the decoder's checks, and then those of the command itself. Assumes
 -- nothing: these are definitions, and `Told` shows that they are the step.
 use Prim.Native.Nat.{ℕ}
-use mathlib.Core.Bool.{Bool, cond, not}
 use mathlib.Core.List.{List}
 use lib.IntN.{ℤ}
 use Rattle.modes.specs.declared.Limits.{Limits}
@@ -12,7 +11,7 @@ use Rattle.command.specs.declared.Decoded.TheVariants.{Run, Refused}
 use Rattle.state.specs.declared.parts.Board.{Board}
 use Rattle.answers.specs.Answers.{silent_of, refused_of, not_this_board_of}
 use Rattle.answers.specs.declared.Answer.{Answer}
-use Rattle.answers.specs.declared.Outcome.TheVariants.{NoTransfer, Answered}
+use Rattle.answers.specs.declared.Outcome.TheVariants.{Answered}
 use Rattle.answers.specs.declared.Commanded.{Commanded}
 use Rattle.effects.specs.Effects.{run_of}
 use Rattle.commands.specs.Step.{read_by}

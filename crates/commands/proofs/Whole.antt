@@ -1,7 +1,7 @@
 -- The parts of the command step, put together in a board, are the step. Assumes nothing.
 use Prim.Native.Nat.{ℕ}
 use mathlib.Core.Path.{◌≡◌, refl, ap, sym, ◌∙◌}
-use mathlib.Core.Bool.{Bool, true, false, cond, not}
+use mathlib.Core.Bool.{Bool, true, false, cond}
 use mathlib.Core.List.{List}
 use lib.IntN.{ℤ}
 use Rattle.laws.proofs.Cases.{cases}
@@ -17,7 +17,7 @@ use Rattle.memory.specs.Memory.{is_right, saved_of}
 use Rattle.state.specs.Parts.{mode_of, with_reply, with_memory}
 use Rattle.state.specs.Start.{command_reset_of}
 use Rattle.state.specs.declared.parts.Board.{Board}
-use Rattle.answers.specs.Answers.{told_number, accepted_with, accepted_of, refused_of, not_this_board_of}
+use Rattle.answers.specs.Answers.{accepted_with, accepted_of, refused_of, not_this_board_of}
 use Rattle.answers.specs.declared.Commanded.{Commanded}
 use Rattle.effects.specs.Effects.{is_nominal, switched_of, group_on_of, group_off_of, group_state_of, channel_on_of, channel_off_of, cancelled_of, switched_mode_of, faults_of, housekeeping_of, engineering_housekeeping_of, abf_of, battery_housekeeping_of, engineering_battery_housekeeping_of, parameter_answered, remembered_of, saved_in, restarted_of, reported_of, run_of}
 use Rattle.asking.specs.Asked.{asked_by, asked_of}

@@ -1,7 +1,6 @@
 use mir.Syntax.{w16}
 use mir.ValLaws.{to_z-of_z}
 use Rattle.commands.specs.Parts.{asked_in}
-use borrow.Author.Rules.{rules}
 use Rattle.commands.proofs.obeyed.Goals as goal
 
 pub returns-in-Silence : goal.returns-in-Silence

@@ -7,7 +7,6 @@ use Rattle.answers.specs.declared.Answer.{Answer}
 use Rattle.effects.specs.Parts.{obeyed_in}
 use Rattle.commands.specs.Parts.{timer_answered, refused_with}
 use Rattle.effects.specs.declared.parts.Obeyed.{Obeyed}
-use borrow.Author.Rules.{rules}
 use Rattle.commands.proofs.refused.Goals as goal
 
 -- some small parts with another timer
