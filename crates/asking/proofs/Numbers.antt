@@ -13,7 +13,6 @@ use Rattle.command.specs.declared.Decoded.{Decoded}
 use Rattle.command.proofs.Laws.{first_check}
 use Rattle.asking.specs.Asked.{refused_by, asked_by, asked_number, asked_of, number_asked}
 use Rattle.asking.specs.Checks.{is_startup}
-use Rattle.asking.specs.declared.Asked.{Asked}
 
 refused_number : (r : Refusal) → asked_number (refused_by r) ≡ some (refusal_number r)
 refused_number Refusal.FewerThanFourBytes = refl

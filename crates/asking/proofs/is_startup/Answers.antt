@@ -1,5 +1,4 @@
 use Rattle.asking.specs.Checks.{is_startup}
-use borrow.Author.Rules.{rules}
 use Rattle.asking.proofs.is_startup.Goals as goal
 
 pub returns-in-Startup : goal.returns-in-Startup

@@ -1,5 +1,4 @@
 -- Refusal by refusal.
-use borrow.Author.Rules.{rules}
 use Rattle.asking.proofs.refused_by.Goals as goal
 
 pub returns-in-FewerThanFourBytes : goal.returns-in-FewerThanFourBytes
