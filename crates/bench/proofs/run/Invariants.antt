@@ -1,4 +1,4 @@
--- Ending: the measure is the number of ticks that are left. Assumes nothing.
+-- Safe and ending: the measure is the number of ticks that are left. Assumes nothing.
 use Rattle.bench.proofs.run.Given as goal
 
 abbrev pub invariant-loop-left : goal.invariant-loop-left
