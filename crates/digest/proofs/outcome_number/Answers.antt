@@ -1,5 +1,4 @@
 -- By cases of the outcome. Assumes nothing.
-use borrow.Author.Rules.{rules}
 use Rattle.digest.proofs.outcome_number.Goals as goal
 
 pub returns-in-Answered : goal.returns-in-Answered

@@ -1,5 +1,4 @@
 -- The sum of its parts. Assumes nothing.
-use borrow.Author.Rules.{rules}
 use Rattle.digest.proofs.timed.Goals as goal
 
 pub returns : goal.returns

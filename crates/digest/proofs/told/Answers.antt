@@ -1,5 +1,4 @@
 -- With a reply or without. Assumes nothing.
-use borrow.Author.Rules.{rules}
 use native.Mathlib.Omega.{arith}
 use Rattle.digest.proofs.told.Goals as goal
 

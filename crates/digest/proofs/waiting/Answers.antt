@@ -1,6 +1,5 @@
 -- A byte of the reply, or none. Assumes nothing.
 use native.Mathlib.Omega.{arith}
-use borrow.Author.Rules.{rules}
 use borrow.Author.Tests.{lt-ltb, le-ltb}
 use Rattle.digest.proofs.waiting.Goals as goal
 

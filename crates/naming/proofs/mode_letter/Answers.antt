@@ -1,6 +1,5 @@
 -- A letter for each mode. Assumes nothing.
 use mathlib.Core.Path.{refl}
-use borrow.Author.Rules.{rules}
 use Rattle.naming.proofs.mode_letter.Goals as goal
 
 pub returns-in-Startup : goal.returns-in-Startup

@@ -1,6 +1,5 @@
 -- By whether a machine was started, and what is asked. Assumes nothing.
 use Rattle.starting.specs.Starts.{allowed_of}
-use borrow.Author.Rules.{rules}
 use Rattle.starting.proofs.allowed.Goals as goal
 
 pub returns-then-started : goal.returns-then-started

@@ -1,6 +1,4 @@
 -- By what the start answers. Assumes nothing.
-use Rattle.script.specs.Printing.{typed}
-use borrow.Author.Rules.{rules}
 use Rattle.starting.proofs.start_line.Goals as goal
 
 pub returns-in-Accepted : goal.returns-in-Accepted

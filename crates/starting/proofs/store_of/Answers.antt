@@ -1,6 +1,5 @@
 -- By whether something is stored. Assumes nothing.
 use Rattle.starting.specs.Starts.{store_of}
-use borrow.Author.Rules.{rules}
 use Rattle.starting.proofs.store_of.Goals as goal
 
 pub returns-then-stored : goal.returns-then-stored
