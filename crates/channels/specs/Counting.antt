@@ -1,8 +1,8 @@
 -- The counts alone, for the two private functions that `overcurrent` is made of: no contract outside this crate cites
 -- anything here. Assumes nothing.
 use mathlib.Core.{Bool.Bool, List.List}
-use Rattle.std.specs.Prelude.{ℕ, ◌+◌, min, get_or}
-use Rattle.channels.specs.{Sets.has, Sets.list_of, Operations.if◌then◌else◌}
+use Rattle.std.specs.Prelude.{ℕ, ◌+◌, if◌then◌else◌, min, get_or}
+use Rattle.channels.specs.{Sets.has, Sets.list_of}
 
 -- a count, after its channel tripped or did not
 abbrev pub count_one : Bool → ℕ → ℕ
