@@ -1,6 +1,6 @@
 -- Why the channels are what they are after a tick: step 4 does what `Groups` says, and step 5 nothing to them short of
 -- a reset. Assumes nothing.
-use Prim.Native.Nat.{ℕ, suc, ◌≤◌, ◌<◌}
+use Prim.Native.Nat.{ℕ, zero, suc, ◌≤◌, ◌<◌}
 use mathlib.Core.Path.{◌≡◌, sym, ap, ◌∙◌}
 use mathlib.Core.Bool.{Bool, true, false, false≢true}
 use mathlib.Core.Option.{some}
@@ -54,6 +54,7 @@ module _ (m : Machine) (i : Sample) where
 
   -- a number from 1 on is no acceptance
   above_0 : (n : ℕ) → 1 ≤ n → is_accepted (some n) ≡ false
+  above_0 zero h = absurd (omega arith)
   above_0 (suc n) h = not_accepted n
 
   -- the claim

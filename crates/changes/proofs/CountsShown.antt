@@ -33,10 +33,10 @@ use Rattle.changes.proofs.Step.{Takes, leaving, obeying}
 use Rattle.changes.proofs.Ticks.{step, accepted_leaves, told_0, step_0, code_is}
 
 -- one call more
-after_one_lem : (m : Machine) (calls : List Call) (call : Call) → after m (calls ++ call ∷ []) ≡ after_call (after m calls) call
+after_one : (m : Machine) (calls : List Call) (call : Call) → after m (calls ++ call ∷ []) ≡ after_call (after m calls) call
 unfolding after
-after_one_lem m [] call = refl
-after_one_lem m (c ∷ calls) call = after_one_lem (after_call m c) calls call
+after_one m [] call = refl
+after_one m (c ∷ calls) call = after_one (after_call m c) calls call
 
 -- ---- the reply of a tick that accepts 0x42
 -- the bytes that lay out the channels of a board
@@ -80,7 +80,7 @@ module _ (there : Machine) (profile : Profile) (store : Store) (accepted : keeps
 
   -- it is the machine after all of them
   last_is : after (started there profile store) all_calls ≡ last
-  last_is = after_one_lem (started there profile store) calls (tick i)
+  last_is = after_one (started there profile store) calls (tick i)
 
   -- it has 32 counts
   counts_32 : length last.board.channels.counts ≡ 32

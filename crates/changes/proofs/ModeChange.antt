@@ -21,7 +21,7 @@ use Rattle.board.specs.Tick.{risen_of, changed_of, tripped_of}
 use Rattle.unit.specs.declared.Machine.{Machine}
 use Rattle.unit.specs.Runs.{Sample, after_step3}
 use Rattle.groups.specs.Resets.{is_accepted, tells_watchdog_reset, tells_command_reset, tells_reset}
-use Rattle.changes.specs.ModeChange.{◌is_in◌, here, further, mode_commands, before, afterwards, limits, ByARow, TableAlone, ModeChange}
+use Rattle.changes.specs.ModeChange.{◌is_one_of◌, here, further, mode_commands, before, afterwards, limits, ByARow, TableAlone, ModeChange}
 use Rattle.changes.proofs.Step.{Takes, leaving, obeying}
 use Rattle.changes.proofs.Ticks.{of_accepted, step, tells, leaves_step_4, accepted_leaves, told_0, step_0, code_is}
 
@@ -51,7 +51,7 @@ is_same Emergency Emergency e = refl
 
 -- a row among some rows that leads from the mode of s to that of t, and t is just entered
 record LedBy (rows : List Row) (s t : ModeAge) : Type 0 where
-  row : (from s.mode when true to t.mode) is_in rows
+  row : (from s.mode when true to t.mode) is_one_of rows
   just_entered : t.age ≡ 0
 
 -- another mode than that of s is one that a row leads to
@@ -110,7 +110,7 @@ module _ (m : Machine) (i : Sample) where
       let e = by_table o in
       let l = led (mode_table (before m).age i.rail (limits m)) (before m) (rw e at n) in
       record {
-        row = subst (λ (p : ModeAge). (from m.board.phase.mode when true to p.mode) is_in mode_table (before m).age i.rail (limits m)) (sym e) l.row;
+        row = subst (λ (p : ModeAge). (from m.board.phase.mode when true to p.mode) is_one_of mode_table (before m).age i.rail (limits m)) (sym e) l.row;
         just_entered = ap (λ (p : ModeAge). p.age) e ∙ l.just_entered;
       }
 
@@ -120,6 +120,6 @@ module _ (m : Machine) (i : Sample) where
       record {
         by_table = by_table;
         by_row = by_row;
-        to_nominal_lem = λ h. ap (λ (b : Board). b.phase) (accepted_leaves m i (told_0 m i 0x30 h)) ∙ step_nominal (step m i) (step_0 m i 0x30 h) (code_is m i 0x30 h);
-        to_safety_lem = λ h. ap (λ (b : Board). b.phase) (accepted_leaves m i (told_0 m i 0x32 h)) ∙ step_safety (step m i) (step_0 m i 0x32 h) (code_is m i 0x32 h);
+        to_nominal = λ h. ap (λ (b : Board). b.phase) (accepted_leaves m i (told_0 m i 0x30 h)) ∙ step_nominal (step m i) (step_0 m i 0x30 h) (code_is m i 0x30 h);
+        to_safety = λ h. ap (λ (b : Board). b.phase) (accepted_leaves m i (told_0 m i 0x32 h)) ∙ step_safety (step m i) (step_0 m i 0x32 h) (code_is m i 0x32 h);
       }

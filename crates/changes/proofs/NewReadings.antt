@@ -29,23 +29,23 @@ use Rattle.groups.proofs.Resets.{reset_is_told}
 use Rattle.changes.specs.Accepted.{accepts_one_of}
 use Rattle.changes.specs.NewReadings.{brings, stat_shown, NewBy, NewReadings}
 use Rattle.changes.proofs.Ticks.{leaves_all, tells, leaves_step_4}
-use Rattle.changes.proofs.Readings.{Part, as-raw, in-units, Owner, distribution, battery, code_for, codes_for, is_new, words_for, stat_for, bytes_for, new_after_lem, has_code, reply_is}
+use Rattle.changes.proofs.Readings.{Part, as_raw, in_units, Owner, distribution, battery, code_for, codes_for, is_new, words_for, stat_for, bytes_for, new_after_lem, has_code, reply_is}
 
 -- words that come are new as either
 new_as : (p : Part) → is_new p both_new ≡ true
-new_as as-raw = refl
-new_as in-units = refl
+new_as as_raw = refl
+new_as in_units = refl
 
 -- STAT has room for the flag, and is byte 4 of either board's reply
 one_byte : (fresh : Bool) → new_where fresh % 256 ≡ cond fresh 0x80 0x00
 one_byte true = refl
 one_byte false = refl
 
-stat_of_lem : (o : Owner) (p : Part) (b : Board) → get_or (shown (reply_of (bytes_for o p b))) 4 0 ≡ cond (is_new p b.measured.fresh) 0x80 0x00
-stat_of_lem distribution p b =
+stat_of : (o : Owner) (p : Part) (b : Board) → get_or (shown (reply_of (bytes_for o p b))) 4 0 ≡ cond (is_new p b.measured.fresh) 0x80 0x00
+stat_of distribution p b =
     stat_shown_lem (header_of b.profile) (code_for distribution p) (stat_for p b) b.channels.on b.channels.latched (words_for distribution p b)
     ∙ one_byte (is_new p b.measured.fresh)
-stat_of_lem battery p b =
+stat_of battery p b =
     battery_stat_shown (header_of b.profile) (code_for battery p) (stat_for p b) (words_for battery p b) ∙ one_byte (is_new p b.measured.fresh)
 
 module _ (m : Machine) (i : Sample) where
@@ -56,7 +56,7 @@ module _ (m : Machine) (i : Sample) where
 
   -- STAT, where the tick accepts a code of this way
   stat_by : (p : Part) (o : Owner) → accepts_one_of (code_for o p ∷ []) m i ≡ true → stat_shown m i ≡ cond (brings m i || is_new p m.board.measured.fresh) 0x80 0x00
-  stat_by p o a = ap (λ (r : Reply). get_or (shown r) 4 0) (reply_is m i o p a) ∙ stat_of_lem o p (after_step3 m i) ∙ rw (found p)
+  stat_by p o a = ap (λ (r : Reply). get_or (shown r) 4 0) (reply_is m i o p a) ∙ stat_of o p (after_step3 m i) ∙ rw (found p)
 
   -- one of two codes is the first or the second
   either : (Q : Type 0) (j k : ℕ) → (accepts_one_of (j ∷ []) m i ≡ true → Q) → (accepts_one_of (k ∷ []) m i ≡ true → Q) → accepts_one_of (j ∷ k ∷ []) m i ≡ true → Q
@@ -88,11 +88,11 @@ module _ (m : Machine) (i : Sample) where
   pub new_readings : NewReadings m i
   new_readings =
       record {
-        raw = new_by as-raw;
-        engineering = new_by in-units;
+        raw = new_by as_raw;
+        engineering = new_by in_units;
         listed = has_code m i;
         reset = reset;
-        not_happened_lem = λ a. ap (λ (b : Board). b.measured.fresh) (leaves_all m i a);
+        not_happened = λ a. ap (λ (b : Board). b.measured.fresh) (leaves_all m i a);
       }
 
 -- ---- of a board that has not the second code of a pair the claim says what it would say of the first alone

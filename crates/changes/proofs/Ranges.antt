@@ -49,9 +49,9 @@ number_stored s id t z e h g =
     (stored_at (λ x. inside_of id x ≡ true) (same t t) (numbers s t) i z h (rw (number_at s a) at g))
 
 -- a command on one id
-wrote_in_range : (s r : Settings) (id : ℕ) → Wrote s id r → in_range_of s ≡ true → in_range_of r ≡ true
-wrote_in_range s r id nothing h = h
-wrote_in_range s r id (one t z e i) h =
+wrote_in_range : (s : Settings) (id : ℕ) (r : Settings) → Wrote s id r → in_range_of s ≡ true → in_range_of r ≡ true
+wrote_in_range s id r nothing h = h
+wrote_in_range s id r (one t z e i) h =
     each_in_range r
     (λ j u q.
     elim (ℕ_discrete j id) [
@@ -75,12 +75,12 @@ module _ (m : Memory) (h : InRange m) where
   -- 0x84
   pub set_one : (id : ℕ) (v : ParamValue) → InRange (set_in id v m)
   unfolding set_in
-  set_one id v = record { current = wrote_in_range m.current _ id (set_wrote m.current id v) h.current; store = h.store }
+  set_one id v = record { current = wrote_in_range m.current id _ (set_wrote m.current id v) h.current; store = h.store }
 
   -- 0x86
   pub reset_one : (kind : Kind) (id : ℕ) → InRange (reset_in kind id m)
   unfolding reset_in
-  reset_one kind id = record { current = wrote_in_range m.current _ id (reset_wrote kind m.current id) h.current; store = h.store }
+  reset_one kind id = record { current = wrote_in_range m.current id _ (reset_wrote kind m.current id) h.current; store = h.store }
 
   -- 0x90
   pub defaulted : (kind : Kind) → InRange (defaulted_of kind m)

@@ -49,7 +49,7 @@ use Rattle.changes.proofs.Ticks.{commanded, accepted_leaves, told_0, step_0, cod
 
 -- ---- the two ways in which measured words are told: as raw readings, and in units
 pub data Part : Type 0 where
-  as-raw in-units : Part
+  as_raw in_units : Part
 
 -- and the boards that tell them
 pub data Owner : Type 0 where
@@ -57,10 +57,10 @@ pub data Owner : Type 0 where
 
 -- each has a code
 abbrev pub code_for : Owner → Part → ℕ
-code_for distribution as-raw = 0x50
-code_for distribution in-units = 0x52
-code_for battery as-raw = 0x60
-code_for battery in-units = 0x62
+code_for distribution as_raw = 0x50
+code_for distribution in_units = 0x52
+code_for battery as_raw = 0x60
+code_for battery in_units = 0x62
 
 -- those of one way
 abbrev pub codes_for : Part → List ℕ
@@ -68,21 +68,21 @@ codes_for p = code_for distribution p ∷ code_for battery p ∷ []
 
 -- have a memory of whether the words are new
 abbrev pub is_new : Part → Fresh → Bool
-is_new as-raw = λ f. f.raw
-is_new in-units = λ f. f.engineering
+is_new as_raw = λ f. f.raw
+is_new in_units = λ f. f.engineering
 
 -- what the code does to a board
 abbrev reading_of : Owner → Part → Board → Commanded
-reading_of distribution as-raw b = housekeeping_of 0x50 b
-reading_of distribution in-units b = engineering_housekeeping_of 0x52 b
-reading_of battery as-raw b = battery_housekeeping_of 0x60 b
-reading_of battery in-units b = engineering_battery_housekeeping_of 0x62 b
+reading_of distribution as_raw b = housekeeping_of 0x50 b
+reading_of distribution in_units b = engineering_housekeeping_of 0x52 b
+reading_of battery as_raw b = battery_housekeeping_of 0x60 b
+reading_of battery in_units b = engineering_battery_housekeeping_of 0x62 b
 
 -- the words that its reply lays out
 abbrev pub words_for : Owner → Part → Board → List ℕ
-words_for o as-raw b = words_of b
-words_for distribution in-units b = in_units_of b
-words_for battery in-units b = packs_told_of b
+words_for o as_raw b = words_of b
+words_for distribution in_units b = in_units_of b
+words_for battery in_units b = packs_told_of b
 
 -- its STAT
 abbrev pub stat_for : Part → Board → ℕ
@@ -97,23 +97,23 @@ bytes_for battery p b = battery_reply (answers.header_of b.profile) (code_for ba
 -- they are the reply
 reply_of_lem : (o : Owner) (p : Part) (b : Board) → (reading_of o p b).board.reply ≡ reply_of (bytes_for o p b)
 unfolding housekeeping_of engineering_housekeeping_of battery_housekeeping_of engineering_battery_housekeeping_of accepted_with
-reply_of_lem distribution as-raw b = refl
-reply_of_lem distribution in-units b = refl
-reply_of_lem battery as-raw b = refl
-reply_of_lem battery in-units b = refl
+reply_of_lem distribution as_raw b = refl
+reply_of_lem distribution in_units b = refl
+reply_of_lem battery as_raw b = refl
+reply_of_lem battery in_units b = refl
 
 -- a code ends its own memory, and leaves the other
 ends : (p : Part) (o : Owner) (q : Part) (b : Board)
     → is_new p (reading_of o q b).board.measured.fresh ≡ (is_new p b.measured.fresh && not (is_in (code_for o q) (codes_for p)))
 unfolding housekeeping_of engineering_housekeeping_of battery_housekeeping_of engineering_battery_housekeeping_of accepted_with is_in
-ends as-raw distribution as-raw b = sym (and-false b.measured.fresh.raw)
-ends as-raw distribution in-units b = sym (and-true b.measured.fresh.raw)
-ends as-raw battery as-raw b = sym (and-false b.measured.fresh.raw)
-ends as-raw battery in-units b = sym (and-true b.measured.fresh.raw)
-ends in-units distribution as-raw b = sym (and-true b.measured.fresh.engineering)
-ends in-units distribution in-units b = sym (and-false b.measured.fresh.engineering)
-ends in-units battery as-raw b = sym (and-true b.measured.fresh.engineering)
-ends in-units battery in-units b = sym (and-false b.measured.fresh.engineering)
+ends as_raw distribution as_raw b = sym (and-false b.measured.fresh.raw)
+ends as_raw distribution in_units b = sym (and-true b.measured.fresh.raw)
+ends as_raw battery as_raw b = sym (and-false b.measured.fresh.raw)
+ends as_raw battery in_units b = sym (and-true b.measured.fresh.raw)
+ends in_units distribution as_raw b = sym (and-true b.measured.fresh.engineering)
+ends in_units distribution in_units b = sym (and-false b.measured.fresh.engineering)
+ends in_units battery as_raw b = sym (and-true b.measured.fresh.engineering)
+ends in_units battery in_units b = sym (and-false b.measured.fresh.engineering)
 
 -- the codes of which `Done` or this page says what becomes of the words
 abbrev spoken_of : List ℕ
@@ -159,7 +159,7 @@ module _ (rail : ℤ) (limits : Limits) (s : List ℕ) (b : Board) where
       (behind FromTable code (not (header_is (header_of b.profile.kind b.profile.bid) s)) NotThisBoard _
       (cases (is_in code (board_of b.profile.kind).codes)
       (λ here. rw here (λ a. record { here = here; is = refl }))
-      (λ none-such. rw none-such (λ a. both (turned_down_lem code CodeNotListed) a))))))
+      (λ none_such. rw none_such (λ a. both (turned_down_lem code CodeNotListed) a))))))
 
   -- whether there is a transfer or not, the list has its code
   pub listed_code : (sent : Bool) → Accepted (commanded_of rail limits sent s b) → is_in (code_of s) (board_of b.profile.kind).codes ≡ true
@@ -176,10 +176,10 @@ module _ (rail : ℤ) (limits : Limits) (s : List ℕ) (b : Board) where
   -- those that tell of the words
   pub in_row : (o : Owner) (p : Part) → InRow (code_for o p) (reading_of o p)
   unfolding listed find command_table carried decoded_of run_of reported_of
-  in_row distribution as-raw = behind (λ c. c ≡ reading_of distribution as-raw b) 0x50 (ltb (length s) 4) TooShort _ (λ a. refl)
-  in_row distribution in-units = behind (λ c. c ≡ reading_of distribution in-units b) 0x52 (ltb (length s) 4) TooShort _ (λ a. refl)
-  in_row battery as-raw = behind (λ c. c ≡ reading_of battery as-raw b) 0x60 (ltb (length s) 4) TooShort _ (λ a. refl)
-  in_row battery in-units = behind (λ c. c ≡ reading_of battery in-units b) 0x62 (ltb (length s) 4) TooShort _ (λ a. refl)
+  in_row distribution as_raw = behind (λ c. c ≡ reading_of distribution as_raw b) 0x50 (ltb (length s) 4) TooShort _ (λ a. refl)
+  in_row distribution in_units = behind (λ c. c ≡ reading_of distribution in_units b) 0x52 (ltb (length s) 4) TooShort _ (λ a. refl)
+  in_row battery as_raw = behind (λ c. c ≡ reading_of battery as_raw b) 0x60 (ltb (length s) 4) TooShort _ (λ a. refl)
+  in_row battery in_units = behind (λ c. c ≡ reading_of battery in_units b) 0x62 (ltb (length s) 4) TooShort _ (λ a. refl)
 
   -- and 0x44
   pub abf_in_row : InRow 0x44 (abf_of 0x44)
@@ -274,7 +274,7 @@ module _ (rail : ℤ) (limits : Limits) (s : List ℕ) (b : Board) where
       (λ h. go h (does rail limits s b) a)
       (λ h.
       let f = from_table a in
-      rw f.is (others (code_of s) (has_a_command b.profile.kind (code_of s) f.here) (rw (neither distribution as-raw, neither distribution in-units, neither battery as-raw, neither battery in-units) h) (rw f.is at a)))
+      rw f.is (others (code_of s) (has_a_command b.profile.kind (code_of s) f.here) (rw (neither distribution as_raw, neither distribution in_units, neither battery as_raw, neither battery in_units) h) (rw f.is at a)))
     where
       go : is_in (code_of s) acting ≡ true → {c : Commanded} → Answers rail limits s b (Done rail limits s b (code_of s)) c → Accepted c → Keeps c
       go h (refusing m t left) e = both (rw t (not_accepted m)) e
@@ -292,11 +292,11 @@ module _ (rail : ℤ) (limits : Limits) (s : List ℕ) (b : Board) where
   accepted_new : (p : Part) → Accepted (commanded_of rail limits true s b) → eqb (code_of s) 0xAA ≡ false → new_after p true (is_in (code_of s) (codes_for p))
   unfolding is_in
   accepted_new p a n =
-      cases (eqb (code_of s) 0x50) (by distribution as-raw)
-      (λ x. cases (eqb (code_of s) 0x52) (by distribution in-units)
-      (λ y. cases (eqb (code_of s) 0x60) (by battery as-raw)
-      (λ z. cases (eqb (code_of s) 0x62) (by battery in-units)
-      (λ w. let neither = none_of_lem x y z w in rw (neither distribution p, neither battery p) (as_before p (keeps a neither n))))))
+      cases (eqb (code_of s) 0x50) (by distribution as_raw)
+      (λ x. cases (eqb (code_of s) 0x52) (by distribution in_units)
+      (λ y. cases (eqb (code_of s) 0x60) (by battery as_raw)
+      (λ z. cases (eqb (code_of s) 0x62) (by battery in_units)
+      (λ w. let neither = none_of x y z w in rw (neither distribution p, neither battery p) (as_before p (keeps a neither n))))))
     where
       by : (o : Owner) (q : Part) → eqb (code_of s) (code_for o q) ≡ true → new_after p true (is_in (code_of s) (codes_for p))
       by o q e =
@@ -304,11 +304,11 @@ module _ (rail : ℤ) (limits : Limits) (s : List ℕ) (b : Board) where
           ∙ ends p o q b
           ∙ ap (λ (k : ℕ). is_new p b.measured.fresh && not (is_in k (codes_for p))) (sym (eqb-true (code_of s) (code_for o q) e))
 
-      none_of_lem : eqb (code_of s) 0x50 ≡ false → eqb (code_of s) 0x52 ≡ false → eqb (code_of s) 0x60 ≡ false → eqb (code_of s) 0x62 ≡ false → NoReading
-      none_of_lem x y z w distribution as-raw = x
-      none_of_lem x y z w distribution in-units = y
-      none_of_lem x y z w battery as-raw = z
-      none_of_lem x y z w battery in-units = w
+      none_of : eqb (code_of s) 0x50 ≡ false → eqb (code_of s) 0x52 ≡ false → eqb (code_of s) 0x60 ≡ false → eqb (code_of s) 0x62 ≡ false → NoReading
+      none_of x y z w distribution as_raw = x
+      none_of x y z w distribution in_units = y
+      none_of x y z w battery as_raw = z
+      none_of x y z w battery in_units = w
 
   -- and so does a tick's command, if it has one
   pub new_after_lem : (p : Part) (sent : Bool) → (is_accepted (told_number (commanded_of rail limits sent s b).outcome) && eqb (code_of s) 0xAA) ≡ false

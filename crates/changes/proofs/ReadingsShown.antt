@@ -47,7 +47,7 @@ use Rattle.unit.specs.Runs.{Sample, after_step3}
 use Rattle.changes.specs.Accepted.{accepts_one_of}
 use Rattle.changes.specs.NewReadings.{brings}
 use Rattle.changes.specs.ReadingsShown.{byte_of, bytes_shown, raw_found, Shows, BatteryShows, ReadingsShown}
-use Rattle.changes.proofs.Readings.{Part, as-raw, in-units, Owner, distribution, battery, code_for, words_for, stat_for, bytes_for, has_code, reply_is}
+use Rattle.changes.proofs.Readings.{Part, as_raw, in_units, Owner, distribution, battery, code_for, words_for, stat_for, bytes_for, has_code, reply_is}
 
 -- ---- the words of a reply
 -- how many they are on either board
@@ -56,7 +56,7 @@ count_of distribution = 122
 count_of battery = 39
 
 -- a board whose list has the code has that many
-counted : (o : Owner) (kind : Kind) → is_in (code_for o as-raw) (board_of kind).codes ≡ true → (board_of kind).words ≡ count_of o
+counted : (o : Owner) (kind : Kind) → is_in (code_for o as_raw) (board_of kind).codes ≡ true → (board_of kind).words ≡ count_of o
 unfolding is_in
 counted distribution Distribution h = refl
 counted distribution (Battery abf) h = absurd (false≢true h)
@@ -67,9 +67,9 @@ counted battery (Integrated daughterboard) h = absurd (false≢true h)
 
 -- word k as each code shows it
 abbrev shown_as : Owner → Part → ℕ → Raw → ℕ
-shown_as o as-raw k raw = raw.0 % 2 ^ 16
-shown_as distribution in-units k raw = pattern 2 (engineering_of (row_at k) raw).0
-shown_as battery in-units k raw = word_by (way_at k) raw % 2 ^ 16
+shown_as o as_raw k raw = raw.0 % 2 ^ 16
+shown_as distribution in_units k raw = pattern 2 (engineering_of (row_at k) raw).0
+shown_as battery in_units k raw = word_by (way_at k) raw % 2 ^ 16
 
 -- an engineering reading is held to 16 bits
 two_bytes : (row : Row) (raw : Raw) → pattern 2 (engineering_of row raw).0 < 2 ^ 16
@@ -92,7 +92,7 @@ record Laid (o : Owner) (p : Part) (b : Board) : Type 0 where
   each : (k : ℕ) → k < count_of o → get_or (words_for o p b) k 0 % 2 ^ 16 ≡ shown_as o p k (get_or b.measured.words k (raw_of 0))
 
 -- so they are where the readings fill their room: those that count, as they were measured
-laid_raw : (o : Owner) (b : Board) → count_of o ≤ word_room → length b.measured.words ≡ word_room → word_count b ≡ count_of o → Laid o as-raw b
+laid_raw : (o : Owner) (b : Board) → count_of o ≤ word_room → length b.measured.words ≡ word_room → word_count b ≡ count_of o → Laid o as_raw b
 unfolding raw_words
 laid_raw o b few full n =
     let raws = b.measured.words in
@@ -104,9 +104,9 @@ laid_raw o b few full n =
 -- or as the code tells them
 laid : (o : Owner) (p : Part) (b : Board) → length b.measured.words ≡ word_room → is_in (code_for o p) (board_of b.profile.kind).codes ≡ true → Laid o p b
 unfolding engineering_words pattern
-laid distribution as-raw b full h = laid_raw distribution b (omega arith) full (counted distribution b.profile.kind h)
-laid battery as-raw b full h = laid_raw battery b (omega arith) full (counted battery b.profile.kind h)
-laid distribution in-units b full h =
+laid distribution as_raw b full h = laid_raw distribution b (omega arith) full (counted distribution b.profile.kind h)
+laid battery as_raw b full h = laid_raw battery b (omega arith) full (counted battery b.profile.kind h)
+laid distribution in_units b full h =
     let raws = b.measured.words in
     let f : Engineering → ℕ = λ r. pattern 2 r.0 in
     let converted = converted_by layout raws in
@@ -118,7 +118,7 @@ laid distribution in-units b full h =
           let e = get_or-map f converted k zero ∙ ap f (converted_at layout raws k (POWE (VIP-CH 31) by ChannelPowe) (raw_of 0) zero (omega arith) (omega arith)) in
           omega (arith, two_bytes (row_at k) (get_or raws k (raw_of 0)));
     }
-laid battery in-units b full h =
+laid battery in_units b full h =
     let raws = b.measured.words in
     record {
       all = length_packs_told raws full;
@@ -213,9 +213,9 @@ readings_shown m i =
     record {
       brought = brought m i;
       stayed = stayed m i;
-      raw = λ full a. shows m i full as-raw a;
-      engineering = λ full a. shows m i full in-units a;
-      battery_raw = λ full a. battery_shows m i full as-raw _ a (λ k. refl);
+      raw = λ full a. shows m i full as_raw a;
+      engineering = λ full a. shows m i full in_units a;
+      battery_raw = λ full a. battery_shows m i full as_raw _ a (λ k. refl);
       battery_engineering = λ full small a.
-          battery_shows m i full in-units _ a (λ k. mod-eq_of_lt (told_bytes (way_at k) (raw_found m i k) (small k)));
+          battery_shows m i full in_units _ a (λ k. mod-eq_of_lt (told_bytes (way_at k) (raw_found m i k) (small k)));
     }

@@ -66,7 +66,7 @@ module _ (m : Machine) (i : Sample) where
       (λ a.
       let kept = step_store (step m i) (rw (tells m i a) at n) in
       cases (tells_watchdog_reset m i)
-      (λ w. ap (λ (b : Board). b.memory.store) ((reset_is_told m i).by_watchdog_lem w) ∙ reset_store (after_step4 m i) ∙ kept)
+      (λ w. ap (λ (b : Board). b.memory.store) ((reset_is_told m i).by_watchdog w) ∙ reset_store (after_step4 m i) ∙ kept)
       (λ w. ap (λ (b : Board). b.memory.store) (leaves_step_4 m i a w) ∙ kept))
       (λ a. ap (λ (b : Board). b.memory.store) (leaves_all m i a))
 

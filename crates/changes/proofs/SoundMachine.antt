@@ -177,7 +177,7 @@ ticked m i u =
     cases (happens (word_count m.board) i)
     (λ a.
     cases (tells_watchdog_reset m i)
-    (λ w. subst Sound (sym ((reset_is_told m i).by_watchdog_lem w)) (reset_sound (after_step4 m i) v))
+    (λ w. subst Sound (sym ((reset_is_told m i).by_watchdog w)) (reset_sound (after_step4 m i) v))
     (λ w. subst Sound (sym (leaves_step_4 m i a w)) v))
     (λ a. subst Sound (sym (leaves_all m i a)) u)
 

@@ -24,7 +24,7 @@ use Rattle.answers.specs.Answers.{told_number, header_of, new}
 use Rattle.answers.specs.declared.Commanded.{Commanded}
 use Rattle.commands.specs.Step.{commanded_of}
 use Rattle.groups.specs.Resets.{is_accepted}
-use Rattle.groups.proofs.Done.{acting, Operates, group_on_lem, group_off_lem, group_state_lem, channel_on, channel_off, cancel, in_nominal_lem, to_nominal_lem, in_safety, to_safety_lem, Remembers, set, reset_one, defaults, load, save}
+use Rattle.groups.proofs.Done.{acting, Operates, group_on, group_off, group_state, channel_on, channel_off, cancel, in_nominal, into_nominal, in_safety, into_safety, Remembers, set, reset_one, defaults, load, save}
 use Rattle.groups.proofs.Done.{Done, replies, shows_faults, operates, enters, remembers, restarts, Left, Answers, refusing, accepting, does}
 use Rattle.groups.proofs.Groups.{other}
 use Rattle.groups.proofs.Counts.{not_accepted}
@@ -82,9 +82,9 @@ module _ (rail : ℤ) (limits : Limits) (s : List ℕ) (b : Board) where
   -- those on channels
   operating : {k : ℕ} {o : channel.Command} → Operates rail limits s b k o → Plain k
   unfolding is_in
-  operating group_on_lem = refl
-  operating group_off_lem = refl
-  operating group_state_lem = refl
+  operating group_on = refl
+  operating group_off = refl
+  operating group_state = refl
   operating channel_on = refl
   operating channel_off = refl
   operating cancel = refl
@@ -144,10 +144,10 @@ module _ (rail : ℤ) (limits : Limits) (s : List ℕ) (b : Board) where
         faults = λ _. refl;
       }
   obeyed {k} (operates r o) = plainly k _ (operating o) refl refl (λ _. refl) (λ _. refl) (λ r. r)
-  obeyed (enters r (in_nominal_lem e)) = to_nominal_by _ refl refl e
-  obeyed (enters r (to_nominal_lem e)) = to_nominal_by _ refl refl e
+  obeyed (enters r (in_nominal e)) = to_nominal_by _ refl refl e
+  obeyed (enters r (into_nominal e)) = to_nominal_by _ refl refl e
   obeyed (enters r (in_safety n e)) = to_safety_by _ refl refl e
-  obeyed (enters r (to_safety_lem n e)) = to_safety_by _ refl refl e
+  obeyed (enters r (into_safety n e)) = to_safety_by _ refl refl e
   obeyed (remembers r m) = remembering _ m refl refl refl
   obeyed restarts =
       record {

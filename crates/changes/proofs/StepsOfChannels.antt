@@ -47,9 +47,9 @@ module _ (before next : Mode) (p : Profile) (s : Channels) (c : ℕ) (h : c < 32
       rw (d, e) (channel.each p.fitted p.forced channel.forced_come_on s c h)
 
   -- from nominal to safety
-  to_safety_lem : before ≡ Nominal → next ≡ Safety → left ≡ command_enabled_off_one (has p.fitted c) (has p.forced c) (chan s c)
+  to_safety : before ≡ Nominal → next ≡ Safety → left ≡ command_enabled_off_one (has p.fitted c) (has p.forced c) (chan s c)
   unfolding entering_of is_dark from_nominal_to_safety
-  to_safety_lem b a = rw (b, a) (channel.each p.fitted p.forced (channel.commanded channel.command_enabled_off_lem) s c h)
+  to_safety b a = rw (b, a) (channel.each p.fitted p.forced (channel.commanded channel.command_enabled_off_lem) s c h)
 
   -- any other change, and none
   no_entry : is_startup_or_emergency before ≡ false → is_startup_or_emergency next ≡ false → (same before Nominal && same next Safety) ≡ false → left ≡ chan s c
@@ -73,7 +73,7 @@ module _ (m : Machine) (i : Sample) where
   -- from nominal to safety
   safety_entered : mode_before m ≡ Nominal → mode_after m i ≡ Safety → (c : ℕ) → c < 32
       → after2 m i c ≡ command_enabled_off_one (has m.board.profile.fitted c) (has m.board.profile.forced c) (was m c)
-  safety_entered b a c h = at c ∙ to_safety_lem (mode_before m) (mode_after m i) m.board.profile m.board.channels c h b a
+  safety_entered b a c h = at c ∙ to_safety (mode_before m) (mode_after m i) m.board.profile m.board.channels c h b a
 
   -- step 3
   overcurrent : (c : ℕ) → c < 32 → after3 m i c ≡ overcurrent_one (has i.named c) (after2 m i c)

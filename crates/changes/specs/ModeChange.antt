@@ -15,10 +15,10 @@ use Rattle.groups.specs.Resets.{tells_reset}
 use Rattle.changes.specs.Accepted.{accepts_one_of}
 
 -- a row is one of some rows
-infix 30 ◌is_in◌
-pub data ◌is_in◌ (row : Row) : List Row → Type 0 where
-  here : {other : Row} {rows : List Row} → row ≡ other → row is_in other ∷ rows
-  further : {other : Row} {rows : List Row} → row is_in rows → row is_in other ∷ rows
+infix 30 ◌is_one_of◌
+pub data ◌is_one_of◌ (row : Row) : List Row → Type 0 where
+  here : {other : Row} {rows : List Row} → row ≡ other → row is_one_of other ∷ rows
+  further : {other : Row} {rows : List Row} → row is_one_of rows → row is_one_of other ∷ rows
 
 -- to nominal, to safety: the commands that may change the mode
 abbrev pub mode_commands : List ℕ
@@ -36,7 +36,7 @@ limits m = limits_of m.board.memory
 
 -- a row leads from the mode before to the mode after, what it asks for holds, and the mode after was just entered
 pub record ByARow (m : Machine) (i : Sample) : Type 0 where
-  pub row : (from m.board.phase.mode when true to (afterwards m i).mode) is_in mode_table (before m).age i.rail (limits m)
+  pub row : (from m.board.phase.mode when true to (afterwards m i).mode) is_one_of mode_table (before m).age i.rail (limits m)
   pub just_entered : (afterwards m i).age ≡ 0
 
 -- nothing but the table has a say in the mode
@@ -48,5 +48,5 @@ pub record TableAlone (m : Machine) (i : Sample) : Type 0 where
 pub record ModeChange (m : Machine) (i : Sample) : Type 0 where
   pub by_table : TableAlone m i → afterwards m i ≡ step_of (before m) i.rail (limits m)
   pub by_row : TableAlone m i → same m.board.phase.mode (afterwards m i).mode ≡ false → ByARow m i
-  pub to_nominal_lem : accepts_one_of (0x30 ∷ []) m i ≡ true → afterwards m i ≡ leaves (to_nominal (after_step3 m i).phase i.rail (limits m)) (after_step3 m i).phase
-  pub to_safety_lem : accepts_one_of (0x32 ∷ []) m i ≡ true → afterwards m i ≡ leaves (to_safety (after_step3 m i).phase) (after_step3 m i).phase
+  pub to_nominal : accepts_one_of (0x30 ∷ []) m i ≡ true → afterwards m i ≡ leaves (to_nominal (after_step3 m i).phase i.rail (limits m)) (after_step3 m i).phase
+  pub to_safety : accepts_one_of (0x32 ∷ []) m i ≡ true → afterwards m i ≡ leaves (to_safety (after_step3 m i).phase) (after_step3 m i).phase

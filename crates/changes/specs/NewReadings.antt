@@ -41,4 +41,4 @@ pub record NewReadings (m : Machine) (i : Sample) : Type 0 where
   -- after a reset, by command or by the watchdog, they are new as neither
   pub reset : tells_reset m i ≡ true → (told m i).machine.board.measured.fresh ≡ none_new
   -- a tick that does not happen leaves both as they were
-  pub not_happened_lem : happens (word_count m.board) i ≡ false → (told m i).machine.board.measured.fresh ≡ m.board.measured.fresh
+  pub not_happened : happens (word_count m.board) i ≡ false → (told m i).machine.board.measured.fresh ≡ m.board.measured.fresh

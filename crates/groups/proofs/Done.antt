@@ -63,19 +63,19 @@ module _ (rail : ℤ) (limits : Limits) (s : List ℕ) (b : Board) where
 
   -- ---- what the codes ask for: an operation on the channels
   pub data Operates : ℕ → channel.Command → Type 0 where
-    group_on_lem : Operates 0x10 (channel.group_on_lem (group_in s).spoken (group_in s).mask)
-    group_off_lem : Operates 0x12 (channel.group_off_lem (group_in s).spoken (group_in s).mask)
-    group_state_lem : Operates 0x14 (channel.group_state_lem (group_in s).spoken (group_in s).mask)
+    group_on : Operates 0x10 (channel.group_on_lem (group_in s).spoken (group_in s).mask)
+    group_off : Operates 0x12 (channel.group_off_lem (group_in s).spoken (group_in s).mask)
+    group_state : Operates 0x14 (channel.group_state_lem (group_in s).spoken (group_in s).mask)
     channel_on : Operates 0x16 (channel.switch_on_lem (byte_after s))
     channel_off : Operates 0x18 (channel.switch_off_lem (byte_after s))
     cancel : Operates 0x04 channel.command_enabled_off_lem
 
   -- a mode, with the channels that it brings
   pub data Enters : ℕ → ModeAge → Channels → Type 0 where
-    in_nominal_lem : to_nominal b.phase rail limits ≡ change.ModeAnswer.Accepted b.phase → Enters 0x30 b.phase b.channels
-    to_nominal_lem : to_nominal b.phase rail limits ≡ change.ModeAnswer.Accepted (entered Nominal) → Enters 0x30 (entered Nominal) b.channels
+    in_nominal : to_nominal b.phase rail limits ≡ change.ModeAnswer.Accepted b.phase → Enters 0x30 b.phase b.channels
+    into_nominal : to_nominal b.phase rail limits ≡ change.ModeAnswer.Accepted (entered Nominal) → Enters 0x30 (entered Nominal) b.channels
     in_safety : same (mode_of b) Nominal ≡ false → to_safety b.phase ≡ change.ModeAnswer.Accepted b.phase → Enters 0x32 b.phase b.channels
-    to_safety_lem : same (mode_of b) Nominal ≡ true → to_safety b.phase ≡ change.ModeAnswer.Accepted (entered Safety) → Enters 0x32 (entered Safety) (operated channel.command_enabled_off_lem)
+    into_safety : same (mode_of b) Nominal ≡ true → to_safety b.phase ≡ change.ModeAnswer.Accepted (entered Safety) → Enters 0x32 (entered Safety) (operated channel.command_enabled_off_lem)
 
   -- another memory
   pub data Remembers : ℕ → Memory → Type 0 where
@@ -155,10 +155,10 @@ module _ (rail : ℤ) (limits : Limits) (s : List ℕ) (b : Board) where
   nominal_asked : (m : Mode) → mode_of b ≡ m → Does 0x30 (switched_mode_of 0x30 (to_nominal_from m b.phase rail limits) b)
   unfolding switched_mode_of accepted_of accepted_with entering_of is_dark from_nominal_to_safety to_nominal
   nominal_asked Startup e = unavailable 0x30
-  nominal_asked Nominal e = accepting refl (mode_entered _ _ (rw e) (in_nominal_lem (rw e)))
+  nominal_asked Nominal e = accepting refl (mode_entered _ _ (rw e) (in_nominal (rw e)))
   nominal_asked Safety e =
       cases (rail at_least limits.safety_low)
-      (λ enough. rw enough (accepting refl (mode_entered _ _ (rw e) (to_nominal_lem (rw (e, enough))))))
+      (λ enough. rw enough (accepting refl (mode_entered _ _ (rw e) (into_nominal (rw (e, enough))))))
       (λ low. rw low (unavailable 0x30))
   nominal_asked Emergency e = unavailable 0x30
 
@@ -166,7 +166,7 @@ module _ (rail : ℤ) (limits : Limits) (s : List ℕ) (b : Board) where
   safety_asked : (m : Mode) → mode_of b ≡ m → Does 0x32 (switched_mode_of 0x32 (to_safety_from m b.phase) b)
   unfolding switched_mode_of accepted_of accepted_with entering_of is_dark from_nominal_to_safety to_safety
   safety_asked Startup e = unavailable 0x32
-  safety_asked Nominal e = accepting refl (mode_entered _ _ (rw e) (to_safety_lem (rw e) (rw e)))
+  safety_asked Nominal e = accepting refl (mode_entered _ _ (rw e) (into_safety (rw e) (rw e)))
   safety_asked Safety e = accepting refl (mode_entered _ _ (rw e) (in_safety (rw e) (rw e)))
   safety_asked Emergency e = unavailable 0x32
 
@@ -241,9 +241,9 @@ module _ (rail : ℤ) (limits : Limits) (s : List ℕ) (b : Board) where
       and plain 0x02 4 _ (accepting refl (replies _ _ refl))
       and plain 0x04 4 _ (accepting refl (operates _ cancel))
       and plain 0x06 4 _ (accepting refl (replies _ _ refl))
-      and plain 0x10 6 _ (switched true group_on_lem)
-      and plain 0x12 6 _ (switched true group_off_lem)
-      and plain 0x14 6 _ (switched true group_state_lem)
+      and plain 0x10 6 _ (switched true group_on)
+      and plain 0x12 6 _ (switched true group_off)
+      and plain 0x14 6 _ (switched true group_state)
       and plain 0x16 5 _ (switched _ channel_on)
       and plain 0x18 5 _ (switched _ channel_off)
       and plain 0x30 4 _ (nominal_asked (mode_of b) refl)
@@ -273,4 +273,4 @@ module _ (rail : ℤ) (limits : Limits) (s : List ℕ) (b : Board) where
       (behind code (not (header_is (header_of b.profile.kind b.profile.bid) s)) NotThisBoard _
       (cases (is_in code (board_of b.profile.kind).codes)
       (λ here. rw here (in_list code (has_a_command b.profile.kind code here)))
-      (λ none-such. rw none-such (turned_down_lem code CodeNotListed))))))
+      (λ none_such. rw none_such (turned_down_lem code CodeNotListed))))))

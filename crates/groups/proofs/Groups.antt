@@ -30,7 +30,7 @@ use Rattle.state.specs.declared.parts.Board.{Board}
 use Rattle.answers.specs.declared.Commanded.{Commanded}
 use Rattle.commands.specs.Step.{commanded_of}
 use Rattle.groups.specs.Groups.{mask_in, is_spoken_of, sentences, made_by, Groups}
-use Rattle.groups.proofs.Done.{acting, operated, Operates, group_on_lem, group_off_lem, group_state_lem, channel_on, channel_off, cancel, in_nominal_lem, to_nominal_lem, in_safety, to_safety_lem, Remembers, set, reset_one, defaults, load, save}
+use Rattle.groups.proofs.Done.{acting, operated, Operates, group_on, group_off, group_state, channel_on, channel_off, cancel, in_nominal, into_nominal, in_safety, into_safety, Remembers, set, reset_one, defaults, load, save}
 use Rattle.groups.proofs.Done.{Done, replies, shows_faults, operates, enters, remembers, restarts, Answers, refusing, accepting, hence, does}
 
 -- ---- the mask of a transfer, and the channels that it speaks of, are the decoder's
@@ -108,18 +108,18 @@ module _ (rail : ℤ) (limits : Limits) (s : List ℕ) (b : Board) where
   -- ---- the commands on channels
   sentence_of : {k : ℕ} {o : channel.Command} → Operates rail limits s b k o → (c : ℕ) → c < 32 → (ch : Chan) → channel.obeyed_one fitted forced o c ch ≡ made_by (sentences b s c) k ch
   unfolding made_by sentences
-  sentence_of group_on_lem c h ch = rw (spoken_is s c h, mask_is s)
-  sentence_of group_off_lem c h ch = rw (spoken_is s c h, mask_is s) (cases (has forced c) (λ f. simp (f, and-false)) (λ f. simp f))
-  sentence_of group_state_lem c h ch = rw (spoken_is s c h, mask_is s) (state_is (has fitted c) (has forced c) (is_spoken_of s c) (has (mask_in s) c) ch)
+  sentence_of group_on c h ch = rw (spoken_is s c h, mask_is s)
+  sentence_of group_off c h ch = rw (spoken_is s c h, mask_is s) (cases (has forced c) (λ f. simp (f, and-false)) (λ f. simp f))
+  sentence_of group_state c h ch = rw (spoken_is s c h, mask_is s) (state_is (has fitted c) (has forced c) (is_spoken_of s c) (has (mask_in s) c) ch)
   sentence_of channel_on c h ch = rw and-true
   sentence_of channel_off c h ch = rw and-true
   sentence_of cancel c h ch = refl
 
   -- none of them is the reset
   no_restart : {k : ℕ} {o : channel.Command} → Operates rail limits s b k o → eqb k 0xAA ≡ false
-  no_restart group_on_lem = refl
-  no_restart group_off_lem = refl
-  no_restart group_state_lem = refl
+  no_restart group_on = refl
+  no_restart group_off = refl
+  no_restart group_state = refl
   no_restart channel_on = refl
   no_restart channel_off = refl
   no_restart cancel = refl
@@ -171,10 +171,10 @@ module _ (rail : ℤ) (limits : Limits) (s : List ℕ) (b : Board) where
   made {k} (replies r w quiet) = untouched k _ refl (λ _. refl) (quiet_code k quiet) (other k 0xAA acting quiet refl)
   made shows_faults = untouched 0x42 _ refl (λ _. refl) (λ c. refl) refl
   made {k} (operates {o = o} r x) = by_operation k o _ refl (λ _. refl) (λ c h. sentence_of x c h _) (no_restart x)
-  made (enters r (in_nominal_lem e)) = untouched 0x30 _ refl (λ _. refl) (λ c. refl) refl
-  made (enters r (to_nominal_lem e)) = untouched 0x30 _ refl (λ m. no_startup Nominal refl m) (λ c. refl) refl
+  made (enters r (in_nominal e)) = untouched 0x30 _ refl (λ _. refl) (λ c. refl) refl
+  made (enters r (into_nominal e)) = untouched 0x30 _ refl (λ m. no_startup Nominal refl m) (λ c. refl) refl
   made (enters r (in_safety n e)) = untouched 0x32 _ refl (λ _. refl) (λ c. rw n) refl
-  made (enters r (to_safety_lem n e)) = by_operation 0x32 channel.command_enabled_off_lem _ refl (λ m. no_startup Safety refl m) (λ c h. rw n) refl
+  made (enters r (into_safety n e)) = by_operation 0x32 channel.command_enabled_off_lem _ refl (λ m. no_startup Safety refl m) (λ c h. rw n) refl
   made (remembers r x) = remembering _ x refl refl
   made restarts =
       record {

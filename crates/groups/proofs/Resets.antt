@@ -91,15 +91,15 @@ unfolding tripped_of changed_of risen_of
 settled_goes_on m i = step_goes_on (older_of m.board.phase) i.rail (limits_of m.board.memory) (older m.board.phase)
 
 -- ---- step 4
-is_startup_lem : (m : Mode) → same m Startup ≡ true → m ≡ Startup
-is_startup_lem Startup e = refl
-is_startup_lem Nominal e = absurd (false≢true e)
-is_startup_lem Safety e = absurd (false≢true e)
-is_startup_lem Emergency e = absurd (false≢true e)
+is_startup : (m : Mode) → same m Startup ≡ true → m ≡ Startup
+is_startup Startup e = refl
+is_startup Nominal e = absurd (false≢true e)
+is_startup Safety e = absurd (false≢true e)
+is_startup Emergency e = absurd (false≢true e)
 
 -- a phase that is another only where it is not startup
 goes_on : (p q : ModeAge) → (q.mode ≡ Startup → q ≡ p) → is_over p ≡ false → is_over q ≡ false
-goes_on p q e o = cases (same q.mode Startup) (λ s. ap is_over (e (is_startup_lem q.mode s)) ∙ o) (λ s. rw s)
+goes_on p q e o = cases (same q.mode Startup) (λ s. ap is_over (e (is_startup q.mode s)) ∙ o) (λ s. rw s)
 
 -- by a command a board starts over where that is an accepted 0xAA, and nowhere else
 left_over : (rail : ℤ) (limits : Limits) (s : List ℕ) (b : Board) → is_over b.phase ≡ false → (x : Commanded) → Leaves rail limits s b (code_of s) x
@@ -215,24 +215,24 @@ module _ (m : Machine) (i : Sample) where
   unfolding told_of tells_reset tells_watchdog_reset tells_command_reset tick_of tick_with
   exactly e = rw e (happened m i _ refl)
 
-  by_watchdog_lem : tells_watchdog_reset m i ≡ true → (told m i).machine.board ≡ watchdog_reset_of (after_step4 m i)
+  watchdog_reset : tells_watchdog_reset m i ≡ true → (told m i).machine.board ≡ watchdog_reset_of (after_step4 m i)
   unfolding told_of tells_watchdog_reset tick_of tick_with
-  by_watchdog_lem e = cases (happens (word_count m.board) i) (λ a. rw a (watchdog_resets _ (rw a at e))) (λ a. failed (rw a at e))
+  watchdog_reset e = cases (happens (word_count m.board) i) (λ a. rw a (watchdog_resets _ (rw a at e))) (λ a. failed (rw a at e))
 
-  by_command_lem : tells_command_reset m i ≡ true → (told m i).machine.board ≡ command_reset_of (after_step3 m i)
+  command_reset : tells_command_reset m i ≡ true → (told m i).machine.board ≡ command_reset_of (after_step3 m i)
   unfolding told_of tells_command_reset tick_of tick_with
-  by_command_lem e = cases (happens (word_count m.board) i) (λ a. rw a (commanded_reset m i _ refl (rw a at e))) (λ a. failed (rw a at e))
+  command_reset e = cases (happens (word_count m.board) i) (λ a. rw a (commanded_reset m i _ refl (rw a at e))) (λ a. failed (rw a at e))
 
-  not_happened_lem : happens (word_count m.board) i ≡ false → tells_reset m i ≡ false
+  not_happened : happens (word_count m.board) i ≡ false → tells_reset m i ≡ false
   unfolding told_of tells_reset tells_watchdog_reset tells_command_reset tick_of tick_with
-  not_happened_lem e = rw e
+  not_happened e = rw e
 
   -- the same, part by part
   over_by_watchdog : tells_watchdog_reset m i ≡ true → StartedOver (after_step4 m i) (told m i).machine.board
-  over_by_watchdog e = subst (StartedOver (after_step4 m i)) (sym (by_watchdog_lem e)) (watchdog_parts (after_step4 m i))
+  over_by_watchdog e = subst (StartedOver (after_step4 m i)) (sym (watchdog_reset e)) (watchdog_parts (after_step4 m i))
 
   over_by_command : tells_command_reset m i ≡ true → StartedOver (after_step3 m i) (told m i).machine.board
-  over_by_command e = subst (StartedOver (after_step3 m i)) (sym (by_command_lem e)) (command_parts (after_step3 m i))
+  over_by_command e = subst (StartedOver (after_step3 m i)) (sym (command_reset e)) (command_parts (after_step3 m i))
 
   -- a board that started over is in its own profile's form
   in_its_form : {before after : Board} → StartedOver before after → after.form ≡ after.profile.form
@@ -262,18 +262,18 @@ module _ (m : Machine) (i : Sample) where
   form : (told m i).machine.board.form ≡ cond (tells_reset m i) m.board.profile.form m.board.form
   form =
       cases (happens (word_count m.board) i) happened_form
-      (λ a. rw (not_happened_lem a) (ap (λ (x : Machine). x.board.form) (unaltered a)))
+      (λ a. rw (not_happened a) (ap (λ (x : Machine). x.board.form) (unaltered a)))
 
 -- any tick: one that does not happen tells of no reset
 pub reset_is_told : (m : Machine) (i : Sample) → ResetIsTold m i
 reset_is_told m i =
-    let w = by_watchdog_lem m i in
-    let c = by_command_lem m i in
+    let w = watchdog_reset m i in
+    let c = command_reset m i in
     record {
       exactly = exactly m i;
-      by_watchdog_lem = w;
-      by_command_lem = c;
-      not_happened_lem = not_happened_lem m i;
+      by_watchdog = w;
+      by_command = c;
+      not_happened = not_happened m i;
       watchdog_parts = over_by_watchdog m i;
       watchdog_counts = λ e. ap (λ (b : Board). b.resets) (w e) ∙ watchdog_counts (after_step4 m i);
       command_parts = over_by_command m i;

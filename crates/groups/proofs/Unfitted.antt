@@ -138,7 +138,7 @@ ticked rail named words sent s p b u =
     let found = tripped_of named (changed_of rail limits (risen_of words b)) in
     cases (allowed_count (word_count b) (length words))
     (λ allowed. rw allowed (watched p (commanded_of rail limits sent s found) (commanded rail limits sent s p found (settled rail limits named words p b u))))
-    (λ not-allowed. rw not-allowed u)
+    (λ not_allowed. rw not_allowed u)
 
 -- a read of the text line touches no channel
 heard : (p : Profile) (l : Line) (m : Machine) → Stands p m.board → Stands p (after_line l m).board
@@ -176,6 +176,6 @@ unfitted m r =
     let u = reached m r in
     record {
       not_fitted = λ c h f. let d = u.sound.dark c h (rw u.profile at f) in record { off = d.off; unlatched = d.unlatched };
-      not_there_lem = λ c h. record { off = has_out 32 _ c u.sound.held.on (omega arith); unlatched = has_out 32 _ c u.sound.held.latched (omega arith) };
+      not_there = λ c h. record { off = has_out 32 _ c u.sound.held.on (omega arith); unlatched = has_out 32 _ c u.sound.held.latched (omega arith) };
       same_profile = u.profile;
     }

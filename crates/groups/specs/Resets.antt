@@ -61,9 +61,9 @@ pub record StartedOver (before after : Board) : Type 0 where
 
 pub record ResetIsTold (m : Machine) (i : Sample) : Type 0 where
   pub exactly : happens (word_count m.board) i ≡ true → tells_reset m i ≡ starts_over (told m i).machine.board
-  pub by_watchdog_lem : tells_watchdog_reset m i ≡ true → (told m i).machine.board ≡ watchdog_reset_of (after_step4 m i)
-  pub by_command_lem : tells_command_reset m i ≡ true → (told m i).machine.board ≡ command_reset_of (after_step3 m i)
-  pub not_happened_lem : happens (word_count m.board) i ≡ false → tells_reset m i ≡ false
+  pub by_watchdog : tells_watchdog_reset m i ≡ true → (told m i).machine.board ≡ watchdog_reset_of (after_step4 m i)
+  pub by_command : tells_command_reset m i ≡ true → (told m i).machine.board ≡ command_reset_of (after_step3 m i)
+  pub not_happened : happens (word_count m.board) i ≡ false → tells_reset m i ≡ false
   -- the same, part by part; of the reset counts that of its kind is one more, 65,535 at most, and its kind is the cause
   pub watchdog_parts : tells_watchdog_reset m i ≡ true → StartedOver (after_step4 m i) (told m i).machine.board
   pub watchdog_counts : tells_watchdog_reset m i ≡ true → (told m i).machine.board.resets

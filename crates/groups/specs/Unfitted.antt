@@ -12,5 +12,5 @@ pub record OffAndUnlatched (m : Machine) (c : ℕ) : Type 0 where
 
 pub record Unfitted (m : Machine) (r : Reached m) : Type 0 where
   pub not_fitted : (c : ℕ) → c < 32 → has m.board.profile.fitted c ≡ false → OffAndUnlatched m c
-  pub not_there_lem : (c : ℕ) → 32 ≤ c → OffAndUnlatched m c
+  pub not_there : (c : ℕ) → 32 ≤ c → OffAndUnlatched m c
   pub same_profile : m.board.profile ≡ r.profile
