@@ -1,6 +1,5 @@
 -- The payload lies where the answer says. Assumes nothing.
 use Rattle.looking.specs.Looking.{answer_line}
-use borrow.Author.Rules.{rules}
 use Rattle.looking.proofs.answer.Goals as goal
 
 pub returns : goal.returns

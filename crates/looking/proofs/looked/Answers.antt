@@ -1,6 +1,5 @@
 -- By what is looked at. Assumes nothing.
 use Rattle.looking.specs.Looking.{look_line}
-use borrow.Author.Rules.{rules}
 use Rattle.looking.proofs.looked.Goals as goal
 
 pub returns-in-Read : goal.returns-in-Read

@@ -2,7 +2,6 @@
 use Rattle.looking.specs.Looking.{read_line}
 use mathlib.Core.Path.{◌≡◌, sym, ap, ◌∙◌}
 use Rattle.wire.specs.Replies.{found}
-use Rattle.script.specs.Printing.{typed}
 use Rattle.script.proofs.Turns.{typed_append}
 use lib.ListN.{length, take}
 use Rattle.speaking.proofs.Fronts.{lent, whole, front}
