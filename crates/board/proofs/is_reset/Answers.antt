@@ -1,5 +1,4 @@
 -- Only a reset by the watchdog is one.
-use borrow.Author.Rules.{rules}
 use Rattle.board.specs.Parts.{is_reset}
 use Rattle.board.proofs.is_reset.Goals as goal
 

@@ -2,7 +2,6 @@
 use mir.Syntax.{w16}
 use mir.ValLaws.{to_z-of_z}
 use Rattle.board.specs.Tick.{risen_of, changed_of, tripped_of}
-use borrow.Author.Rules.{rules}
 use Rattle.board.proofs.settle.Goals as goal
 
 pub returns : goal.returns

@@ -61,13 +61,13 @@ returns-then-is_reset c =
     let a = c.args in
     let j = (goal.at.returns-then-is_reset c).Joined-is_heard in
     let both =
-        with_number a.rail a.overcurrent a.words.now a.sent a.transfer.now a.b
-        (rw c.watchdog_reset-b.ensures
-        (lost a.rail a.overcurrent a.words.now a.sent a.transfer.now a.b c.is_allowed-happens.result (allowed j) (made_at j) (obeyed j)
-        c.watch-event.result
-        (c.watch-event.ensures ∙ rw (c.seconds_in_ticks-timeout.ensures, c.timeout.ensures))
-        (sym c.is_reset.ensures ∙ c.if-is_reset.true)))
-        in
+    with_number a.rail a.overcurrent a.words.now a.sent a.transfer.now a.b
+    (rw c.watchdog_reset-b.ensures
+    (lost a.rail a.overcurrent a.words.now a.sent a.transfer.now a.b c.is_allowed-happens.result (allowed j) (made_at j) (obeyed j)
+    c.watch-event.result
+    (c.watch-event.ensures ∙ rw (c.seconds_in_ticks-timeout.ensures, c.timeout.ensures))
+    (sym c.is_reset.ensures ∙ c.if-is_reset.true)))
+    in
     record { value = both.0; number = both.1 }
 
 pub returns-else-is_reset : goal.returns-else-is_reset
@@ -75,10 +75,10 @@ returns-else-is_reset c =
     let a = c.args in
     let j = (goal.at.returns-else-is_reset c).Joined-is_heard in
     let both =
-        with_number a.rail a.overcurrent a.words.now a.sent a.transfer.now a.b
-        (kept a.rail a.overcurrent a.words.now a.sent a.transfer.now a.b c.is_allowed-happens.result (allowed j) (made_at j) (obeyed j)
-        c.watch-event.result
-        (c.watch-event.ensures ∙ rw (c.seconds_in_ticks-timeout.ensures, c.timeout.ensures))
-        (sym c.is_reset.ensures ∙ c.if-is_reset.false))
-        in
+    with_number a.rail a.overcurrent a.words.now a.sent a.transfer.now a.b
+    (kept a.rail a.overcurrent a.words.now a.sent a.transfer.now a.b c.is_allowed-happens.result (allowed j) (made_at j) (obeyed j)
+    c.watch-event.result
+    (c.watch-event.ensures ∙ rw (c.seconds_in_ticks-timeout.ensures, c.timeout.ensures))
+    (sym c.is_reset.ensures ∙ c.if-is_reset.false))
+    in
     record { value = both.0; number = both.1 }

@@ -15,8 +15,8 @@ returns-in-Length c =
     let whole : length a.r.bytes ≡ 274 = search rules in
     let told = rw c.first.ensures at c.write.ensures.answer in
     let held = rw c.first.ensures at c.write.ensures.held in
-    let shown-bytes = digits_written (take a.r.len a.r.bytes) (replicate 1024 0) (shown_short a.r.len a.r.bytes whole) (length-replicate {A = ℕ} 1024 0) _ (sym told ∙ c.in-Length.is) in
-    rw (c.text.ensures, c.first-in-Length.ensures, held) (ap (typed (page a.out.now a.at)) shown-bytes)
+    let shown_bytes = digits_written (take a.r.len a.r.bytes) (replicate 1024 0) (shown_short a.r.len a.r.bytes whole) (length-replicate {A = ℕ} 1024 0) _ (sym told ∙ c.in-Length.is) in
+    rw (c.text.ensures, c.first-in-Length.ensures, held) (ap (typed (page a.out.now a.at)) shown_bytes)
 
 pub returns-in-NoRoom : goal.returns-in-NoRoom
 unfolding shown
