@@ -1,5 +1,4 @@
 -- The words are those of the bytes. Assumes nothing.
-use borrow.Author.Rules.{rules}
 use Rattle.handling.proofs.lent.Goals as goal
 
 pub returns : goal.returns

@@ -1,6 +1,5 @@
 -- Nothing was started. Assumes nothing.
 use Rattle.handling.specs.Benches.{empty_bench}
-use borrow.Author.Rules.{rules}
 use Rattle.handling.proofs.none.Goals as goal
 
 pub returns : goal.returns

@@ -1,6 +1,5 @@
 -- The machine after the start, and what it answers. Assumes nothing.
 use Rattle.handling.specs.Benches.{started_of}
-use borrow.Author.Rules.{rules}
 use Rattle.handling.proofs.started.Goals as goal
 
 pub returns : goal.returns

@@ -2,7 +2,7 @@
 use mir.Val.{SFits}
 use mir.Syntax.{w16}
 use mir.ValLaws.{to_z-of_z}
-use Rattle.handling.specs.Benches.{shown, ticked_of}
+use Rattle.handling.specs.Benches.{ticked_of}
 use borrow.Author.Rules.{rules}
 use Rattle.handling.proofs.ticked.Goals as goal
 
