@@ -27,12 +27,7 @@ fn run_one(rt: &impl Print, bench: Bench, line: &[u8]) -> io::Result<Bench> {
 
 // Runs the lines that a chunk of input ends, and keeps the piece behind the last of them.
 // argued: an instrument; what it prints is compared line by line with the second program
-fn run_chunk(
-    rt: &impl Print,
-    chunk: &[u8],
-    line: &mut [u8; 4096],
-    turn: Turn,
-) -> io::Result<Turn> {
+fn run_chunk(rt: &impl Print, chunk: &[u8], line: &mut [u8; 4096], turn: Turn) -> io::Result<Turn> {
     let mut bench = turn.bench;
     let mut filled = turn.filled;
     let mut over = turn.over;
