@@ -1,7 +1,5 @@
 -- By what is asked. Assumes nothing.
-use Rattle.script.specs.Printing.{typed}
 use Rattle.trial.specs.Lines.{ran_of}
-use borrow.Author.Rules.{rules}
 use Rattle.trial.proofs.run.Goals as goal
 
 pub returns-in-Start : goal.returns-in-Start
