@@ -7,7 +7,6 @@ use mathlib.Core.List.{List}
 use native.Mathlib.Omega.{arith}
 use lib.IntN.{ℤ}
 use lib.ListN.{length}
-use mathlib.Core.Logic.{◌⊎◌}
 use Rattle.laws.proofs.Cases.{cases}
 use Rattle.wire.specs.Replies.{shown}
 use Rattle.wire.specs.declared.reply.Reply as reply
@@ -26,7 +25,6 @@ use Rattle.state.specs.Parts.{mode_of, word_count, with_form, with_reply}
 use Rattle.state.specs.declared.parts.Board.{Board}
 use Rattle.state.specs.Start.{fresh_of, keeps_the_rules, start_of}
 use Rattle.state.specs.declared.parts.Profile.{Profile}
-use Rattle.state.specs.declared.starting.StartAnswer.TheVariants.{Accepted}
 use Rattle.answers.specs.declared.Commanded.{Commanded}
 use Rattle.effects.specs.Effects.{run_of, restarted_of}
 use Rattle.asking.specs.Checks.{is_startup}
@@ -40,7 +38,7 @@ use Rattle.reading.specs.Lines.{line_of, switch_text}
 use Rattle.reading.specs.declared.Line.{Line}
 use Rattle.reading.specs.declared.Line.TheVariants.{Command, Switch, NoFrame, TooLong, NotOfForm, ScratchTooShort}
 use Rattle.framing.specs.Framing.{reply_frame, written, framed_of}
-use Rattle.framing.specs.declared.Due.TheVariants.{Nothing, Reply, Echo}
+use Rattle.framing.specs.declared.Due.TheVariants.{Nothing, Echo}
 use Rattle.framing.specs.declared.Framed.TheVariants.{Written}
 use Rattle.framing.proofs.FramingLaws.{nothing_due}
 use Rattle.unit.specs.declared.Machine.{Machine}

@@ -9,6 +9,3 @@ unfolding told_of
 returns-clause-value c =
     let ticked = rw (to_z-of_z w16 c.args.rail c.ranges.rail) at c.tick-t.ensures.value in
     rw (c.due_after-due.ensures, ← ticked)
-
-pub returns-clause-number : goal.returns-clause-number
-returns-clause-number c = rw (to_z-of_z w16 c.args.rail c.ranges.rail) at c.tick-t.ensures.number
