@@ -3,7 +3,7 @@ use Rattle.refusals.proofs.Answered.{exactly_when}
 use Rattle.refusals.proofs.Refused.{refused_command}
 use Rattle.refusals.proofs.RefusedTicks.{refused_tick}
 use Rattle.refusals.proofs.Untouched.{other_refusals}
-use Rattle.refusals.proofs.Rules.{base_board, battery_board_lem}
+use Rattle.refusals.proofs.Rules.{base_board, battery_board}
 use Rattle.groups.proofs.Groups.{groups}
 use Rattle.groups.proofs.Altered.{altered}
 use Rattle.groups.proofs.Resets.{reset_is_told}
@@ -41,7 +41,7 @@ claims =
       refused_tick = refused_tick;
       other_refusals = other_refusals;
       base_board = base_board;
-      battery_board_lem = battery_board_lem;
+      battery_board = battery_board;
       groups = groups;
       altered = altered;
       reset_is_told = reset_is_told;

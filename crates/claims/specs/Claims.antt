@@ -26,7 +26,7 @@ pub record Claims : Type 0 where
   pub refused_tick : RefusedTick
   pub other_refusals : OtherRefusals
   pub base_board : BaseBoard
-  pub battery_board_lem : BatteryBoard
+  pub battery_board : BatteryBoard
   -- demand 2: what commands, overcurrent and resets do, at every tick
   pub groups : (rail : ℤ) (limits : Limits) (transfer : List ℕ) (board : Board) → Groups rail limits transfer board
   pub altered : (rail : ℤ) (limits : Limits) (transfer : List ℕ) (board : Board) → Altered rail limits transfer board

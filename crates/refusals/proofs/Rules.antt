@@ -14,7 +14,7 @@ use Rattle.laws.proofs.Cases.{cases, both}
 use Rattle.laws.proofs.Lists.{lt_or_le}
 use Rattle.kinds.specs.Kinds.{board_of, is_served}
 use Rattle.value.specs.declared.ValueType.{ValueType}
-use Rattle.settings.specs.Table.{Range, Entry, read_write, read_only, missing, row_of, find, lies, read_write_rows, read_only_rows, column, parameter_in, parameter_of, low_end, high_end, low_of, high_of, inside_of, at_least, at_most, clamp_of, default_of}
+use Rattle.settings.specs.Table.{Entry, read_write, read_only, missing, row_of, find, lies, read_write_rows, read_only_rows, column, parameter_in, parameter_of, low_end, high_end, low_of, high_of, inside_of, at_least, at_most, clamp_of, default_of}
 use Rattle.settings.specs.Values.{setting_of, in_range_of, default_n, defaults_of}
 use Rattle.settings.specs.declared.Parameter.{Parameter}
 use Rattle.settings.proofs.Laws.{in_range_each, each_in_range}
@@ -108,7 +108,7 @@ rules_kept p store k =
     (stored store.held refl)
   where
     stored : (b : Bool) → store.held ≡ b → cond b (in_range_of store.settings) true ≡ true
-    stored true e = rows_each store (k.stored_in_range_lem e)
+    stored true e = rows_each store (k.stored_in_range e)
     stored false e = refl
 
 pub kept_rules : (p : Profile) (store : Store) → keeps_the_rules p store ≡ true → KeepsAllRules p store
@@ -131,7 +131,7 @@ kept_rules p store e =
       one_fitted = fitted_any places p.fitted fitted.0;
       fitted_in_place = within_each p.fitted places fitted.1;
       forced_fitted = within_each p.forced p.fitted channels.1;
-      stored_in_range_lem = λ held. each_row store (rw held at d.1);
+      stored_in_range = λ held. each_row store (rw held at d.1);
     }
 
 -- ---- the form
@@ -180,18 +180,18 @@ read_form s w i e =
 -- ---- the distribution board is document 01's
 pub base_board : BaseBoard
 unfolding defaults_of default_n default_of clamp_of at_most at_least low_of high_of row_of find lies read_write_rows read_only_rows column
-base_board = record { stid = refl; last_bid_lem = refl; words = refl; places = refl; base_list_lem = refl; enable_bits_lem = refl; enable_key_lem = refl; defaults = refl; started = refl }
+base_board = record { stid = refl; last_bid = refl; words = refl; places = refl; base_list = refl; enable_bits = refl; enable_key = refl; defaults = refl; started = refl }
 
-pub battery_board_lem : BatteryBoard
+pub battery_board : BatteryBoard
 unfolding defaults_of default_n default_of clamp_of at_most at_least low_of high_of row_of find lies read_write_rows read_only_rows column
-battery_board_lem =
+battery_board =
     record {
       stid = λ _. refl;
-      last_bid_lem = λ _. refl;
+      last_bid = λ _. refl;
       words = λ _. refl;
       places = λ _. refl;
       codes = λ _. refl;
       defaults = λ _. refl;
       started = λ _. refl;
-      abf_placed_lem = λ _. refl;
+      abf_placed = λ _. refl;
     }

@@ -34,7 +34,7 @@ pub record KeepsAllRules (p : Profile) (store : Store) : Type 0 where
   pub one_fitted : (place : ℕ) → has (board_of p.kind).places place ≡ true → (c : ℕ) × (has p.fitted c ≡ true)
   pub fitted_in_place : (c : ℕ) → c < 32 → has p.fitted c ≡ true → has (board_of p.kind).places c ≡ true
   pub forced_fitted : (c : ℕ) → c < 32 → has p.forced c ≡ true → has p.fitted c ≡ true
-  pub stored_in_range_lem : store.held ≡ true → InRange store
+  pub stored_in_range : store.held ≡ true → InRange store
 
 -- ---- a sheet
 -- at most 65,536 bytes: from the first on `board`, `fitted`, `forced` and `ticks` with what each says, then as many
@@ -58,12 +58,12 @@ base_list = 0xAA ∷ 0x02 ∷ 0x04 ∷ 0x06 ∷ 0x10 ∷ 0x12 ∷ 0x14 ∷ 0x16 
 
 pub record BaseBoard : Type 0 where
   pub stid : (board_of Distribution).stid ≡ 0x11
-  pub last_bid_lem : (board_of Distribution).last_bid ≡ 8
+  pub last_bid : (board_of Distribution).last_bid ≡ 8
   pub words : (board_of Distribution).words ≡ 122
   pub places : (board_of Distribution).places ≡ 2 ^ 32 - 1
-  pub base_list_lem : (board_of Distribution).codes ≡ base_list ++ 0x52 ∷ []
-  pub enable_bits_lem : (board_of Distribution).enable_bits ≡ 0x111
-  pub enable_key_lem : (board_of Distribution).enable_key ≡ 0x111 + 0x11111111
+  pub base_list : (board_of Distribution).codes ≡ base_list ++ 0x52 ∷ []
+  pub enable_bits : (board_of Distribution).enable_bits ≡ 0x111
+  pub enable_key : (board_of Distribution).enable_key ≡ 0x111 + 0x11111111
   pub defaults : (defaults_of Distribution).u32s ≡ 0 ∷ 0 ∷ 0x111 ∷ 0x11111222 ∷ 0x111 ∷ 0x11111222 ∷ []
   pub started : is_served Distribution ≡ true
 
@@ -77,11 +77,11 @@ with_u32s values s = record { u32s = values; u16s = s.u16s; i16s = s.i16s; i8s =
 -- for other boards alone, are 0, and all others the distribution board's; and its ABF as the profile says
 pub record BatteryBoard : Type 0 where
   pub stid : (abf : Bool) → (board_of (Battery abf)).stid ≡ 0x12
-  pub last_bid_lem : (abf : Bool) → (board_of (Battery abf)).last_bid ≡ 4
+  pub last_bid : (abf : Bool) → (board_of (Battery abf)).last_bid ≡ 4
   pub words : (abf : Bool) → (board_of (Battery abf)).words ≡ 39
   pub places : (abf : Bool) → (board_of (Battery abf)).places ≡ 0
   pub codes : (abf : Bool)
       → (board_of (Battery abf)).codes ≡ 0xAA ∷ 0x02 ∷ 0x06 ∷ 0x30 ∷ 0x32 ∷ 0x82 ∷ 0x84 ∷ 0x86 ∷ 0x90 ∷ 0x92 ∷ 0x94 ∷ 0x44 ∷ 0x60 ∷ 0x62 ∷ []
   pub defaults : (abf : Bool) → defaults_of (Battery abf) ≡ with_u32s (0 ∷ 0 ∷ 0 ∷ 0 ∷ 0 ∷ 0 ∷ []) (defaults_of Distribution)
   pub started : (abf : Bool) → is_served (Battery abf) ≡ true
-  pub abf_placed_lem : (abf : Bool) → (board_of (Battery abf)).abf_placed ≡ abf
+  pub abf_placed : (abf : Bool) → (board_of (Battery abf)).abf_placed ≡ abf
