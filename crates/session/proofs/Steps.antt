@@ -19,7 +19,7 @@ use Rattle.wire.specs.declared.forms.Form.TheVariants.{Raw}
 use Rattle.sheet.specs.Form.{Top, Tick, tick_line, Sheet, sheet, sheet_in}
 use Rattle.sheet.specs.Answers.{head_by, sheet_head}
 use Rattle.sheet.proofs.Behind.{times_turn, times_none}
-use Rattle.sheet.proofs.Sheets.{Accepted, accepted}
+use Rattle.sheet.proofs.Sheets.{accepted}
 use Rattle.script.specs.Printing.{page, typed}
 use Rattle.transcript.specs.Transcript.{ticks_text, opened_number, refusal_text}
 use Rattle.transcript.specs.declared.Answer.{Answer}

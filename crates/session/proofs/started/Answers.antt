@@ -1,6 +1,5 @@
 -- The answer of the start says which of the two it is. Assumes nothing.
 use Rattle.session.specs.Sessions.{started_of}
-use borrow.Author.Rules.{rules}
 use Rattle.session.proofs.started.Goals as goal
 
 pub returns-in-Accepted : goal.returns-in-Accepted

@@ -6,7 +6,6 @@ use Rattle.grammar.proofs.Signs.{kept}
 use lib.ListN.{replicate}
 use Rattle.session.specs.Sessions.{stepped_of}
 use Rattle.session.proofs.Ticks.{read_tick, no_tick, too_long, transfer_held}
-use borrow.Author.Rules.{rules}
 use Rattle.session.proofs.step.Goals as goal
 
 pub returns-then-session-eq0 : goal.returns-then-session-eq0

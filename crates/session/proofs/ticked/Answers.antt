@@ -2,7 +2,6 @@
 use mir.Syntax.{w16}
 use mir.ValLaws.{to_z-of_z}
 use Rattle.session.specs.Sessions.{ticked_of}
-use borrow.Author.Rules.{rules}
 use Rattle.session.proofs.ticked.Goals as goal
 
 pub returns : goal.returns

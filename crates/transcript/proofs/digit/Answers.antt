@@ -1,7 +1,6 @@
 -- A number below the power has no digit for it. Assumes nothing.
 use borrow.Author.Tests.{lt-ltb, le-ltb}
 use Rattle.script.specs.Printing.{typed}
-use borrow.Author.Rules.{rules}
 use Rattle.transcript.proofs.digit.Goals as goal
 
 pub returns-then-n-power : goal.returns-then-n-power

@@ -1,6 +1,5 @@
 -- The line of each answer. Assumes nothing.
 use Rattle.script.specs.Printing.{typed}
-use borrow.Author.Rules.{rules}
 use Rattle.transcript.proofs.refusal.Goals as goal
 
 pub returns-in-Running : goal.returns-in-Running

@@ -1,6 +1,5 @@
 -- A space, and the digits behind it. Assumes nothing.
 use Rattle.script.specs.Printing.{typed}
-use borrow.Author.Rules.{rules}
 use Rattle.transcript.proofs.set.Goals as goal
 
 pub returns : goal.returns

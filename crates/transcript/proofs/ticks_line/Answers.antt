@@ -2,7 +2,6 @@
 use Rattle.script.specs.Printing.{typed}
 use Rattle.script.proofs.Turns.{typed_append}
 use Rattle.transcript.specs.Transcript.{ticks_text}
-use borrow.Author.Rules.{rules}
 use Rattle.transcript.proofs.ticks_line.Goals as goal
 
 pub returns : goal.returns
