@@ -100,7 +100,7 @@ entered before next p ch a =
     either (is_dark next) (by channel.emergency_entered (λ c h. kept_apart (chan ch c)))
     (either (is_dark before) (by channel.forced_come_on (λ c h. record { not_both = and-false (force_enabled (has p.fitted c) (has p.forced c)) }))
     (either (from_nominal_to_safety before next)
-    (by (channel.commanded channel.command_enabled_off_lem) (λ c h. either_one (command_enabled (has p.fitted c) (has p.forced c)) (kept_apart (chan ch c)) (a.each c h)))
+    (by (channel.commanded channel.turn_command_enabled_off) (λ c h. either_one (command_enabled (has p.fitted c) (has p.forced c)) (kept_apart (chan ch c)) (a.each c h)))
     a))
   where
     by : (e : channel.Event) → ((c : ℕ) → c < 32 → Apart (channel.after_one p.fitted p.forced e c (chan ch c))) → AllApart (channel.after p.fitted p.forced e ch)

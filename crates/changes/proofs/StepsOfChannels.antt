@@ -49,7 +49,7 @@ module _ (before next : Mode) (p : Profile) (s : Channels) (c : ℕ) (h : c < 32
   -- from nominal to safety
   to_safety : before ≡ Nominal → next ≡ Safety → left ≡ command_enabled_off_one (has p.fitted c) (has p.forced c) (chan s c)
   unfolding entering_of is_dark from_nominal_to_safety
-  to_safety b a = rw (b, a) (channel.each p.fitted p.forced (channel.commanded channel.command_enabled_off_lem) s c h)
+  to_safety b a = rw (b, a) (channel.each p.fitted p.forced (channel.commanded channel.turn_command_enabled_off) s c h)
 
   -- any other change, and none
   no_entry : is_startup_or_emergency before ≡ false → is_startup_or_emergency next ≡ false → (same before Nominal && same next Safety) ≡ false → left ≡ chan s c

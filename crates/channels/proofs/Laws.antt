@@ -19,12 +19,12 @@ use Rattle.channels.proofs.Whole.{Held, whole_held, chan_whole, same_channels}
 -- a command's work on the channels: 0x10, 0x12, 0x14 with the channels spoken of and the mask, 0x16 and 0x18 with the
 -- channel, and 0x04
 pub data Command : Type 0 where
-  group_on_lem : ℕ → ℕ → Command
-  group_off_lem : ℕ → ℕ → Command
-  group_state_lem : ℕ → ℕ → Command
-  switch_on_lem : ℕ → Command
-  switch_off_lem : ℕ → Command
-  command_enabled_off_lem : Command
+  turn_group_on : ℕ → ℕ → Command
+  turn_group_off : ℕ → ℕ → Command
+  set_group_state : ℕ → ℕ → Command
+  turn_on : ℕ → Command
+  turn_off : ℕ → Command
+  turn_command_enabled_off : Command
 
 -- a command, the entry of emergency, startup or emergency left by the table, or an overcurrent of the channels named
 pub data Event : Type 0 where
@@ -71,12 +71,12 @@ either false x y e = refl
 
 module _ (fitted forced : ℕ) where
   abbrev pub obeyed : Command → Channels → Channels
-  obeyed (group_on_lem spoken mask) s = group_on fitted spoken mask s
-  obeyed (group_off_lem spoken mask) s = group_off fitted forced spoken mask s
-  obeyed (group_state_lem spoken mask) s = group_state fitted forced spoken mask s
-  obeyed (switch_on_lem one) s = switch_on fitted one s
-  obeyed (switch_off_lem one) s = switch_off fitted forced one s
-  obeyed command_enabled_off_lem s = command_enabled_off fitted forced s
+  obeyed (turn_group_on spoken mask) s = group_on fitted spoken mask s
+  obeyed (turn_group_off spoken mask) s = group_off fitted forced spoken mask s
+  obeyed (set_group_state spoken mask) s = group_state fitted forced spoken mask s
+  obeyed (turn_on one) s = switch_on fitted one s
+  obeyed (turn_off one) s = switch_off fitted forced one s
+  obeyed turn_command_enabled_off s = command_enabled_off fitted forced s
 
   abbrev pub after : Event → Channels → Channels
   after (commanded o) s = obeyed o s
@@ -86,12 +86,12 @@ module _ (fitted forced : ℕ) where
 
   -- the same, for channel c alone
   abbrev pub obeyed_one : Command → ℕ → Chan → Chan
-  obeyed_one (group_on_lem spoken mask) c ch = group_on_one (has fitted c) (has spoken c) (has mask c) ch
-  obeyed_one (group_off_lem spoken mask) c ch = group_off_one (has fitted c) (has forced c) (has spoken c) (has mask c) ch
-  obeyed_one (group_state_lem spoken mask) c ch = group_state_one (has fitted c) (has forced c) (has spoken c) (has mask c) ch
-  obeyed_one (switch_on_lem one) c ch = group_on_one (has fitted c) true (eqb c one) ch
-  obeyed_one (switch_off_lem one) c ch = group_off_one (has fitted c) (has forced c) true (eqb c one) ch
-  obeyed_one command_enabled_off_lem c ch = command_enabled_off_one (has fitted c) (has forced c) ch
+  obeyed_one (turn_group_on spoken mask) c ch = group_on_one (has fitted c) (has spoken c) (has mask c) ch
+  obeyed_one (turn_group_off spoken mask) c ch = group_off_one (has fitted c) (has forced c) (has spoken c) (has mask c) ch
+  obeyed_one (set_group_state spoken mask) c ch = group_state_one (has fitted c) (has forced c) (has spoken c) (has mask c) ch
+  obeyed_one (turn_on one) c ch = group_on_one (has fitted c) true (eqb c one) ch
+  obeyed_one (turn_off one) c ch = group_off_one (has fitted c) (has forced c) true (eqb c one) ch
+  obeyed_one turn_command_enabled_off c ch = command_enabled_off_one (has fitted c) (has forced c) ch
 
   abbrev pub after_one : Event → ℕ → Chan → Chan
   after_one (commanded o) c ch = obeyed_one o c ch
@@ -101,12 +101,12 @@ module _ (fitted forced : ℕ) where
 
   obeyed_whole : (o : Command) (s : Channels) → obeyed o s ≡ whole (λ c. obeyed_one o c (chan s c))
   unfolding group_on group_off group_state switch_on switch_off command_enabled_off
-  obeyed_whole (group_on_lem spoken mask) s = refl
-  obeyed_whole (group_off_lem spoken mask) s = refl
-  obeyed_whole (group_state_lem spoken mask) s = refl
-  obeyed_whole (switch_on_lem one) s = refl
-  obeyed_whole (switch_off_lem one) s = refl
-  obeyed_whole command_enabled_off_lem s = refl
+  obeyed_whole (turn_group_on spoken mask) s = refl
+  obeyed_whole (turn_group_off spoken mask) s = refl
+  obeyed_whole (set_group_state spoken mask) s = refl
+  obeyed_whole (turn_on one) s = refl
+  obeyed_whole (turn_off one) s = refl
+  obeyed_whole turn_command_enabled_off s = refl
 
   pub after_whole : (e : Event) (s : Channels) → after e s ≡ whole (λ c. after_one e c (chan s c))
   unfolding all_off forced_on overcurrent_at
@@ -124,34 +124,34 @@ module _ (fitted forced : ℕ) where
 
   -- ---- no event alters a channel that it is not meant for
   abbrev pub meant_for : Command → ℕ → Bool
-  meant_for (group_on_lem spoken mask) c = has fitted c && has spoken c && has mask c
-  meant_for (group_off_lem spoken mask) c = command_enabled (has fitted c) (has forced c) && has spoken c && has mask c
-  meant_for (group_state_lem spoken mask) c = has fitted c && has spoken c && (not (has forced c) || has mask c)
-  meant_for (switch_on_lem one) c = has fitted c && eqb c one
-  meant_for (switch_off_lem one) c = command_enabled (has fitted c) (has forced c) && eqb c one
-  meant_for command_enabled_off_lem c = command_enabled (has fitted c) (has forced c)
+  meant_for (turn_group_on spoken mask) c = has fitted c && has spoken c && has mask c
+  meant_for (turn_group_off spoken mask) c = command_enabled (has fitted c) (has forced c) && has spoken c && has mask c
+  meant_for (set_group_state spoken mask) c = has fitted c && has spoken c && (not (has forced c) || has mask c)
+  meant_for (turn_on one) c = has fitted c && eqb c one
+  meant_for (turn_off one) c = command_enabled (has fitted c) (has forced c) && eqb c one
+  meant_for turn_command_enabled_off c = command_enabled (has fitted c) (has forced c)
 
   pub command_untouched : (o : Command) (s : Channels) (c : ℕ) → c < 32 → meant_for o c ≡ false → chan (obeyed o s) c ≡ chan s c
   command_untouched o s c h e = each (commanded o) s c h ∙ rule o e
     where
       rule : (o : Command) → meant_for o c ≡ false → obeyed_one o c (chan s c) ≡ chan s c
-      rule (group_on_lem spoken mask) e = simp e
-      rule (group_off_lem spoken mask) e = simp e
-      rule (group_state_lem spoken mask) e = state_untouched (has fitted c) (has forced c) (has spoken c) (has mask c) (chan s c) e
-      rule (switch_on_lem one) e = simp (and-true, e)
-      rule (switch_off_lem one) e = simp (and-true, e)
-      rule command_enabled_off_lem e = simp e
+      rule (turn_group_on spoken mask) e = simp e
+      rule (turn_group_off spoken mask) e = simp e
+      rule (set_group_state spoken mask) e = state_untouched (has fitted c) (has forced c) (has spoken c) (has mask c) (chan s c) e
+      rule (turn_on one) e = simp (and-true, e)
+      rule (turn_off one) e = simp (and-true, e)
+      rule turn_command_enabled_off e = simp e
 
   -- where refusal 7 applies the single commands alter nothing at all
   pub switch_on_refused : (one : ℕ) (s : Channels) → Held s → wrong_to_switch_on fitted one ≡ true → switch_on fitted one s ≡ s
   switch_on_refused one s k w =
-      same_channels (switch_on fitted one s) s (after_held (commanded (switch_on_lem one)) s) k
-      (λ c h. command_untouched (switch_on_lem one) s c h (none_is (has fitted) one c h w))
+      same_channels (switch_on fitted one s) s (after_held (commanded (turn_on one)) s) k
+      (λ c h. command_untouched (turn_on one) s c h (none_is (has fitted) one c h w))
 
   pub switch_off_refused : (one : ℕ) (s : Channels) → Held s → wrong_to_switch_off fitted forced one ≡ true → switch_off fitted forced one s ≡ s
   switch_off_refused one s k w =
-      same_channels (switch_off fitted forced one s) s (after_held (commanded (switch_off_lem one)) s) k
-      (λ c h. command_untouched (switch_off_lem one) s c h (none_is (λ x. command_enabled (has fitted x) (has forced x)) one c h (not_enabled (ltb 31 one) (has fitted one) (has forced one) w)))
+      same_channels (switch_off fitted forced one s) s (after_held (commanded (turn_off one)) s) k
+      (λ c h. command_untouched (turn_off one) s c h (none_is (λ x. command_enabled (has fitted x) (has forced x)) one c h (not_enabled (ltb 31 one) (has fitted one) (has forced one) w)))
 
   pub overcurrent_untouched : (named : ℕ) (s : Channels) (c : ℕ) → c < 32 → (has named c && has s.on c) ≡ false → chan (overcurrent_at named s) c ≡ chan s c
   overcurrent_untouched named s c h e = each (overcurrent named) s c h ∙ simp e
@@ -165,24 +165,24 @@ module _ (fitted forced : ℕ) where
   forced_stays_on o s c h g e = ap (λ (x : Chan). x.on) (each (commanded o) s c h) ∙ rule o
     where
       rule : (o : Command) → (obeyed_one o c (chan s c)).on ≡ true
-      rule (group_on_lem spoken mask) = cases (has fitted c && has spoken c && has mask c) (λ a. simp a) (λ a. simp (a, e))
-      rule (group_off_lem spoken mask) = simp (g, and-false, e)
-      rule (group_state_lem spoken mask) = cases (has fitted c && has spoken c && has mask c) (λ a. simp (g, and-false, and-true, a)) (λ a. simp (g, and-false, and-true, a, e))
-      rule (switch_on_lem one) = cases (has fitted c && eqb c one) (λ a. simp (and-true, a)) (λ a. simp (and-true, a, e))
-      rule (switch_off_lem one) = simp (g, and-false, e)
-      rule command_enabled_off_lem = simp (g, and-false, e)
+      rule (turn_group_on spoken mask) = cases (has fitted c && has spoken c && has mask c) (λ a. simp a) (λ a. simp (a, e))
+      rule (turn_group_off spoken mask) = simp (g, and-false, e)
+      rule (set_group_state spoken mask) = cases (has fitted c && has spoken c && has mask c) (λ a. simp (g, and-false, and-true, a)) (λ a. simp (g, and-false, and-true, a, e))
+      rule (turn_on one) = cases (has fitted c && eqb c one) (λ a. simp (and-true, a)) (λ a. simp (and-true, a, e))
+      rule (turn_off one) = simp (g, and-false, e)
+      rule turn_command_enabled_off = simp (g, and-false, e)
 
   -- ---- a channel that is not fitted, off and not latched stays so under every command, and under overcurrent
   pub unfitted_stays_dark : (o : Command) (s : Channels) (c : ℕ) → c < 32 → has fitted c ≡ false → Dark (chan s c) → Dark (chan (obeyed o s) c)
   unfitted_stays_dark o s c h f d = rw (command_untouched o s c h (rule o)) d
     where
       rule : (o : Command) → meant_for o c ≡ false
-      rule (group_on_lem spoken mask) = simp f
-      rule (group_off_lem spoken mask) = simp f
-      rule (group_state_lem spoken mask) = simp f
-      rule (switch_on_lem one) = simp f
-      rule (switch_off_lem one) = simp f
-      rule command_enabled_off_lem = simp f
+      rule (turn_group_on spoken mask) = simp f
+      rule (turn_group_off spoken mask) = simp f
+      rule (set_group_state spoken mask) = simp f
+      rule (turn_on one) = simp f
+      rule (turn_off one) = simp f
+      rule turn_command_enabled_off = simp f
 
   pub overcurrent_stays_dark : (named : ℕ) (s : Channels) (c : ℕ) → c < 32 → Dark (chan s c) → Dark (chan (overcurrent_at named s) c)
   overcurrent_stays_dark named s c h d = rw (overcurrent_untouched named s c h (simp (d.off, and-false))) d
@@ -203,15 +203,15 @@ module _ (fitted forced : ℕ) where
   command_counts o s k = ap (λ (x : Channels). x.counts) (obeyed_whole o s) ∙ same_counts (obeyed_one o) s k (rule o)
     where
       rule : (o : Command) (c : ℕ) (ch : Chan) → (obeyed_one o c ch).count ≡ ch.count
-      rule (group_on_lem spoken mask) c ch = either (meant_for (group_on_lem spoken mask) c) (on_and_cleared ch) ch refl
-      rule (group_off_lem spoken mask) c ch = either (meant_for (group_off_lem spoken mask) c) (off_and_cleared ch) ch refl
-      rule (group_state_lem spoken mask) c ch =
+      rule (turn_group_on spoken mask) c ch = either (meant_for (turn_group_on spoken mask) c) (on_and_cleared ch) ch refl
+      rule (turn_group_off spoken mask) c ch = either (meant_for (turn_group_off spoken mask) c) (off_and_cleared ch) ch refl
+      rule (set_group_state spoken mask) c ch =
           cases (command_enabled (has fitted c) (has forced c) && has spoken c)
           (λ a. simp a (either (has mask c) (on_and_cleared ch) (off_and_cleared ch) refl))
           (λ a. simp a (either (force_enabled (has fitted c) (has forced c) && has spoken c && has mask c) (on_and_cleared ch) ch refl))
-      rule (switch_on_lem one) c ch = either (has fitted c && true && eqb c one) (on_and_cleared ch) ch refl
-      rule (switch_off_lem one) c ch = either (command_enabled (has fitted c) (has forced c) && true && eqb c one) (off_and_cleared ch) ch refl
-      rule command_enabled_off_lem c ch = either (meant_for command_enabled_off_lem c) (off_and_latch_kept ch) ch refl
+      rule (turn_on one) c ch = either (has fitted c && true && eqb c one) (on_and_cleared ch) ch refl
+      rule (turn_off one) c ch = either (command_enabled (has fitted c) (has forced c) && true && eqb c one) (off_and_cleared ch) ch refl
+      rule turn_command_enabled_off c ch = either (meant_for turn_command_enabled_off c) (off_and_latch_kept ch) ch refl
 
   pub emergency_counts : (s : Channels) → Held s → (all_off s).counts ≡ s.counts
   emergency_counts s k = ap (λ (x : Channels). x.counts) (after_whole emergency_entered s) ∙ same_counts (λ c. off_and_latch_kept) s k (λ c ch. refl)

@@ -87,7 +87,7 @@ pub data Does (rail : ℤ) (limits : Limits) (d : Decoded) (ask : small.Command)
   leaves_both : ask ≡ small.other → Stays b c.board → Does rail limits d ask b c
   refuses : ask ≡ small.switch_on → Stays b c.board → Does rail limits d ask b c
   switches : ask ≡ small.switch_on → mode_of b ≡ Nominal → (o : of-channels.Command) → Becomes b.phase (obeying o b) c.board → Does rail limits d ask b c
-  cancels : ask ≡ small.other → Becomes b.phase (obeying of-channels.command_enabled_off_lem b) c.board → Does rail limits d ask b c
+  cancels : ask ≡ small.other → Becomes b.phase (obeying of-channels.turn_command_enabled_off b) c.board → Does rail limits d ask b c
   to_safety_lem : ask ≡ small.switch_to_safety → Changes (to_safety b.phase) b c.board → Does rail limits d ask b c
   to_nominal_lem : ask ≡ small.switch_to_nominal → Changes (to_nominal b.phase rail limits) b c.board → Does rail limits d ask b c
   restarts : d ≡ Run Command.SystemReset → c.outcome ≡ Answered Accepted → c.board ≡ command_reset_of b → Does rail limits d ask b c
@@ -168,11 +168,11 @@ module _ (rail : ℤ) (limits : Limits) (b : Board) where
   -- every command of the list
   run : (code : ℕ) (c : Command) → DoesIt (Run c) (run_of rail limits code c b)
   unfolding run_of group_on_of group_off_of group_state_of channel_on_of channel_off_of cancelled_of faults_of housekeeping_of engineering_housekeeping_of abf_of battery_housekeeping_of engineering_battery_housekeeping_of parameter_answered remembered_of restarted_of accepted_of
-  run code (Command.GroupOn g) = switched _ refl code _ (of-channels.group_on_lem g.spoken g.mask)
-  run code (Command.GroupOff g) = switched _ refl code _ (of-channels.group_off_lem g.spoken g.mask)
-  run code (Command.GroupState g) = switched _ refl code _ (of-channels.group_state_lem g.spoken g.mask)
-  run code (Command.ChannelOn one) = switched _ refl code _ (of-channels.switch_on_lem one)
-  run code (Command.ChannelOff one) = switched _ refl code _ (of-channels.switch_off_lem one)
+  run code (Command.GroupOn g) = switched _ refl code _ (of-channels.turn_group_on g.spoken g.mask)
+  run code (Command.GroupOff g) = switched _ refl code _ (of-channels.turn_group_off g.spoken g.mask)
+  run code (Command.GroupState g) = switched _ refl code _ (of-channels.set_group_state g.spoken g.mask)
+  run code (Command.ChannelOn one) = switched _ refl code _ (of-channels.turn_on one)
+  run code (Command.ChannelOff one) = switched _ refl code _ (of-channels.turn_off one)
   run code Command.CancelOperation = cancels refl (takes code _)
   run code Command.SwitchToSafety = to_safety_lem refl (switched_mode code (to_safety b.phase))
   run code Command.SwitchToNominal = to_nominal_lem refl (switched_mode code (to_nominal b.phase rail limits))

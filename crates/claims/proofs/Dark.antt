@@ -63,11 +63,11 @@ module _ (k : ℕ) (h : k < 32) where
   still_off false x e = e
 
   -- so a channel that is off stays off by it
-  cancelled : (b c : Board) → Becomes b.phase (obeying of-channels.command_enabled_off_lem b) c → OffInTheDark k b → OffInTheDark k c
+  cancelled : (b c : Board) → Becomes b.phase (obeying of-channels.turn_command_enabled_off b) c → OffInTheDark k b → OffInTheDark k c
   cancelled b c q w =
       rw (q.phase, q.channels)
       (λ d.
-      ap (λ (x : Chan). x.on) (of-channels.each b.profile.fitted b.profile.forced (of-channels.commanded of-channels.command_enabled_off_lem) b.channels k h)
+      ap (λ (x : Chan). x.on) (of-channels.each b.profile.fitted b.profile.forced (of-channels.commanded of-channels.turn_command_enabled_off) b.channels k h)
       ∙ still_off (command_enabled (has b.profile.fitted k) (has b.profile.forced k)) (chan b.channels k) (w d))
 
   -- nominal is not dark

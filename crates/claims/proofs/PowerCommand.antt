@@ -72,7 +72,7 @@ module _ (p : Profile) (k : ℕ) (fe : ForceEnabledBy p k) (s : Channels) where
 
   -- from nominal to safety, and by 0x04, only the others go off
   others_off : chan (command_enabled_off p.fitted p.forced s) k ≡ chan s k
-  others_off = of-channels.command_untouched p.fitted p.forced of-channels.command_enabled_off_lem s k fe.a_channel (rw (fe.fitted, fe.forced))
+  others_off = of-channels.command_untouched p.fitted p.forced of-channels.turn_command_enabled_off s k fe.a_channel (rw (fe.fitted, fe.forced))
 
   -- by the mode before and the mode after
   pub entering : (before after : Mode) → chan (entering_of before after p s) k ≡ entered_one before after (chan s k)
@@ -96,12 +96,12 @@ module _ (p : Profile) (k : ℕ) (fe : ForceEnabledBy p k) (s : Channels) where
       one = of-channels.each p.fitted p.forced (of-channels.commanded o) s k fe.a_channel
 
       meant : (o : of-channels.Command) → of-channels.meant_for p.fitted p.forced o k ≡ true → of-channels.obeyed_one p.fitted p.forced o k (chan s k) ≡ on_and_cleared (chan s k)
-      meant (of-channels.group_on_lem spoken mask) e = rw e
-      meant (of-channels.group_off_lem spoken mask) e = absurd (false≢true (rw (fe.fitted, fe.forced) at e))
-      meant (of-channels.group_state_lem spoken mask) e = rw (fe.fitted, fe.forced, rw (fe.fitted, fe.forced) at e)
-      meant (of-channels.switch_on_lem one) e = rw (fe.fitted, rw fe.fitted at e)
-      meant (of-channels.switch_off_lem one) e = absurd (false≢true (rw (fe.fitted, fe.forced) at e))
-      meant of-channels.command_enabled_off_lem e = absurd (false≢true (rw (fe.fitted, fe.forced) at e))
+      meant (of-channels.turn_group_on spoken mask) e = rw e
+      meant (of-channels.turn_group_off spoken mask) e = absurd (false≢true (rw (fe.fitted, fe.forced) at e))
+      meant (of-channels.set_group_state spoken mask) e = rw (fe.fitted, fe.forced, rw (fe.fitted, fe.forced) at e)
+      meant (of-channels.turn_on one) e = rw (fe.fitted, rw fe.fitted at e)
+      meant (of-channels.turn_off one) e = absurd (false≢true (rw (fe.fitted, fe.forced) at e))
+      meant of-channels.turn_command_enabled_off e = absurd (false≢true (rw (fe.fitted, fe.forced) at e))
 
 -- ---- 0x30 and 0x32 lead from a lit mode to a lit one, if anywhere
 module _ (s : ModeAge) where

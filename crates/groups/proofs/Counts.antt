@@ -66,7 +66,7 @@ unfolding entering_of
 entering_counts before next p ch c h =
     either c _ (is_dark next) _ _ (event channel.emergency_entered refl)
     (either c _ (is_dark before) _ _ (event channel.forced_come_on refl)
-    (either c _ (from_nominal_to_safety before next) _ _ (event (channel.commanded channel.command_enabled_off_lem) (off_count (has p.fitted c) (has p.forced c) (chan ch c))) refl))
+    (either c _ (from_nominal_to_safety before next) _ _ (event (channel.commanded channel.turn_command_enabled_off) (off_count (has p.fitted c) (has p.forced c) (chan ch c))) refl))
   where
     event : (e : channel.Event) → (channel.after_one p.fitted p.forced e c (chan ch c)).count ≡ (chan ch c).count → (chan (channel.after p.fitted p.forced e ch) c).count ≡ (chan ch c).count
     event e q = ap (λ (x : Chan). x.count) (channel.each p.fitted p.forced e ch c h) ∙ q

@@ -63,19 +63,19 @@ module _ (rail : ℤ) (limits : Limits) (s : List ℕ) (b : Board) where
 
   -- ---- what the codes ask for: an operation on the channels
   pub data Operates : ℕ → channel.Command → Type 0 where
-    group_on : Operates 0x10 (channel.group_on_lem (group_in s).spoken (group_in s).mask)
-    group_off : Operates 0x12 (channel.group_off_lem (group_in s).spoken (group_in s).mask)
-    group_state : Operates 0x14 (channel.group_state_lem (group_in s).spoken (group_in s).mask)
-    channel_on : Operates 0x16 (channel.switch_on_lem (byte_after s))
-    channel_off : Operates 0x18 (channel.switch_off_lem (byte_after s))
-    cancel : Operates 0x04 channel.command_enabled_off_lem
+    group_on : Operates 0x10 (channel.turn_group_on (group_in s).spoken (group_in s).mask)
+    group_off : Operates 0x12 (channel.turn_group_off (group_in s).spoken (group_in s).mask)
+    group_state : Operates 0x14 (channel.set_group_state (group_in s).spoken (group_in s).mask)
+    channel_on : Operates 0x16 (channel.turn_on (byte_after s))
+    channel_off : Operates 0x18 (channel.turn_off (byte_after s))
+    cancel : Operates 0x04 channel.turn_command_enabled_off
 
   -- a mode, with the channels that it brings
   pub data Enters : ℕ → ModeAge → Channels → Type 0 where
     in_nominal : to_nominal b.phase rail limits ≡ change.ModeAnswer.Accepted b.phase → Enters 0x30 b.phase b.channels
     into_nominal : to_nominal b.phase rail limits ≡ change.ModeAnswer.Accepted (entered Nominal) → Enters 0x30 (entered Nominal) b.channels
     in_safety : same (mode_of b) Nominal ≡ false → to_safety b.phase ≡ change.ModeAnswer.Accepted b.phase → Enters 0x32 b.phase b.channels
-    into_safety : same (mode_of b) Nominal ≡ true → to_safety b.phase ≡ change.ModeAnswer.Accepted (entered Safety) → Enters 0x32 (entered Safety) (operated channel.command_enabled_off_lem)
+    into_safety : same (mode_of b) Nominal ≡ true → to_safety b.phase ≡ change.ModeAnswer.Accepted (entered Safety) → Enters 0x32 (entered Safety) (operated channel.turn_command_enabled_off)
 
   -- another memory
   pub data Remembers : ℕ → Memory → Type 0 where

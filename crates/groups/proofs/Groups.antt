@@ -174,7 +174,7 @@ module _ (rail : ℤ) (limits : Limits) (s : List ℕ) (b : Board) where
   made (enters r (in_nominal e)) = untouched 0x30 _ refl (λ _. refl) (λ c. refl) refl
   made (enters r (into_nominal e)) = untouched 0x30 _ refl (λ m. no_startup Nominal refl m) (λ c. refl) refl
   made (enters r (in_safety n e)) = untouched 0x32 _ refl (λ _. refl) (λ c. rw n) refl
-  made (enters r (into_safety n e)) = by_operation 0x32 channel.command_enabled_off_lem _ refl (λ m. no_startup Safety refl m) (λ c h. rw n) refl
+  made (enters r (into_safety n e)) = by_operation 0x32 channel.turn_command_enabled_off _ refl (λ m. no_startup Safety refl m) (λ c h. rw n) refl
   made (remembers r x) = remembering _ x refl refl
   made restarts =
       record {

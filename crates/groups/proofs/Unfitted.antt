@@ -76,7 +76,7 @@ unfolding entering_of
 entered p before next ch s =
     either p (is_dark next) (by_event p channel.emergency_entered ch s)
     (either p (is_dark before) (by_event p channel.forced_come_on ch s)
-    (either p (from_nominal_to_safety before next) (by_event p (channel.commanded channel.command_enabled_off_lem) ch s) s))
+    (either p (from_nominal_to_safety before next) (by_event p (channel.commanded channel.turn_command_enabled_off) ch s) s))
 
 -- steps 1, 2 and 3
 pub settled : (rail : ℤ) (limits : Limits) (named : ℕ) (words : List ℕ) (p : Profile) (b : Board) → Stands p b → Stands p (tripped_of named (changed_of rail limits (risen_of words b)))
