@@ -13,7 +13,6 @@ use Rattle.modes.specs.declared.Mode.TheVariants.{Startup, Nominal, Safety, Emer
 use Rattle.modes.specs.declared.ModeAge.{ModeAge}
 use Rattle.modes.specs.declared.Limits.{Limits}
 use Rattle.modes.specs.declared.ModeAnswer as change
-use Rattle.channels.specs.Operations.{switch_on}
 use Rattle.channels.specs.declared.Channels.{Channels}
 use Rattle.channels.proofs.Laws as of-channels
 use Rattle.power.specs.Machine as small

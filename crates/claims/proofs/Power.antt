@@ -24,7 +24,6 @@ use Rattle.state.specs.Parts.{mode_of, word_count}
 use Rattle.state.specs.Start.{fresh_of, command_reset_of}
 use Rattle.state.specs.declared.parts.Board.{Board}
 use Rattle.state.specs.declared.parts.Profile.{Profile}
-use Rattle.reading.specs.declared.Line.TheVariants.{Command}
 use Rattle.unit.specs.Machine.{told_of}
 use Rattle.unit.specs.declared.Machine.{Machine}
 use Rattle.groups.specs.Resets.{tells_watchdog_reset, tells_reset, starts_over}
@@ -67,7 +66,7 @@ small_of k m = seen k m.board
 
 -- channel k is force-enabled, and in step with the mode, on a board with that number of words
 pub record InTouch (k number : ℕ) (m : Machine) : Type 0 where
-  pub force_enabled_lem : ForceEnabled k m
+  pub force_enabled : ForceEnabled k m
   pub has_number : word_count m.board ≡ number
   pub in_step : small.InStep (small_of k m)
 
@@ -90,7 +89,7 @@ module _ (k number : ℕ) where
   ticks m (tick i) h a e =
       let happening : happens (word_count m.board) i ≡ true = rw h.has_number e in
       let spared = a happening in
-      tick_seen k i.rail i.named i.words i.sent i.transfer m.board h.force_enabled_lem happening h.in_step spared.no_overcurrent
+      tick_seen k i.rail i.named i.words i.sent i.transfer m.board h.force_enabled happening h.in_step spared.no_overcurrent
       (λ w. spared.no_reset (told_by_watchdog m i w)) (λ q. spared.no_reset (told_by_command m i _ happening q))
   ticks m (line received room) h a e = absurd (false≢true e)
 
@@ -102,7 +101,7 @@ module _ (k number : ℕ) where
   kept : (m : Machine) (call : Call) → InTouch k number m → AtTicks (Spared k) m call → InTouch k number (after_call m call)
   kept m call h a =
       record {
-        force_enabled_lem = subst (λ (p : Profile). ForceEnabledBy p k) (sym (call_profile m call)) h.force_enabled_lem;
+        force_enabled = subst (λ (p : Profile). ForceEnabledBy p k) (sym (call_profile m call)) h.force_enabled;
         has_number = ap (λ (p : Profile). (board_of p.kind).words) (call_profile m call) ∙ h.has_number;
         in_step =
             cases (is_tick number call)
@@ -122,7 +121,7 @@ module _ (k : ℕ) where
   -- a reached machine is in touch where no latch keeps the channel off
   pub in_touch : (m : Machine) → Reached m → ForceEnabled k m → Unlatched k m → Touched k m
   in_touch m r fe u =
-      record { force_enabled_lem = fe; has_number = refl; in_step = standing k m r fe ∙ cases (is_lit (mode_of m.board)) (λ e. rw (u e, e)) (λ e. rw e) }
+      record { force_enabled = fe; has_number = refl; in_step = standing k m r fe ∙ cases (is_lit (mode_of m.board)) (λ e. rw (u e, e)) (λ e. rw e) }
 
   -- and its claim is inherited
   powered_from : (m : Machine) → Touched k m → (calls : List Call) → EachTick (Spared k) m calls → Powered times.linger times.period (channel_of k m calls)

@@ -155,7 +155,7 @@ without_reset =
         (λ e. record { no_change = computed.restart_settings; no_overcurrent = λ k fe. has_none k }, tt),
       );
       k = 0;
-      force_enabled_lem = forced_after (replicate 49 dead);
+      force_enabled = forced_after (replicate 49 dead);
       fails = too_short nearly (dead ∷ tick restart ∷ []) computed.restart_line;
     }
 
@@ -171,7 +171,7 @@ without_overcurrent =
         (λ e. record { no_reset = uneventful (after_call nearly dead) tripping computed.tripping_event computed.tripping_outcome; no_change = computed.tripping_settings }, tt),
       );
       k = 0;
-      force_enabled_lem = forced_after (replicate 49 dead);
+      force_enabled = forced_after (replicate 49 dead);
       fails = too_short nearly (dead ∷ tick tripping ∷ []) computed.tripping_line;
     }
 
@@ -309,7 +309,7 @@ unlatched =
       calls = replicate 60000 (tick fed);
       met = stuck_ticks 60000 latched_off latched_stuck;
       k = 0;
-      force_enabled_lem = forced_after before;
+      force_enabled = forced_after before;
       fails = too_long latched_off latched_stuck;
     }
 
@@ -341,7 +341,7 @@ reached =
       calls = replicate 60000 (tick fed);
       met = stuck_ticks 60000 made_up made_up_stuck;
       k = 0;
-      force_enabled_lem = made_up_forced;
+      force_enabled = made_up_forced;
       fails = too_long made_up made_up_stuck;
     }
 

@@ -42,7 +42,7 @@ use Rattle.unit.specs.Machine.{no_machine, begun_of, told_by, told_of}
 use Rattle.unit.specs.declared.Machine.{Machine}
 use Rattle.unit.specs.declared.Told.{Told}
 use Rattle.groups.specs.Resets.{tells_watchdog_reset, tells_command_reset, tells_reset}
-use Rattle.unit.specs.Runs.{Sample, told, tick, after_call, after, Reached}
+use Rattle.unit.specs.Runs.{Sample, told, after_call, after, Reached}
 use Rattle.claims.specs.Power.{ForceEnabledBy, ForceEnabled, channel_of, is_tick, Resets, Undisturbed, EachTick, NoneLatched}
 use Rattle.claims.specs.PowerReal.{profile, started, dead, ticks, expected, PowerReal}
 use Rattle.claims.proofs.PowerTick.{seen}

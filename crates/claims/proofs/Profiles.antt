@@ -1,6 +1,6 @@
 -- No call alters the profile of the machine. Assumes nothing.
 use mathlib.Core.Path.{◌≡◌, refl, ◌∙◌}
-use mathlib.Core.Bool.{Bool, true}
+use mathlib.Core.Bool.{true}
 use mathlib.Core.List.{List, [], ◌∷◌}
 use Rattle.state.specs.Parts.{word_count}
 use Rattle.unit.specs.declared.Machine.{Machine}

@@ -84,12 +84,12 @@ pub all_caught : AllCaught
 unfolding state_after ticked_with refusing replying_noop staying_in_safety unchanged counting_all_named count_all group_on group_in number bytes_of shown written reply_of room laid_out reply_code short_reply faults_reply channel_words commands.command_table commands.find is_in fewer_than_four header_is carried listed decode_of accepted_with accepted_of refused_of not_this_board_of is_nominal switched_of group_on_of switched_mode_of faults_of run_of reported_of is_startup transferred_of returning first checks_of checks header_differs id_wrong unavailable channel_codes channel_wrong checksum_wrong to_nominal has set_of list_of whole cleared forced_on all_off overcurrent_at command_enabled_off fresh_of loaded_from empty_store told_of tick_of tick_with allowed_count brought_by risen_of changed_of tripped_of watched_in commanded_of older_of step_of dog.risen_of dog.watched_of is_dark from_nominal_to_safety entering_of timer_after resets_after leaves_emergency limits_of safety_low safety_high timeout_of setting_of parameter_of row_of find read_write_rows read_only_rows lies defaults_of default_n column default_of clamp_of at_least at_most low_of high_of
 all_caught =
     record {
-      refuses_all_lem = λ a refusal. caught refl (refused a refusal) (λ e. refusal (let z : 0 ≡ answer_number a = cc in sym z));
-      answers_noop_lem = caught refl refl (λ e. let z : ◌≡◌ {A = ℕ} 0x11 0x03 = cc in omega arith);
-      stays_in_safety_lem = caught refl refl (λ e. let z : ◌≡◌ {A = ℕ} 0 1 = cc in omega arith);
-      changes_nothing_lem = caught refl refl (λ e. omega arith);
-      repeats_the_first_lem = caught refl refl (λ e. let z : ◌≡◌ {A = ℕ} 0x11 0x03 = cc in omega arith);
-      makes_up_counts_lem = caught refl refl (λ e. omega arith);
+      refuses_all = λ a refusal. caught refl (refused a refusal) (λ e. refusal (let z : 0 ≡ answer_number a = cc in sym z));
+      answers_noop = caught refl refl (λ e. let z : ◌≡◌ {A = ℕ} 0x11 0x03 = cc in omega arith);
+      stays_in_safety = caught refl refl (λ e. let z : ◌≡◌ {A = ℕ} 0 1 = cc in omega arith);
+      changes_nothing = caught refl refl (λ e. omega arith);
+      repeats_the_first = caught refl refl (λ e. let z : ◌≡◌ {A = ℕ} 0x11 0x03 = cc in omega arith);
+      makes_up_counts = caught refl refl (λ e. omega arith);
     }
   where
     refused : (a : Answer) → (answer_number a ≡ 0 → ⊥) → answer (last_told (refuses_all a) woken [] (sending 15000 noop)) ≡ some (answer_number a)
@@ -152,34 +152,34 @@ pub all_break : AllBreak
 unfolding awake_reached empty_store byte_2 shown_after state_after reply_code has unchanged
 all_break =
     record {
-      refuses_all_lem = λ a refusal. record {
+      refuses_all = λ a refusal. record {
         machine_keeps = tells_given;
         program_does_not = λ keeps.
-            let seen = all_caught.refuses_all_lem a refusal in
+            let seen = all_caught.refuses_all a refusal in
             let given = exactly_when.only_told awake (sending 15000 noop) 0 (omega arith) seen.machine_shows in
             let told_0 = keeps awake [] (sending 15000 noop) 0 given.0 given.1 given.2 in
             refusal (same_number (answer_number a) 0 (sym seen.program_shows ∙ told_0));
       };
-      answers_noop_lem = record {
+      answers_noop = record {
         machine_keeps = replies_with_its_code;
         program_does_not = λ keeps.
             let code = keeps awake [] (sending 15000 wrong.group_on) (omega arith) told_besides.noop_replied in
-            let z : ◌≡◌ {A = ℕ} 0x03 0x11 = sym (ap byte_2 all_caught.answers_noop_lem.program_shows) ∙ code in
+            let z : ◌≡◌ {A = ℕ} 0x03 0x11 = sym (ap byte_2 all_caught.answers_noop.program_shows) ∙ code in
             omega arith;
       };
-      stays_in_safety_lem = record {
+      stays_in_safety = record {
         machine_keeps = moves_by_the_table;
         program_does_not = λ keeps.
             let moved = keeps lingering [] (quiet 15000) told_besides.lingering_happens told_besides.lingering_no_reset told_besides.lingering_no_command in
-            all_caught.stays_in_safety_lem.differ (sym told_besides.table_leaves ∙ sym (ap (λ (p : ModeAge). p.mode) moved) ∙ told_besides.lingering_stays);
+            all_caught.stays_in_safety.differ (sym told_besides.table_leaves ∙ sym (ap (λ (p : ModeAge). p.mode) moved) ∙ told_besides.lingering_stays);
       };
       stays_in_safety_at_0x30 = record {
         machine_keeps = comes_into_nominal;
         program_does_not = λ keeps.
             let left = keeps awake (quiet 0 ∷ []) (sending 15000 wrong.to_nominal) refl told_besides.nominal_accepted in
-            all_caught.stays_in_safety_lem.differ (sym left ∙ all_caught.stays_in_safety_lem.program_shows);
+            all_caught.stays_in_safety.differ (sym left ∙ all_caught.stays_in_safety.program_shows);
       };
-      changes_nothing_lem = record {
+      changes_nothing = record {
         machine_keeps = switches_the_named;
         program_does_not = λ keeps.
             let wrongly = keeps awake [] (sending 15000 wrong.group_on) told_besides.group_accepted 1 (omega arith) in
@@ -187,17 +187,17 @@ all_break =
             let same : has (wrong.on (last_told wrong.changes_nothing awake [] (sending 15000 wrong.group_on))) 1 ≡ has (wrong.on (last_told document01 awake [] (sending 15000 wrong.group_on))) 1 =
             ap (λ (ch : Chan). ch.on) (wrongly ∙ sym rightly) in
             false≢true
-            (sym (ap (λ (set : ℕ). has set 1) all_caught.changes_nothing_lem.program_shows) ∙ same ∙ ap (λ (set : ℕ). has set 1) all_caught.changes_nothing_lem.machine_shows);
+            (sym (ap (λ (set : ℕ). has set 1) all_caught.changes_nothing.program_shows) ∙ same ∙ ap (λ (set : ℕ). has set 1) all_caught.changes_nothing.machine_shows);
       };
       obeys_the_first = own_code;
-      repeats_the_first_lem = record {
+      repeats_the_first = record {
         machine_keeps = replies_with_its_code;
         program_does_not = λ keeps.
             let code = keeps awake (sending 15000 noop ∷ []) (sending 15000 wrong.group_on) (omega arith) told_besides.second_replied in
-            let z : ◌≡◌ {A = ℕ} 0x03 0x11 = sym (ap byte_2 all_caught.repeats_the_first_lem.program_shows) ∙ code in
+            let z : ◌≡◌ {A = ℕ} 0x03 0x11 = sym (ap byte_2 all_caught.repeats_the_first.program_shows) ∙ code in
             omega arith;
       };
-      makes_up_counts_lem = record {
+      makes_up_counts = record {
         machine_keeps = counts_step_3;
         program_does_not = λ keeps.
             let past = replicate 50 (tick (quiet 15000)) in

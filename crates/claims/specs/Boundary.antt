@@ -36,14 +36,14 @@ pub data Then : Type 0 where
 
 infix 30 leaves_for◌
 infix 20 row◌transfer◌number◌reply◌
-infix 20 row_transfer_number_no_reply
+infix 20 row◌transfer◌number◌no_reply
 infix 20 row◌mode◌at_age◌rail◌then◌
 infix 20 row◌fitted◌forced◌on◌command◌gives◌
 infix 20 row◌timeout◌timer◌tells◌then◌
 pub data Row : Type 0 where
   -- in nominal a transfer is answered with a number of the command table, and the tick makes this reply, or none
   row◌transfer◌number◌reply◌ : ℕ → List ℕ → ℕ → List ℕ → Row
-  row_transfer_number_no_reply : ℕ → List ℕ → ℕ → Row
+  row◌transfer◌number◌no_reply : ℕ → List ℕ → ℕ → Row
   -- a mode, at an age after the rise, under a rail
   row◌mode◌at_age◌rail◌then◌ : ℕ → Mode → ℕ → ℤ → Then → Row
   -- in nominal, with these channels fitted, forced and on, a command leaves these on

@@ -17,7 +17,7 @@ pub record Fails (Start : Machine → Type 0) (Met : Machine → Sample → Type
   pub calls : List Call
   pub met : EachTick Met from calls
   pub k : ℕ
-  pub force_enabled_lem : ForceEnabled k from
+  pub force_enabled : ForceEnabled k from
   pub fails : Powered (limits from).linger (limits from).period (channel_of k from calls) → ⊥
 
 -- a tick is undisturbed but for a reset, or but for an overcurrent

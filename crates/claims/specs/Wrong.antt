@@ -203,18 +203,18 @@ pub record Caught {A : Type 0} (p : Program) (sees : Told → A) (before : List 
 
 pub record AllCaught : Type 0 where
   -- a NOOP is answered 0, and by the first program with its refusal, whichever that is
-  pub refuses_all_lem : (a : Answer) → (answer_number a ≡ 0 → ⊥) → Caught (refuses_all a) answer [] (sending 15000 noop) (some 0) (some (answer_number a))
+  pub refuses_all : (a : Answer) → (answer_number a ≡ 0 → ⊥) → Caught (refuses_all a) answer [] (sending 15000 noop) (some 0) (some (answer_number a))
   -- the reply to 0x10 has the code 0x11, and that of the second program 0x03
-  pub answers_noop_lem : Caught answers_noop reply [] (sending 15000 group_on) (0x11 ∷ 0x07 ∷ 0x11 ∷ 0x01 ∷ 0x80 ∷ []) (0x11 ∷ 0x07 ∷ 0x03 ∷ 0x01 ∷ 0x80 ∷ [])
+  pub answers_noop : Caught answers_noop reply [] (sending 15000 group_on) (0x11 ∷ 0x07 ∷ 0x11 ∷ 0x01 ∷ 0x80 ∷ []) (0x11 ∷ 0x07 ∷ 0x03 ∷ 0x01 ∷ 0x80 ∷ [])
   -- a rail of 0 mV leads into safety, and 0x30 at a good rail out of it
-  pub stays_in_safety_lem : Caught stays_in_safety mode (quiet 0 ∷ []) (sending 15000 to_nominal) Nominal Safety
+  pub stays_in_safety : Caught stays_in_safety mode (quiet 0 ∷ []) (sending 15000 to_nominal) Nominal Safety
   -- 0x10 turns channels 1 to 3 on
-  pub changes_nothing_lem : Caught changes_nothing on [] (sending 15000 group_on) 0b1111 0b0001
+  pub changes_nothing : Caught changes_nothing on [] (sending 15000 group_on) 0b1111 0b0001
   -- a NOOP, and then 0x10, which has a reply of its own
-  pub repeats_the_first_lem : Caught repeats_the_first reply (sending 15000 noop ∷ []) (sending 15000 group_on) (0x11 ∷ 0x07 ∷ 0x11 ∷ 0x01 ∷ 0x80 ∷ []) (0x11 ∷ 0x07 ∷ 0x03 ∷ 0x01 ∷ 0x80 ∷ [])
+  pub repeats_the_first : Caught repeats_the_first reply (sending 15000 noop ∷ []) (sending 15000 group_on) (0x11 ∷ 0x07 ∷ 0x11 ∷ 0x01 ∷ 0x80 ∷ []) (0x11 ∷ 0x07 ∷ 0x03 ∷ 0x01 ∷ 0x80 ∷ [])
   -- overcurrent is reported of channel 1, which is off, and 0x42 asks for the counts: that of channel 1 stands at byte
   -- 14 + 2
-  pub makes_up_counts_lem : Caught makes_up_counts (reply_byte 16) [] (reporting 0b0010 faults) 0 1
+  pub makes_up_counts : Caught makes_up_counts (reply_byte 16) [] (reporting 0b0010 faults) 0 1
 
 -- ---- what each of them breaks
 -- a sentence on one tick: of the machine before it, of what the tick brings, and of what is told
@@ -276,12 +276,12 @@ pub record Breaks (Claim : Program → Type 0) (p : Program) : Type 0 where
   pub program_does_not : Claim p → ⊥
 
 pub record AllBreak : Type 0 where
-  pub refuses_all_lem : (a : Answer) → (answer_number a ≡ 0 → ⊥) → Breaks (AtEachTick TellsWhatIsGiven) (refuses_all a)
-  pub answers_noop_lem : Breaks (AtEachTick RepliesWithItsCode) answers_noop
-  pub stays_in_safety_lem : Breaks (AtEachTick MovesByTheTable) stays_in_safety
+  pub refuses_all : (a : Answer) → (answer_number a ≡ 0 → ⊥) → Breaks (AtEachTick TellsWhatIsGiven) (refuses_all a)
+  pub answers_noop : Breaks (AtEachTick RepliesWithItsCode) answers_noop
   pub stays_in_safety_at_0x30 : Breaks (AtEachTick ComesIntoNominal) stays_in_safety
-  pub changes_nothing_lem : Breaks (AtEachTick SwitchesTheNamed) changes_nothing
+  pub stays_in_safety : Breaks (AtEachTick MovesByTheTable) stays_in_safety
+  pub changes_nothing : Breaks (AtEachTick SwitchesTheNamed) changes_nothing
   -- the fifth keeps the sentence at its first tick, and not at each
   pub obeys_the_first : AtTheFirstTick RepliesWithItsCode repeats_the_first
-  pub repeats_the_first_lem : Breaks (AtEachTick RepliesWithItsCode) repeats_the_first
-  pub makes_up_counts_lem : Breaks CountsStep3 makes_up_counts
+  pub repeats_the_first : Breaks (AtEachTick RepliesWithItsCode) repeats_the_first
+  pub makes_up_counts : Breaks CountsStep3 makes_up_counts
