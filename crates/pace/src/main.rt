@@ -4,42 +4,52 @@
 
 mod run;
 
-ghost use Rattle.std.specs.Prelude.{◌≤◌, IfOk, length};
+ghost use Rattle.std.specs.Prelude.{◌≤◌, length};
 
 use pattern::Asked;
-use std::io;
 use std::io::Read;
+
+// Writes a text; what cannot be written is let go.
+fn put(rt: &impl Print, text: &[u8]) {
+    match rt.write_all(text) {
+        Ok(()) => {}
+        Err(_) => {}
+    }
+}
 
 // Prints a digest.
 // argued: an instrument; its digest is compared with the second program's
-fn print(rt: &impl Print, digest: u32) -> io::Result<()> {
+fn print(rt: &impl Print, digest: u32) {
     let text = hexadecimal::write_word(digest);
-    rt.write_all(b"digest ")?;
-    rt.write_all(&text)?;
-    rt.write_all(b"\n")
+    put(rt, b"digest ");
+    put(rt, &text);
+    put(rt, b"\n");
 }
 
-// Reads until the room is full or the input ends, and answers how many bytes came.
-fn read_full(input: &mut impl Read, room: &mut [u8]) -> io::Result<usize>
-    ensures { IfOk result (λ n. n ≤ length room.new) }
+// Reads until the room is full or the input ends, and answers how many bytes came; what cannot be read is the end.
+fn read_full(input: &mut impl Read, room: &mut [u8]) -> usize
+    ensures { result ≤ length room.new }
 {
     let mut filled = 0;
     while filled < room.len() {
-        let n = input.read(&mut room[filled..])?;
+        let n = match input.read(&mut room[filled..]) {
+            Ok(n) => n,
+            Err(_) => 0,
+        };
         if n == 0 {
             break;
         }
         filled += n;
     }
-    Ok(filled)
+    filled
 }
 
 // Reads one byte more than the longest line has, runs what it asks for and prints the digest, or `bad`.
-fn main(rt: HostRuntime) -> io::Result<()> {
+fn main(rt: HostRuntime) {
     let mut input = [0u8; 13];
-    let n = read_full(&mut rt.stdin(), &mut input)?;
+    let n = read_full(&mut rt.stdin(), &mut input);
     match pattern::asked_by(wire::first(&input, n)) {
         Asked::Run(kind, count) => print(&rt, run::digest_of(kind, count)),
-        Asked::Bad => rt.write_all(b"bad\n"),
+        Asked::Bad => put(&rt, b"bad\n"),
     }
 }

@@ -2,7 +2,6 @@
 #![tactic(auto)]
 
 use handling::Bench;
-use std::io;
 use std::io::Read;
 
 // The bench, how much of a line was taken from the input, and whether the line is too long and more input is to come.
@@ -14,20 +13,28 @@ struct Turn {
     more: bool,
 }
 
+// Writes a text; what cannot be written is let go.
+fn put(rt: &impl Print, text: &[u8]) {
+    match rt.write_all(text) {
+        Ok(()) => {}
+        Err(_) => {}
+    }
+}
+
 // Runs one line and writes what it prints.
 // argued: an instrument; what it prints is compared line by line with the second program
-fn run_one(rt: &impl Print, bench: Bench, line: &[u8]) -> io::Result<Bench> {
+fn run_one(rt: &impl Print, bench: Bench, line: &[u8]) -> Bench {
     let mut held = [0u8; 4096];
     let mut out = [0u8; 4096];
     let asked = lines::asks(line, &mut held);
     let ran = trial::run(bench, asked, &held, &mut out);
-    rt.write_all(script::printing::shown(&out, ran.printed))?;
-    Ok(ran.bench)
+    put(rt, script::printing::shown(&out, ran.printed));
+    ran.bench
 }
 
 // Runs the lines that a chunk of input ends, and keeps the piece behind the last of them.
 // argued: an instrument; what it prints is compared line by line with the second program
-fn run_chunk(rt: &impl Print, chunk: &[u8], line: &mut [u8; 4096], turn: Turn) -> io::Result<Turn> {
+fn run_chunk(rt: &impl Print, chunk: &[u8], line: &mut [u8; 4096], turn: Turn) -> Turn {
     let mut bench = turn.bench;
     let mut filled = turn.filled;
     let mut over = turn.over;
@@ -35,7 +42,7 @@ fn run_chunk(rt: &impl Print, chunk: &[u8], line: &mut [u8; 4096], turn: Turn) -
     while i < chunk.len() {
         let b = chunk[i];
         if b == 10 {
-            bench = run_one(rt, bench, script::reading::line_of(line, filled, over))?;
+            bench = run_one(rt, bench, script::reading::line_of(line, filled, over));
             filled = 0;
             over = false;
         } else if filled < 4096 {
@@ -46,42 +53,39 @@ fn run_chunk(rt: &impl Print, chunk: &[u8], line: &mut [u8; 4096], turn: Turn) -
         }
         i += 1;
     }
-    Ok(Turn {
+    Turn {
         bench,
         filled,
         over,
         more: true,
-    })
+    }
 }
 
-// Reads once, and runs the lines that came; with nothing more to read there is no more to run.
+// Reads once, and runs the lines that came; with nothing more to read, or what cannot be read, there is no more to run.
 // argued: an instrument; what it prints is compared line by line with the second program
-fn run_some(
-    rt: &impl Print,
-    input: &mut impl Read,
-    line: &mut [u8; 4096],
-    mut turn: Turn,
-) -> io::Result<Turn> {
+fn run_some(rt: &impl Print, input: &mut impl Read, line: &mut [u8; 4096], mut turn: Turn) -> Turn {
     let mut chunk = [0u8; 65536];
-    let n = input.read(&mut chunk)?;
+    let n = match input.read(&mut chunk) {
+        Ok(n) => n,
+        Err(_) => 0,
+    };
     if n == 0 {
         turn.more = false;
-        return Ok(turn);
+        return turn;
     }
     run_chunk(rt, &chunk[..n], line, turn)
 }
 
 // A last piece without a line end is bad.
-fn finish(rt: &impl Print, filled: usize) -> io::Result<()> {
+fn finish(rt: &impl Print, filled: usize) {
     if filled > 0 {
-        rt.write_all(b"bad\n")?;
+        put(rt, b"bad\n");
     }
-    Ok(())
 }
 
 // Runs the script to its end. A proved loop has to end, and nothing says that an input does: the count of turns is one
 // that no run uses up.
-fn main(rt: HostRuntime) -> io::Result<()> {
+fn main(rt: HostRuntime) {
     let mut input = rt.stdin();
     let mut line = [0u8; 4096];
     let mut turn = Turn {
@@ -92,8 +96,8 @@ fn main(rt: HostRuntime) -> io::Result<()> {
     };
     let mut turns = u64::MAX;
     while turns > 0 && turn.more {
-        turn = run_some(&rt, &mut input, &mut line, turn)?;
+        turn = run_some(&rt, &mut input, &mut line, turn);
         turns -= 1;
     }
-    finish(&rt, turn.filled)
+    finish(&rt, turn.filled);
 }
