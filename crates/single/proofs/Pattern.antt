@@ -2,15 +2,15 @@
 use mathlib.Core.Path.{sym, ◌∙◌}
 use Rattle.single.specs.Single.{Single}
 use Rattle.pattern.proofs.taken.Reads as taken
-use Rattle.pattern.proofs.bytes_taken.Reads as bytes-taken
-use Rattle.pattern.proofs.words_taken.Reads as words-taken
+use Rattle.pattern.proofs.bytes_taken.Reads as bytes_taken
+use Rattle.pattern.proofs.words_taken.Reads as words_taken
 use Rattle.pattern.proofs.summed.Reads as summed
 use Rattle.pattern.proofs.asked_by.Reads as asked_by
 use Rattle.pattern.proofs.turns.Reads as turns
-use Rattle.pattern.proofs.is_waking.Reads as is-waking
+use Rattle.pattern.proofs.is_waking.Reads as is_waking
 use Rattle.pattern.proofs.place.Reads as place
-use Rattle.pattern.proofs.brought_by.Reads as brought-by
-use Rattle.pattern.proofs.first_words.Reads as first-words
+use Rattle.pattern.proofs.brought_by.Reads as brought_by
+use Rattle.pattern.proofs.first_words.Reads as first_words
 use Rattle.pattern.proofs.change.Reads as change
 use Rattle.pattern.proofs.counted.Reads as counted
 use Rattle.pattern.proofs.lent.Reads as lent
@@ -18,10 +18,10 @@ use Rattle.pattern.proofs.lent.Reads as lent
 pub single_taken : Single taken.Post (λ κ r s. r)
 single_taken κ a r r' s s' p q = p ∙ sym q
 
-pub single_bytes_taken : Single bytes-taken.Post (λ κ r s. r)
+pub single_bytes_taken : Single bytes_taken.Post (λ κ r s. r)
 single_bytes_taken κ a r r' s s' p q = p ∙ sym q
 
-pub single_words_taken : Single words-taken.Post (λ κ r s. r)
+pub single_words_taken : Single words_taken.Post (λ κ r s. r)
 single_words_taken κ a r r' s s' p q = p ∙ sym q
 
 pub single_summed : Single summed.Post (λ κ r s. r)
@@ -33,16 +33,16 @@ single_asked_by κ a r r' s s' p q = p ∙ sym q
 pub single_turns : Single turns.Post (λ κ r s. r)
 single_turns κ a r r' s s' p q = p ∙ sym q
 
-pub single_is_waking : Single is-waking.Post (λ κ r s. r)
+pub single_is_waking : Single is_waking.Post (λ κ r s. r)
 single_is_waking κ a r r' s s' p q = p ∙ sym q
 
 pub single_place : Single place.Post (λ κ r s. r)
 single_place κ a r r' s s' p q = p ∙ sym q
 
-pub single_brought_by : Single brought-by.Post (λ κ r s. r)
+pub single_brought_by : Single brought_by.Post (λ κ r s. r)
 single_brought_by κ a r r' s s' p q = p ∙ sym q
 
-pub single_first_words : Single first-words.Post (λ κ r s. r)
+pub single_first_words : Single first_words.Post (λ κ r s. r)
 single_first_words κ a r r' s s' p q = p ∙ sym q
 
 pub held_change : Single change.Post (λ κ r s. s.0.now)

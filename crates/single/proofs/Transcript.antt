@@ -2,20 +2,20 @@
 use mathlib.Core.Path.{sym, ◌∙◌}
 use Rattle.single.specs.Single.{Single}
 use Rattle.single.proofs.Pages.{held_same, place_same}
-use Rattle.transcript.proofs.ticks_line.Reads as ticks-line
-use Rattle.transcript.proofs.tick_line.Reads as tick-line
+use Rattle.transcript.proofs.ticks_line.Reads as ticks_line
+use Rattle.transcript.proofs.tick_line.Reads as tick_line
 use Rattle.transcript.proofs.refusal.Reads as refusal
 
-pub single_ticks_line : Single ticks-line.Post (λ κ r s. r)
+pub single_ticks_line : Single ticks_line.Post (λ κ r s. r)
 single_ticks_line κ a r r' s s' p q = place_same (p ∙ sym q)
 
-pub held_ticks_line : Single ticks-line.Post (λ κ r s. s.0.now)
+pub held_ticks_line : Single ticks_line.Post (λ κ r s. s.0.now)
 held_ticks_line κ a r r' s s' p q = held_same (p ∙ sym q)
 
-pub single_tick_line : Single tick-line.Post (λ κ r s. r)
+pub single_tick_line : Single tick_line.Post (λ κ r s. r)
 single_tick_line κ a r r' s s' p q = place_same (p ∙ sym q)
 
-pub held_tick_line : Single tick-line.Post (λ κ r s. s.0.now)
+pub held_tick_line : Single tick_line.Post (λ κ r s. s.0.now)
 held_tick_line κ a r r' s s' p q = held_same (p ∙ sym q)
 
 pub single_refusal : Single refusal.Post (λ κ r s. r)

@@ -1,15 +1,15 @@
 -- Numbers, floats and replies. Assumes nothing.
 use mathlib.Core.Path.{sym, ◌∙◌}
 use Rattle.single.specs.Single.{Single}
-use Rattle.wire.proofs.float_of32.Reads as float-of32
-use Rattle.wire.proofs.float_of64.Reads as float-of64
-use Rattle.wire.proofs.float_bits32.Reads as float-bits32
-use Rattle.wire.proofs.float_bits64.Reads as float-bits64
+use Rattle.wire.proofs.float_of32.Reads as float_of32
+use Rattle.wire.proofs.float_of64.Reads as float_of64
+use Rattle.wire.proofs.float_bits32.Reads as float_bits32
+use Rattle.wire.proofs.float_bits64.Reads as float_bits64
 use Rattle.wire.proofs.byte.Reads as byte
 use Rattle.wire.proofs.rest.Reads as rest
 use Rattle.wire.proofs.first.Reads as first
-use Rattle.wire.proofs.first_words.Reads as first-words
-use Rattle.wire.proofs.rest_words.Reads as rest-words
+use Rattle.wire.proofs.first_words.Reads as first_words
+use Rattle.wire.proofs.rest_words.Reads as rest_words
 use Rattle.wire.proofs.le16.Reads as le16
 use Rattle.wire.proofs.le32.Reads as le32
 use Rattle.wire.proofs.le64.Reads as le64
@@ -24,22 +24,22 @@ use Rattle.wire.proofs.bits8.Reads as bits8
 use Rattle.wire.proofs.bits16.Reads as bits16
 use Rattle.wire.proofs.bits32.Reads as bits32
 use Rattle.wire.proofs.bits64.Reads as bits64
-use Rattle.wire.proofs.reply.Reply.none.Reads as reply-none
-use Rattle.wire.proofs.reply.Reply.short.Reads as reply-short
-use Rattle.wire.proofs.reply.Reply.append_bytes.Reads as reply-append-bytes
-use Rattle.wire.proofs.reply.Reply.append_words.Reads as reply-append-words
-use Rattle.wire.proofs.reply.Reply.fill.Reads as reply-fill
+use Rattle.wire.proofs.reply.Reply.none.Reads as reply_none
+use Rattle.wire.proofs.reply.Reply.short.Reads as reply_short
+use Rattle.wire.proofs.reply.Reply.append_bytes.Reads as reply_append_bytes
+use Rattle.wire.proofs.reply.Reply.append_words.Reads as reply_append_words
+use Rattle.wire.proofs.reply.Reply.fill.Reads as reply_fill
 
-pub single_float_of32 : Single float-of32.Post (λ κ r s. r)
+pub single_float_of32 : Single float_of32.Post (λ κ r s. r)
 single_float_of32 κ a r r' s s' p q = p ∙ sym q
 
-pub single_float_of64 : Single float-of64.Post (λ κ r s. r)
+pub single_float_of64 : Single float_of64.Post (λ κ r s. r)
 single_float_of64 κ a r r' s s' p q = p ∙ sym q
 
-pub single_float_bits32 : Single float-bits32.Post (λ κ r s. r)
+pub single_float_bits32 : Single float_bits32.Post (λ κ r s. r)
 single_float_bits32 κ a r r' s s' p q = p ∙ sym q
 
-pub single_float_bits64 : Single float-bits64.Post (λ κ r s. r)
+pub single_float_bits64 : Single float_bits64.Post (λ κ r s. r)
 single_float_bits64 κ a r r' s s' p q = p ∙ sym q
 
 pub single_byte : Single byte.Post (λ κ r s. r)
@@ -51,10 +51,10 @@ single_rest κ a r r' s s' p q = p ∙ sym q
 pub single_first : Single first.Post (λ κ r s. r.now)
 single_first κ a r r' s s' p q = p ∙ sym q
 
-pub single_first_words : Single first-words.Post (λ κ r s. r.now)
+pub single_first_words : Single first_words.Post (λ κ r s. r.now)
 single_first_words κ a r r' s s' p q = p ∙ sym q
 
-pub single_rest_words : Single rest-words.Post (λ κ r s. r.now)
+pub single_rest_words : Single rest_words.Post (λ κ r s. r.now)
 single_rest_words κ a r r' s s' p q = p ∙ sym q
 
 pub single_le16 : Single le16.Post (λ κ r s. r)
@@ -99,17 +99,17 @@ single_bits32 κ a r r' s s' p q = p ∙ sym q
 pub single_bits64 : Single bits64.Post (λ κ r s. r)
 single_bits64 κ a r r' s s' p q = p ∙ sym q
 
-pub single_reply_none : Single reply-none.Post (λ κ r s. r)
+pub single_reply_none : Single reply_none.Post (λ κ r s. r)
 single_reply_none κ a r r' s s' p q = p ∙ sym q
 
-pub single_reply_short : Single reply-short.Post (λ κ r s. r)
+pub single_reply_short : Single reply_short.Post (λ κ r s. r)
 single_reply_short κ a r r' s s' p q = p ∙ sym q
 
-pub single_reply_append_bytes : Single reply-append-bytes.Post (λ κ r s. r)
+pub single_reply_append_bytes : Single reply_append_bytes.Post (λ κ r s. r)
 single_reply_append_bytes κ a r r' s s' p q = p ∙ sym q
 
-pub single_reply_append_words : Single reply-append-words.Post (λ κ r s. r)
+pub single_reply_append_words : Single reply_append_words.Post (λ κ r s. r)
 single_reply_append_words κ a r r' s s' p q = p ∙ sym q
 
-pub held_reply_fill : Single reply-fill.Post (λ κ r s. s.1.0.now)
+pub held_reply_fill : Single reply_fill.Post (λ κ r s. s.1.0.now)
 held_reply_fill κ a r r' s s' p q = p ∙ sym q
