@@ -4,7 +4,8 @@
 
 mod run;
 
-ghost use Rattle.std.specs.Prelude.{◌≤◌, length};
+ghost use Rattle.std.specs.Prelude.{◌≤◌, length, take};
+ghost use Rattle.std.specs.Io.KnownBytes.{Consumes};
 
 use pattern::Asked;
 use std::io::Read;
@@ -26,9 +27,11 @@ fn print(rt: &impl Print, digest: u32) {
     put(rt, b"\n");
 }
 
-// Reads until the room is full or the input ends, and answers how many bytes came; what cannot be read is the end.
-fn read_full(input: &mut impl Read, room: &mut [u8]) -> usize
-    ensures { result ≤ length room.new }
+// Reads until the room is full or the input ends, and answers how many bytes came, which are the input's next ones; what
+// cannot be read is the end.
+fn read_full<R: Read>(input: &mut R, room: &mut [u8]) -> usize
+    ensures within { result ≤ length room.new }
+    ensures came { Consumes (R.remaining input.old) (R.remaining input.new) (take result room.new) }
 {
     let mut filled = 0;
     while filled < room.len() {
