@@ -4,12 +4,12 @@ use mathlib.Core.Path.{◌≡◌, refl, ap, ◌∙◌}
 use mathlib.Core.Bool.{Bool, true, false}
 use mathlib.Core.List.{List}
 use mathlib.Core.Option.{some}
+use Rattle.std.specs.Prelude.{Ok, Err}
 use Rattle.kinds.specs.declared.Kind.{Kind}
 use Rattle.modes.specs.declared.Mode.{Mode}
 use Rattle.command.specs.Answers.{refusal_number, decoded_number}
-use Rattle.command.specs.Decode.{decode_of}
+use Rattle.command.specs.Decode.{Decoded, decode_of}
 use Rattle.command.specs.declared.Refusal.{Refusal}
-use Rattle.command.specs.declared.Decoded.{Decoded}
 use Rattle.command.proofs.Laws.{first_check}
 use Rattle.asking.specs.Asked.{refused_by, asked_by, asked_number, asked_of, number_asked}
 use Rattle.asking.specs.Checks.{is_startup}
@@ -25,8 +25,8 @@ refused_number Refusal.WrongParameter = refl
 refused_number Refusal.NotANumber = refl
 
 asked_number_lem : (d : Decoded) → asked_number (asked_by d) ≡ some (decoded_number d)
-asked_number_lem (Decoded.Run c) = refl
-asked_number_lem (Decoded.Refused r) = refused_number r
+asked_number_lem (Ok c) = refl
+asked_number_lem (Err r) = refused_number r
 
 pub numbered : (kind : Kind) (bid : ℕ) (mode : Mode) (sent : Bool) (s : List ℕ) → asked_number (asked_of kind bid mode sent s) ≡ number_asked kind bid mode sent s
 unfolding asked_of number_asked

@@ -1,12 +1,11 @@
 -- What a transfer asks of a board, by the decoder's checks: nothing, with what is told instead; a refusal; or a command
 -- to run, which its own checks may still refuse. Assumes nothing: these are definitions.
-use Rattle.std.specs.Prelude.{ℕ}
+use Rattle.std.specs.Prelude.{ℕ, Ok, Err}
 use mathlib.Core.{Bool.Bool, Bool.cond, Bool.not, List.List, Option.Option, Option.none, Option.some}
 use Rattle.kinds.specs.declared.Kind.{Kind}
 use Rattle.modes.specs.declared.Mode.{Mode}
-use Rattle.command.specs.{Decode.decode_of, Checks.first, Checks.mode_alone, Checks.checks}
+use Rattle.command.specs.{Decode.Decoded, Decode.decode_of, Checks.first, Checks.mode_alone, Checks.checks}
 use Rattle.command.specs.declared.Refusal as refusal
-use Rattle.command.specs.declared.Decoded as decoded
 use Rattle.answers.specs.{Answers.answer_number, Answers.told_number, declared.Answer.Answer}
 use Rattle.answers.specs.declared.Outcome.TheVariants.{NoTransfer, Answered}
 use Rattle.asking.specs.{Checks.is_startup, declared.Asked.Asked}
@@ -23,9 +22,9 @@ refused_by refusal.Refusal.WrongKey = Refusal Answer.Wrong  -- 7
 refused_by refusal.Refusal.WrongParameter = Refusal Answer.Wrong  -- 7
 refused_by refusal.Refusal.NotANumber = Refusal Answer.Wrong  -- 7
 
-abbrev pub asked_by : decoded.Decoded → Asked
-asked_by (decoded.Decoded.Run c) = Run c
-asked_by (decoded.Decoded.Refused r) = refused_by r
+abbrev pub asked_by : Decoded → Asked
+asked_by (Ok c) = Run c
+asked_by (Err r) = refused_by r
 
 -- the number so far: that of the decoder's answer, and none where there is no transfer
 abbrev pub asked_number : Asked → Option ℕ

@@ -7,7 +7,7 @@ ghost use Rattle.asking.specs.Checks.{is_startup};
 ghost use Rattle.asking.specs.Asked.{refused_by, asked_number, asked_of, number_asked};
 
 use answers::{Answer, Outcome};
-use command::{Command, Decoded, Refusal};
+use command::{Command, Refusal};
 use kinds::Kind;
 use modes::Mode;
 
@@ -60,7 +60,7 @@ pub fn asked_of(kind: Kind, bid: u8, mode: Mode, sent: bool, transfer: &[u8]) ->
     }
     let in_startup = is_startup(mode);
     match command::decode(kind, bid, in_startup, transfer) {
-        Decoded::Run(c) => Asked::Run(c),
-        Decoded::Refused(r) => refused_by(r),
+        Ok(c) => Asked::Run(c),
+        Err(r) => refused_by(r),
     }
 }

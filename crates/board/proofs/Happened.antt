@@ -10,6 +10,7 @@ use mathlib.Core.Option.{some}
 use native.Mathlib.Omega.{arith}
 use lib.IntN.{ℤ}
 use lib.ListN.{length}
+use Rattle.std.specs.Prelude.{Ok, Err}
 use Rattle.laws.proofs.Cases.{cases}
 use Rattle.modes.specs.Commands.{to_safety, to_nominal}
 use Rattle.modes.specs.Table.{entered}
@@ -20,12 +21,10 @@ use Rattle.watchdog.specs.Watchdog as dog
 use Rattle.watchdog.specs.declared.Event.{Event}
 use Rattle.watchdog.specs.declared.Event.TheVariants.{NoEvent, PeripheralReset, WatchdogReset}
 use Rattle.channels.specs.declared.Channels.{Channels}
-use Rattle.command.specs.Decode.{code_of}
+use Rattle.command.specs.Decode.{Decoded, code_of}
 use Rattle.command.specs.declared.Command.{Command}
 use Rattle.command.specs.declared.Layout.{Layout}
 use Rattle.command.specs.declared.Refusal.{Refusal}
-use Rattle.command.specs.declared.Decoded.{Decoded}
-use Rattle.command.specs.declared.Decoded.TheVariants.{Run, Refused}
 use Rattle.memory.specs.Limits.{timeout_of, limits_of}
 use Rattle.memory.specs.Memory.{saved_of}
 use Rattle.wire.specs.declared.reply.Reply.{Reply}
@@ -124,8 +123,8 @@ module _ (r : Reply) where
   transferred rail limits s b = rw (stepwise rail limits s b, stepwise rail limits s (with_reply r b)) (decoded (read_by b s))
     where
       decoded : (d : Decoded) → Answers b (decoded_of rail limits (code_of s) d b) (decoded_of rail limits (code_of s) d (with_reply r b))
-      decoded (Run c) = run rail limits (code_of s) c b
-      decoded (Refused refusal) = turned_down_lem (code_of s) refusal b
+      decoded (Ok c) = run rail limits (code_of s) c b
+      decoded (Err refusal) = turned_down_lem (code_of s) refusal b
 
 -- ---- what holds of no transfer and of each answer holds of what the tick tells
 module _ (P : Outcome → Type 0) (quiet : P NoTransfer) (answers : (answer : Answer) → P (Answered answer)) where

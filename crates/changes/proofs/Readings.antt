@@ -9,6 +9,7 @@ use lib.Dec.{eqb, ltb}
 use lib.IntN.{ℤ}
 use lib.ListN.{length}
 use borrow.Author.Tests.{eqb-true}
+use Rattle.std.specs.Prelude.{Err}
 use Rattle.laws.proofs.Cases.{cases}
 use Rattle.kinds.specs.Kinds.{board_of, is_in}
 use Rattle.wire.specs.Replies.{reply_of}
@@ -17,9 +18,7 @@ use Rattle.settings.specs.declared.Parameter.{Parameter}
 use Rattle.settings.specs.declared.Parameter.TheVariants.{ReadWrite, ReadOnly, Unknown}
 use Rattle.modes.specs.declared.Limits.{Limits}
 use Rattle.command.specs.Table.{command_table, find}
-use Rattle.command.specs.Decode.{fewer_than_four, header_is, code_of, id_of, get_by, getting, carried, header_of, listed, decode_of}
-use Rattle.command.specs.declared.Decoded.{Decoded}
-use Rattle.command.specs.declared.Decoded.TheVariants.{Refused}
+use Rattle.command.specs.Decode.{Decoded, fewer_than_four, header_is, code_of, id_of, get_by, getting, carried, header_of, listed, decode_of}
 use Rattle.command.specs.declared.Refusal.{Refusal}
 use Rattle.command.specs.declared.Refusal.TheVariants.{FewerThanFourBytes, InStartup, NotThisBoard, CodeNotListed, TooShort, WrongKey, WrongParameter, NotANumber}
 use Rattle.command.proofs.Laws.{none, ◌and◌, at_code, table_codes, has_a_command}
@@ -138,7 +137,7 @@ module _ (rail : ℤ) (limits : Limits) (s : List ℕ) (b : Board) where
 
   -- so an accepted command is what stands behind a check
   behind : (Q : Commanded → Type 0) (k : ℕ) (t : Bool) (r : Refusal) (d : Decoded) → (Accepted (decoded_of rail limits k d b) → Q (decoded_of rail limits k d b))
-      → Accepted (decoded_of rail limits k (cond t (Refused r) d) b) → Q (decoded_of rail limits k (cond t (Refused r) d) b)
+      → Accepted (decoded_of rail limits k (cond t (Err r) d) b) → Q (decoded_of rail limits k (cond t (Err r) d) b)
   unfolding decoded_of
   behind Q k true r d q a = both (turned_down_lem k r) a
   behind Q k false r d q a = q a

@@ -5,6 +5,7 @@ use mathlib.Core.Path.{◌≡◌, refl}
 use mathlib.Core.Bool.{Bool, true, false, cond, false≢true}
 use mathlib.Core.List.{List}
 use lib.IntN.{ℤ}
+use Rattle.std.specs.Prelude.{Ok, Err}
 use Rattle.laws.proofs.Cases.{cases}
 use Rattle.wire.specs.declared.reply.Reply.{Reply}
 use Rattle.modes.specs.Commands.{to_safety, to_nominal}
@@ -16,12 +17,10 @@ use Rattle.modes.specs.declared.ModeAnswer as change
 use Rattle.channels.specs.declared.Channels.{Channels}
 use Rattle.channels.proofs.Laws as of-channels
 use Rattle.power.specs.Machine as small
-use Rattle.command.specs.Decode.{fewer_than_four, code_of, decode_of}
+use Rattle.command.specs.Decode.{Decoded, fewer_than_four, code_of, decode_of}
 use Rattle.command.specs.declared.Command.{Command}
 use Rattle.command.specs.declared.Layout.{Layout}
 use Rattle.command.specs.declared.Refusal.{Refusal}
-use Rattle.command.specs.declared.Decoded.{Decoded}
-use Rattle.command.specs.declared.Decoded.TheVariants.{Run, Refused}
 use Rattle.memory.specs.Memory.{saved_of}
 use Rattle.memory.specs.declared.Memory.{Memory}
 use Rattle.state.specs.Parts.{mode_of, with_memory, with_measured, with_channels}
@@ -61,22 +60,22 @@ obeying o b = of-channels.obeyed b.profile.fitted b.profile.forced o b.channels
 
 -- what a decoded transfer is to the small machine
 abbrev pub asked : Decoded → small.Command
-asked (Run Command.SwitchToNominal) = small.switch_to_nominal
-asked (Run Command.SwitchToSafety) = small.switch_to_safety
-asked (Run (Command.GroupOn g)) = small.switch_on
-asked (Run (Command.GroupOff g)) = small.switch_on
-asked (Run (Command.GroupState g)) = small.switch_on
-asked (Run (Command.ChannelOn one)) = small.switch_on
-asked (Run (Command.ChannelOff one)) = small.switch_on
-asked (Run Command.CancelOperation) = small.other
-asked (Run (Command.Report layout)) = small.other
-asked (Run (Command.SetParameter id v)) = small.other
-asked (Run (Command.ResetParameter id)) = small.other
-asked (Run Command.ResetConfiguration) = small.other
-asked (Run Command.LoadConfiguration) = small.other
-asked (Run (Command.SaveConfiguration given)) = small.other
-asked (Run Command.SystemReset) = small.other
-asked (Refused r) = small.other
+asked (Ok Command.SwitchToNominal) = small.switch_to_nominal
+asked (Ok Command.SwitchToSafety) = small.switch_to_safety
+asked (Ok (Command.GroupOn g)) = small.switch_on
+asked (Ok (Command.GroupOff g)) = small.switch_on
+asked (Ok (Command.GroupState g)) = small.switch_on
+asked (Ok (Command.ChannelOn one)) = small.switch_on
+asked (Ok (Command.ChannelOff one)) = small.switch_on
+asked (Ok Command.CancelOperation) = small.other
+asked (Ok (Command.Report layout)) = small.other
+asked (Ok (Command.SetParameter id v)) = small.other
+asked (Ok (Command.ResetParameter id)) = small.other
+asked (Ok Command.ResetConfiguration) = small.other
+asked (Ok Command.LoadConfiguration) = small.other
+asked (Ok (Command.SaveConfiguration given)) = small.other
+asked (Ok Command.SystemReset) = small.other
+asked (Err r) = small.other
 
 -- All that the step can do with a transfer that is decoded to d and is `ask` to the small machine: in startup nothing;
 -- nothing, too, where the command is refused or has to do with neither; the channels switched, in nominal; the
@@ -89,7 +88,7 @@ pub data Does (rail : ℤ) (limits : Limits) (d : Decoded) (ask : small.Command)
   cancels : ask ≡ small.other → Becomes b.phase (obeying of-channels.turn_command_enabled_off b) c.board → Does rail limits d ask b c
   to_safety_lem : ask ≡ small.switch_to_safety → Changes (to_safety b.phase) b c.board → Does rail limits d ask b c
   to_nominal_lem : ask ≡ small.switch_to_nominal → Changes (to_nominal b.phase rail limits) b c.board → Does rail limits d ask b c
-  restarts : d ≡ Run Command.SystemReset → c.outcome ≡ Answered Accepted → c.board ≡ command_reset_of b → Does rail limits d ask b c
+  restarts : d ≡ Ok Command.SystemReset → c.outcome ≡ Answered Accepted → c.board ≡ command_reset_of b → Does rail limits d ask b c
 
 -- ---- each command
 nominal_is : (m : Mode) → is_nominal m ≡ true → m ≡ Nominal
@@ -165,7 +164,7 @@ module _ (rail : ℤ) (limits : Limits) (b : Board) where
   reported code Layout.EngineeringBatteryHousekeeping = measured _ _
 
   -- every command of the list
-  run : (code : ℕ) (c : Command) → DoesIt (Run c) (run_of rail limits code c b)
+  run : (code : ℕ) (c : Command) → DoesIt (Ok c) (run_of rail limits code c b)
   unfolding run_of group_on_of group_off_of group_state_of channel_on_of channel_off_of cancelled_of faults_of housekeeping_of engineering_housekeeping_of abf_of battery_housekeeping_of engineering_battery_housekeeping_of parameter_answered remembered_of restarted_of accepted_of
   run code (Command.GroupOn g) = switched _ refl code _ (of-channels.turn_group_on g.spoken g.mask)
   run code (Command.GroupOff g) = switched _ refl code _ (of-channels.turn_group_off g.spoken g.mask)
@@ -184,7 +183,7 @@ module _ (rail : ℤ) (limits : Limits) (b : Board) where
   run code Command.SystemReset = restarts refl refl refl
 
   -- ---- a refusal by the decoder leaves both
-  turned_down_lem : (code : ℕ) (r : Refusal) → DoesIt (Refused r) (turned_down code r b)
+  turned_down_lem : (code : ℕ) (r : Refusal) → DoesIt (Err r) (turned_down code r b)
   unfolding turned_down not_this_board_of
   turned_down_lem code Refusal.FewerThanFourBytes = leaves_both refl stays
   turned_down_lem code Refusal.InStartup = leaves_both refl stays
@@ -198,8 +197,8 @@ module _ (rail : ℤ) (limits : Limits) (b : Board) where
   -- run or refused
   decoded : (code : ℕ) (d : Decoded) → DoesIt d (decoded_of rail limits code d b)
   unfolding decoded_of
-  decoded code (Run c) = run code c
-  decoded code (Refused r) = turned_down_lem code r
+  decoded code (Ok c) = run code c
+  decoded code (Err r) = turned_down_lem code r
 
   -- ---- the whole step
   module _ (s : List ℕ) where

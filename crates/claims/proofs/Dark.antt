@@ -16,7 +16,6 @@ use Rattle.channels.specs.Operations.{off_and_latch_kept, overcurrent_one, comma
 use Rattle.channels.specs.declared.Channels.{Channels}
 use Rattle.channels.proofs.Laws as of-channels
 use Rattle.power.specs.Machine as small
-use Rattle.command.specs.declared.Decoded.{Decoded}
 use Rattle.memory.specs.Limits.{limits_of}
 use Rattle.memory.specs.declared.Store.{Store}
 use Rattle.state.specs.Parts.{mode_of, word_count}

@@ -8,6 +8,7 @@ use native.Mathlib.Omega.{arith}
 use lib.Dec.{eqb, ltb}
 use lib.IntN.{ℤ}
 use lib.ListN.{length, get_or}
+use Rattle.std.specs.Prelude.{Ok, Err}
 use Rattle.laws.proofs.Cases.{cases}
 use Rattle.kinds.specs.Kinds.{board_of, is_in}
 use Rattle.wire.specs.Numbers.{bytes_of}
@@ -22,12 +23,10 @@ use Rattle.modes.specs.declared.ModeAnswer as change
 use Rattle.channels.specs.declared.Channels.{Channels}
 use Rattle.channels.specs.Chan.{chan}
 use Rattle.command.specs.Table as commands
-use Rattle.command.specs.Decode.{fewer_than_four, code_of, header_of, header_is, carried, listed, decode_of}
+use Rattle.command.specs.Decode.{Decoded, fewer_than_four, code_of, header_of, header_is, carried, listed, decode_of}
 use Rattle.command.specs.declared.Command.{Command}
 use Rattle.command.specs.declared.Layout.{Layout}
 use Rattle.command.specs.declared.Refusal.{Refusal}
-use Rattle.command.specs.declared.Decoded.{Decoded}
-use Rattle.command.specs.declared.Decoded.TheVariants.{Run, Refused}
 use Rattle.watchdog.specs.declared.Event.{Event}
 use Rattle.watchdog.specs.declared.Event.TheVariants.{NoEvent, PeripheralReset, WatchdogReset}
 use Rattle.memory.specs.Limits.{limits_of}
@@ -150,8 +149,8 @@ module _ (code : ℕ) where
 
   decoded : (rail : ℤ) (limits : Limits) (d : Decoded) (b : Board) → Coded (decoded_of rail limits code d b)
   unfolding decoded_of
-  decoded rail limits (Run c) b = run rail limits c b
-  decoded rail limits (Refused r) b = turned_down_lem r b
+  decoded rail limits (Ok c) b = run rail limits c b
+  decoded rail limits (Err r) b = turned_down_lem r b
 
 stepped : (rail : ℤ) (limits : Limits) (sent : Bool) (s : List ℕ) (b : Board) → Coded (code_of s) (commanded_of rail limits sent s b)
 unfolding commanded_of stepped_of

@@ -5,6 +5,7 @@ use mathlib.Core.Path.{◌≡◌, refl, sym, ap, ◌∙◌}
 use mathlib.Core.Bool.{true, false, cond, false≢true}
 use mathlib.Core.Logic.{◌⊎◌, inl, inr, ⊎_elim}
 use lib.IntN.{ℤ}
+use Rattle.std.specs.Prelude.{Ok}
 use Rattle.laws.proofs.Cases.{cases}
 use Rattle.modes.specs.Table.{◌at_least◌}
 use Rattle.modes.specs.Commands.{to_safety_from, to_safety, to_nominal_from, to_nominal, leaves}
@@ -19,9 +20,8 @@ use Rattle.channels.specs.Operations.{on_and_cleared, off_and_latch_kept, all_of
 use Rattle.channels.specs.declared.Channels.{Channels}
 use Rattle.channels.proofs.Laws as of-channels
 use Rattle.power.specs.Machine as small
+use Rattle.command.specs.Decode.{Decoded}
 use Rattle.command.specs.declared.Command.TheVariants.{SystemReset}
-use Rattle.command.specs.declared.Decoded.{Decoded}
-use Rattle.command.specs.declared.Decoded.TheVariants.{Run}
 use Rattle.state.specs.Parts.{mode_of}
 use Rattle.state.specs.Start.{command_reset_of}
 use Rattle.change.specs.Change.{is_dark, from_nominal_to_safety, entering_of}
@@ -55,7 +55,7 @@ pub data DoesAt (k : ℕ) (rail : ℤ) (limits : Limits) (d : Decoded) (ask : sm
   switched : ask ≡ small.switch_on → Moved k b.phase b c.board ⊎ Lit k b c.board → DoesAt k rail limits d ask b c
   made_safe : ask ≡ small.switch_to_safety → Moved k (leaves (to_safety b.phase) b.phase) b c.board → DoesAt k rail limits d ask b c
   made_nominal : ask ≡ small.switch_to_nominal → Moved k (leaves (to_nominal b.phase rail limits) b.phase) b c.board → DoesAt k rail limits d ask b c
-  restarted : d ≡ Run SystemReset → c.outcome ≡ Answered Accepted → c.board ≡ command_reset_of b → DoesAt k rail limits d ask b c
+  restarted : d ≡ Ok SystemReset → c.outcome ≡ Answered Accepted → c.board ≡ command_reset_of b → DoesAt k rail limits d ask b c
 
 -- what a change of mode does to one force-enabled channel
 abbrev pub entered_one : Mode → Mode → Chan → Chan

@@ -22,8 +22,7 @@ use Rattle.watchdog.specs.declared.Event.{Event}
 use Rattle.watchdog.specs.declared.Event.TheVariants.{NoEvent, PeripheralReset, WatchdogReset}
 use Rattle.power.specs.Machine as small
 use Rattle.power.specs.Machine.{is_lit}
-use Rattle.command.specs.Decode.{decode_of}
-use Rattle.command.specs.declared.Decoded.{Decoded}
+use Rattle.command.specs.Decode.{Decoded, decode_of}
 use Rattle.memory.specs.Limits.{limits_of}
 use Rattle.memory.specs.declared.Store.{Store}
 use Rattle.state.specs.Parts.{mode_of, word_count}

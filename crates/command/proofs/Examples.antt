@@ -7,16 +7,15 @@ use mathlib.Core.List.{List, [], ◌∷◌, map}
 use native.Mathlib.Omega.{arith}
 use lib.ListN.{length}
 use borrow.Author.Tests.{le-ltb}
+use Rattle.std.specs.Prelude.{Ok, Err}
 use Rattle.wire.specs.Numbers.{number}
 use Rattle.kinds.specs.Kinds.{is_in}
 use Rattle.kinds.specs.declared.Kind.{Kind}
 use Rattle.kinds.specs.declared.Kind.TheVariants.{Distribution, Battery}
 use Rattle.command.specs.Table.{command_table, find}
-use Rattle.command.specs.Decode.{fewer_than_four, header_is, group_in, carried, listed, decode_of}
+use Rattle.command.specs.Decode.{Decoded, fewer_than_four, header_is, group_in, carried, listed, decode_of}
 use Rattle.command.specs.declared.Command.TheVariants.{CancelOperation, Report}
 use Rattle.command.specs.declared.Layout.TheVariants.{Short}
-use Rattle.command.specs.declared.Decoded.{Decoded}
-use Rattle.command.specs.declared.Decoded.TheVariants.{Run, Refused}
 use Rattle.command.specs.declared.Refusal.TheVariants.{FewerThanFourBytes, NotThisBoard, CodeNotListed}
 
 -- ---- the masks of a group command
@@ -43,7 +42,7 @@ module _ (stid ivid code bid low high : ℕ) where
 pub boundary : (more : ℕ)
     → map (decode_of Distribution 0x01 false)
     ((0x11 ∷ 0x07 ∷ 0x02 ∷ 0x01 ∷ []) ∷ (0x11 ∷ 0x07 ∷ 0x02 ∷ 0x01 ∷ more ∷ []) ∷ (0x11 ∷ 0x07 ∷ 0x02 ∷ []) ∷ (0x11 ∷ 0x07 ∷ 0x03 ∷ 0x01 ∷ []) ∷ [])
-    ≡ Run (Report Short) ∷ Run (Report Short) ∷ Refused FewerThanFourBytes ∷ Refused CodeNotListed ∷ []
+    ≡ Ok (Report Short) ∷ Ok (Report Short) ∷ Err FewerThanFourBytes ∷ Err CodeNotListed ∷ []
 unfolding decode_of fewer_than_four header_is is_in listed carried find command_table
 boundary more = refl
 
@@ -56,11 +55,11 @@ six kind =
     ∷ (0x12 ∷ 0x07 ∷ 0x02 ∷ 0x01 ∷ []) ∷ (0x12 ∷ 0x07 ∷ 0x04 ∷ 0x01 ∷ []) ∷ (0x12 ∷ 0x07 ∷ 0x03 ∷ 0x01 ∷ []) ∷ [])
 
 pub of_distribution : six Distribution
-    ≡ Run (Report Short) ∷ Run CancelOperation ∷ Refused CodeNotListed ∷ Refused NotThisBoard ∷ Refused NotThisBoard ∷ Refused NotThisBoard ∷ []
+    ≡ Ok (Report Short) ∷ Ok CancelOperation ∷ Err CodeNotListed ∷ Err NotThisBoard ∷ Err NotThisBoard ∷ Err NotThisBoard ∷ []
 unfolding decode_of fewer_than_four header_is is_in listed carried find command_table
 of_distribution = refl
 
 pub of_battery : six (Battery true)
-    ≡ Refused NotThisBoard ∷ Refused NotThisBoard ∷ Refused NotThisBoard ∷ Run (Report Short) ∷ Refused CodeNotListed ∷ Refused CodeNotListed ∷ []
+    ≡ Err NotThisBoard ∷ Err NotThisBoard ∷ Err NotThisBoard ∷ Ok (Report Short) ∷ Err CodeNotListed ∷ Err CodeNotListed ∷ []
 unfolding decode_of fewer_than_four header_is is_in listed carried find command_table
 of_battery = refl

@@ -7,6 +7,7 @@ use mathlib.Core.List.{List, [], ◌∷◌, map}
 use lib.Dec.{T, ltb, eqb}
 use lib.ListN.{length}
 use borrow.Author.Tests.{eqb-true}
+use Rattle.std.specs.Prelude.{Err}
 use Rattle.laws.proofs.Cases.{cases}
 use Rattle.kinds.specs.Kinds.{board_of, is_in}
 use Rattle.kinds.specs.declared.Kind.{Kind}
@@ -17,11 +18,9 @@ use Rattle.settings.specs.Table.{parameter_of}
 use Rattle.settings.specs.declared.Parameter.{Parameter}
 use Rattle.settings.specs.declared.Parameter.TheVariants.{ReadWrite, ReadOnly, Unknown}
 use Rattle.command.specs.Table.{Row, ◌is◌of◌bytes, ◌is◌of◌bytes_with_key◌, command_table, find}
-use Rattle.command.specs.Decode.{fewer_than_four, header_is, stid_of, ivid_of, code_of, bid_of, byte_after, id_of, value_part, get_by, getting, valued, set_by, setting, reset_by, resetting, carried, header_of, listed, decode_of}
+use Rattle.command.specs.Decode.{Decoded, fewer_than_four, header_is, stid_of, ivid_of, code_of, bid_of, byte_after, id_of, value_part, get_by, getting, valued, set_by, setting, reset_by, resetting, carried, header_of, listed, decode_of}
 use Rattle.command.specs.Answers.{refusal_number, decoded_number}
 use Rattle.command.specs.Checks.{first, header_differs, shorter, key_wrong, id_wrong, is_too_short, is_nan_value, value_reads, mode_alone, checks}
-use Rattle.command.specs.declared.Decoded.{Decoded}
-use Rattle.command.specs.declared.Decoded.TheVariants.{Refused}
 use Rattle.command.specs.declared.Refusal.{Refusal}
 use Rattle.command.specs.declared.Refusal.TheVariants.{TooShort, WrongKey}
 
@@ -74,7 +73,7 @@ pub has_a_command : (kind : Kind) (code : ℕ) → is_in code (board_of kind).co
 has_a_command kind code h = one_of_all code (board_of kind).codes table_codes (in_the_table kind) h
 
 -- ---- the number of an answer behind a check
-behind : (b : Bool) (r : Refusal) (d : Decoded) → decoded_number (cond b (Refused r) d) ≡ cond b (refusal_number r) (decoded_number d)
+behind : (b : Bool) (r : Refusal) (d : Decoded) → decoded_number (cond b (Err r) d) ≡ cond b (refusal_number r) (decoded_number d)
 behind true r d = refl
 behind false r d = refl
 
@@ -104,11 +103,11 @@ set_number_lem id Unknown value = refl
 
 -- ---- a command of the list
 module _ (s : List ℕ) where
-  plain : (needed : ℕ) (d : Decoded) → decoded_number (cond (ltb (length s) needed) (Refused TooShort) d) ≡ cond (ltb (length s) needed) 5 (decoded_number d)
+  plain : (needed : ℕ) (d : Decoded) → decoded_number (cond (ltb (length s) needed) (Err TooShort) d) ≡ cond (ltb (length s) needed) 5 (decoded_number d)
   plain needed d = behind (ltb (length s) needed) TooShort d
 
   keyed : (needed key : ℕ) (d : Decoded)
-      → decoded_number (cond (ltb (length s) needed) (Refused TooShort) (cond (not (eqb (byte_after s) key)) (Refused WrongKey) d))
+      → decoded_number (cond (ltb (length s) needed) (Err TooShort) (cond (not (eqb (byte_after s) key)) (Err WrongKey) d))
       ≡ cond (ltb (length s) needed) 5 (cond (not (eqb (byte_after s) key)) 7 (decoded_number d))
   keyed needed key d = behind (ltb (length s) needed) TooShort _ ∙ ap (cond (ltb (length s) needed) 5) (behind (not (eqb (byte_after s) key)) WrongKey d)
 
@@ -143,7 +142,7 @@ unfolding header_is header_differs
 header_check kind bid s = differs (eqb (stid_of s) (board_of kind).stid) (eqb (ivid_of s) 7) (eqb (bid_of s) bid)
 
 module _ (kind : Kind) (bid : ℕ) (startup : Bool) (s : List ℕ) where
-  listed_number : decoded_number (cond (not (is_in (code_of s) (board_of kind).codes)) (Refused Refusal.CodeNotListed) (listed (find command_table (code_of s)) s))
+  listed_number : decoded_number (cond (not (is_in (code_of s) (board_of kind).codes)) (Err Refusal.CodeNotListed) (listed (find command_table (code_of s)) s))
       ≡ cond (not (is_in (code_of s) (board_of kind).codes)) 4 (behind_4 s (code_of s))
   listed_number =
       cases (is_in (code_of s) (board_of kind).codes)

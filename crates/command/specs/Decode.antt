@@ -1,7 +1,7 @@
 -- A transfer as a command: what it carries, or why it is none. In which order the checks stand, `Checks` says.
 -- `get_or s i 0` is the byte at i, `drop i s` what stands from i on, and `number n` the number of its first n bytes, the
 -- lowest first. Assumes nothing.
-use Rattle.std.specs.Prelude.{ℕ, ◌-◌, ◌^◌}
+use Rattle.std.specs.Prelude.{ℕ, ◌-◌, ◌^◌, Result, Ok, Err}
 use mathlib.Core.{Bool.Bool, Bool.cond, Bool.not, Bool.◌&&◌, List.List}
 use lib.{Dec.ltb, Dec.eqb, ListN.length, ListN.drop, ListN.get_or}
 use Rattle.wire.specs.Numbers.{number}
@@ -10,11 +10,14 @@ use Rattle.value.specs.{Values.read_of, declared.Parsed.Parsed}
 use Rattle.settings.specs.{Table.parameter_of, declared.Parameter.Parameter}
 use Rattle.settings.specs.declared.Parameter.TheVariants.{ReadWrite, ReadOnly, Unknown}
 use Rattle.command.specs.{Table.command_table, Table.find, declared.Name.Name, declared.Listed.Listed}
-use Rattle.command.specs.{declared.Header.Header, declared.Group.Group, declared.Decoded.Decoded}
+use Rattle.command.specs.{declared.Header.Header, declared.Group.Group}
 use Rattle.command.specs.declared.Listed.TheVariants.{Plain, Keyed, Missing}
-use Rattle.command.specs.{declared.Command.Command, declared.Layout.Layout}
+use Rattle.command.specs.{declared.Command.Command, declared.Layout.Layout, declared.Refusal.Refusal}
 use Rattle.command.specs.declared.Refusal.TheVariants.{FewerThanFourBytes, InStartup, NotThisBoard, CodeNotListed, TooShort, WrongKey, WrongParameter, NotANumber}
-use Rattle.command.specs.declared.Decoded.TheVariants.{Run, Refused}
+
+-- what a transfer is: a command, or why it is none
+abbrev pub Decoded : Type 0
+Decoded = Result Command Refusal
 
 -- ---- the header: STID, IVID, CC, BID
 unfoldable pub fewer_than_four : List ℕ → Bool
@@ -66,9 +69,9 @@ group_in s =
 -- ---- parameters
 -- 0x82: an id that is unknown is 7; one that is read-only is read
 abbrev pub get_by : ℕ → Parameter → Decoded
-get_by id (ReadWrite t) = Run (Command.Report (Layout.Parameter id))
-get_by id (ReadOnly t) = Run (Command.Report (Layout.Parameter id))
-get_by id Unknown = Refused WrongParameter
+get_by id (ReadWrite t) = Ok (Command.Report (Layout.Parameter id))
+get_by id (ReadOnly t) = Ok (Command.Report (Layout.Parameter id))
+get_by id Unknown = Err WrongParameter
 
 unfoldable pub getting : ℕ → Decoded
 getting id = get_by id (parameter_of id)
@@ -76,67 +79,67 @@ getting id = get_by id (parameter_of id)
 -- 0x84, behind the two bytes of the id (5): an id that is unknown or read-only (7), fewer bytes than the value has (5),
 -- a NaN (7)
 unfoldable pub valued : ℕ → Parsed → Decoded
-valued id (Parsed.Value v) = Run (Command.SetParameter id v)
-valued id Parsed.TooShort = Refused TooShort
-valued id Parsed.NotANumber = Refused NotANumber
+valued id (Parsed.Value v) = Ok (Command.SetParameter id v)
+valued id Parsed.TooShort = Err TooShort
+valued id Parsed.NotANumber = Err NotANumber
 
 abbrev pub set_by : ℕ → Parameter → List ℕ → Decoded
 set_by id (ReadWrite t) value = valued id (read_of t value)
-set_by id (ReadOnly t) value = Refused WrongParameter
-set_by id Unknown value = Refused WrongParameter
+set_by id (ReadOnly t) value = Err WrongParameter
+set_by id Unknown value = Err WrongParameter
 
 unfoldable pub setting : ℕ → List ℕ → Decoded
 setting id s = set_by id (parameter_of id) (value_part s)
 
 -- 0x86: as in 0x84, an id that is unknown or read-only is 7
 abbrev pub reset_by : ℕ → Parameter → Decoded
-reset_by id (ReadWrite t) = Run (Command.ResetParameter id)
-reset_by id (ReadOnly t) = Refused WrongParameter
-reset_by id Unknown = Refused WrongParameter
+reset_by id (ReadWrite t) = Ok (Command.ResetParameter id)
+reset_by id (ReadOnly t) = Err WrongParameter
+reset_by id Unknown = Err WrongParameter
 
 unfoldable pub resetting : ℕ → Decoded
 resetting id = reset_by id (parameter_of id)
 
 -- ---- a command that is long enough, with what it carries
 unfoldable pub carried : Name → List ℕ → Decoded
-carried Name.SystemReset s = Run Command.SystemReset
-carried Name.NoOperation s = Run (Command.Report Layout.Short)
-carried Name.CancelOperation s = Run Command.CancelOperation
-carried Name.Watchdog s = Run (Command.Report Layout.Short)
-carried Name.GroupOn s = Run (Command.GroupOn (group_in s))
-carried Name.GroupOff s = Run (Command.GroupOff (group_in s))
-carried Name.GroupState s = Run (Command.GroupState (group_in s))
-carried Name.ChannelOn s = Run (Command.ChannelOn (byte_after s))
-carried Name.ChannelOff s = Run (Command.ChannelOff (byte_after s))
-carried Name.SwitchToNominal s = Run Command.SwitchToNominal
-carried Name.SwitchToSafety s = Run Command.SwitchToSafety
-carried Name.GetOvercurrentFaultState s = Run (Command.Report Layout.Faults)
-carried Name.GetHousekeeping s = Run (Command.Report Layout.Housekeeping)
+carried Name.SystemReset s = Ok Command.SystemReset
+carried Name.NoOperation s = Ok (Command.Report Layout.Short)
+carried Name.CancelOperation s = Ok Command.CancelOperation
+carried Name.Watchdog s = Ok (Command.Report Layout.Short)
+carried Name.GroupOn s = Ok (Command.GroupOn (group_in s))
+carried Name.GroupOff s = Ok (Command.GroupOff (group_in s))
+carried Name.GroupState s = Ok (Command.GroupState (group_in s))
+carried Name.ChannelOn s = Ok (Command.ChannelOn (byte_after s))
+carried Name.ChannelOff s = Ok (Command.ChannelOff (byte_after s))
+carried Name.SwitchToNominal s = Ok Command.SwitchToNominal
+carried Name.SwitchToSafety s = Ok Command.SwitchToSafety
+carried Name.GetOvercurrentFaultState s = Ok (Command.Report Layout.Faults)
+carried Name.GetHousekeeping s = Ok (Command.Report Layout.Housekeeping)
 carried Name.GetParameter s = getting (id_of s)
 carried Name.SetParameter s = setting (id_of s) s
 carried Name.ResetParameter s = resetting (id_of s)
-carried Name.ResetConfiguration s = Run Command.ResetConfiguration
-carried Name.LoadConfiguration s = Run Command.LoadConfiguration
-carried Name.SaveConfiguration s = Run (Command.SaveConfiguration (checksum_in s))
-carried Name.GetEngineeringHousekeeping s = Run (Command.Report Layout.EngineeringHousekeeping)
-carried Name.GetAbfPlacedState s = Run (Command.Report Layout.AbfPlacedState)
-carried Name.GetBatteryHousekeeping s = Run (Command.Report Layout.BatteryHousekeeping)
-carried Name.GetEngineeringBatteryHousekeeping s = Run (Command.Report Layout.EngineeringBatteryHousekeeping)
+carried Name.ResetConfiguration s = Ok Command.ResetConfiguration
+carried Name.LoadConfiguration s = Ok Command.LoadConfiguration
+carried Name.SaveConfiguration s = Ok (Command.SaveConfiguration (checksum_in s))
+carried Name.GetEngineeringHousekeeping s = Ok (Command.Report Layout.EngineeringHousekeeping)
+carried Name.GetAbfPlacedState s = Ok (Command.Report Layout.AbfPlacedState)
+carried Name.GetBatteryHousekeeping s = Ok (Command.Report Layout.BatteryHousekeeping)
+carried Name.GetEngineeringBatteryHousekeeping s = Ok (Command.Report Layout.EngineeringBatteryHousekeeping)
 
 -- ---- a code of the table: long enough, with its key, and then what it carries
 unfoldable pub listed : Listed → List ℕ → Decoded
-listed Missing s = Refused CodeNotListed  -- no list of a kind has such a code
-listed (Plain name needed) s = cond (ltb (length s) needed) (Refused TooShort) (carried name s)
+listed Missing s = Err CodeNotListed  -- no list of a kind has such a code
+listed (Plain name needed) s = cond (ltb (length s) needed) (Err TooShort) (carried name s)
 listed (Keyed name needed key) s =
-    cond (ltb (length s) needed) (Refused TooShort)
-    (cond (not (eqb (byte_after s) key)) (Refused WrongKey)
+    cond (ltb (length s) needed) (Err TooShort)
+    (cond (not (eqb (byte_after s) key)) (Err WrongKey)
     (carried name s))
 
 -- ---- any transfer, to a board of a kind and a BID that is in startup or not; the order is that of `Checks`
 unfoldable pub decode_of : Kind → ℕ → Bool → List ℕ → Decoded
 decode_of kind bid startup s =
-    cond (fewer_than_four s) (Refused FewerThanFourBytes)
-    (cond startup (Refused InStartup)
-    (cond (not (header_is (header_of kind bid) s)) (Refused NotThisBoard)
-    (cond (not (is_in (code_of s) (board_of kind).codes)) (Refused CodeNotListed)
+    cond (fewer_than_four s) (Err FewerThanFourBytes)
+    (cond startup (Err InStartup)
+    (cond (not (header_is (header_of kind bid) s)) (Err NotThisBoard)
+    (cond (not (is_in (code_of s) (board_of kind).codes)) (Err CodeNotListed)
     (listed (find command_table (code_of s)) s))))

@@ -113,13 +113,6 @@ pub enum Refusal {
     NotANumber,
 }
 
-// What a transfer is.
-#[derive(Clone, Copy)]
-pub enum Decoded {
-    Run(Command),
-    Refused(Refusal),
-}
-
 // What a board of a kind and a BID is called by.
 pub fn header_of(kind: Kind, bid: u8) -> Header
     ensures { result ≡ header_of kind bid }
@@ -200,81 +193,81 @@ fn group_in(transfer: &[u8]) -> Group
 }
 
 // A get of a parameter, which may be read-only.
-fn get(id: u16) -> Decoded
+fn get(id: u16) -> Result<Command, Refusal>
     ensures { result ≡ getting id }
 {
     match settings::parameter_of(id) {
-        Parameter::ReadWrite(_) => Decoded::Run(Command::Report(Layout::Parameter(id))),
-        Parameter::ReadOnly(_) => Decoded::Run(Command::Report(Layout::Parameter(id))),
-        Parameter::Unknown => Decoded::Refused(Refusal::WrongParameter),
+        Parameter::ReadWrite(_) => Ok(Command::Report(Layout::Parameter(id))),
+        Parameter::ReadOnly(_) => Ok(Command::Report(Layout::Parameter(id))),
+        Parameter::Unknown => Err(Refusal::WrongParameter),
     }
 }
 
 // A set of a parameter to what was read of its value.
-fn set_to(id: u16, value: Parsed) -> Decoded
+fn set_to(id: u16, value: Parsed) -> Result<Command, Refusal>
     ensures { result ≡ valued id value }
 {
     match value {
-        Parsed::Value(v) => Decoded::Run(Command::SetParameter(id, v)),
-        Parsed::TooShort => Decoded::Refused(Refusal::TooShort),
-        Parsed::NotANumber => Decoded::Refused(Refusal::NotANumber),
+        Parsed::Value(v) => Ok(Command::SetParameter(id, v)),
+        Parsed::TooShort => Err(Refusal::TooShort),
+        Parsed::NotANumber => Err(Refusal::NotANumber),
     }
 }
 
 // A set of a parameter: its id is looked at before the bytes of its value are.
-fn set(id: u16, transfer: &[u8]) -> Decoded
+fn set(id: u16, transfer: &[u8]) -> Result<Command, Refusal>
     ensures { result ≡ setting id transfer.now }
 {
     match settings::parameter_of(id) {
         Parameter::ReadWrite(t) => set_to(id, value::read(t, wire::rest(transfer, 6))),
-        Parameter::ReadOnly(_) => Decoded::Refused(Refusal::WrongParameter),
-        Parameter::Unknown => Decoded::Refused(Refusal::WrongParameter),
+        Parameter::ReadOnly(_) => Err(Refusal::WrongParameter),
+        Parameter::Unknown => Err(Refusal::WrongParameter),
     }
 }
 
 // A reset of one parameter.
-fn reset(id: u16) -> Decoded
+fn reset(id: u16) -> Result<Command, Refusal>
     ensures { result ≡ resetting id }
 {
     match settings::parameter_of(id) {
-        Parameter::ReadWrite(_) => Decoded::Run(Command::ResetParameter(id)),
-        Parameter::ReadOnly(_) => Decoded::Refused(Refusal::WrongParameter),
-        Parameter::Unknown => Decoded::Refused(Refusal::WrongParameter),
+        Parameter::ReadWrite(_) => Ok(Command::ResetParameter(id)),
+        Parameter::ReadOnly(_) => Err(Refusal::WrongParameter),
+        Parameter::Unknown => Err(Refusal::WrongParameter),
     }
 }
 
 // A command of a name with what its bytes carry.
-fn carried(name: Name, transfer: &[u8]) -> Decoded
+fn carried(name: Name, transfer: &[u8]) -> Result<Command, Refusal>
     ensures { result ≡ carried name transfer.now }
 {
     match name {
-        Name::SystemReset => Decoded::Run(Command::SystemReset),
-        Name::NoOperation => Decoded::Run(Command::Report(Layout::Short)),
-        Name::CancelOperation => Decoded::Run(Command::CancelOperation),
-        Name::Watchdog => Decoded::Run(Command::Report(Layout::Short)),
-        Name::GroupOn => Decoded::Run(Command::GroupOn(group_in(transfer))),
-        Name::GroupOff => Decoded::Run(Command::GroupOff(group_in(transfer))),
-        Name::GroupState => Decoded::Run(Command::GroupState(group_in(transfer))),
-        Name::ChannelOn => Decoded::Run(Command::ChannelOn(wire::byte(transfer, 4))),
-        Name::ChannelOff => Decoded::Run(Command::ChannelOff(wire::byte(transfer, 4))),
-        Name::SwitchToNominal => Decoded::Run(Command::SwitchToNominal),
-        Name::SwitchToSafety => Decoded::Run(Command::SwitchToSafety),
-        Name::GetOvercurrentFaultState => Decoded::Run(Command::Report(Layout::Faults)),
-        Name::GetHousekeeping => Decoded::Run(Command::Report(Layout::Housekeeping)),
+        Name::SystemReset => Ok(Command::SystemReset),
+        Name::NoOperation => Ok(Command::Report(Layout::Short)),
+        Name::CancelOperation => Ok(Command::CancelOperation),
+        Name::Watchdog => Ok(Command::Report(Layout::Short)),
+        Name::GroupOn => Ok(Command::GroupOn(group_in(transfer))),
+        Name::GroupOff => Ok(Command::GroupOff(group_in(transfer))),
+        Name::GroupState => Ok(Command::GroupState(group_in(transfer))),
+        Name::ChannelOn => Ok(Command::ChannelOn(wire::byte(transfer, 4))),
+        Name::ChannelOff => Ok(Command::ChannelOff(wire::byte(transfer, 4))),
+        Name::SwitchToNominal => Ok(Command::SwitchToNominal),
+        Name::SwitchToSafety => Ok(Command::SwitchToSafety),
+        Name::GetOvercurrentFaultState => Ok(Command::Report(Layout::Faults)),
+        Name::GetHousekeeping => Ok(Command::Report(Layout::Housekeeping)),
         Name::GetParameter => get(wire::le16(transfer, 4)),
         Name::SetParameter => set(wire::le16(transfer, 4), transfer),
         Name::ResetParameter => reset(wire::le16(transfer, 4)),
-        Name::ResetConfiguration => Decoded::Run(Command::ResetConfiguration),
-        Name::LoadConfiguration => Decoded::Run(Command::LoadConfiguration),
-        Name::SaveConfiguration => Decoded::Run(Command::SaveConfiguration(wire::le16(
+        Name::ResetConfiguration => Ok(Command::ResetConfiguration),
+        Name::LoadConfiguration => Ok(Command::LoadConfiguration),
+        Name::SaveConfiguration => Ok(Command::SaveConfiguration(wire::le16(
             transfer, 5,
         ))),
-        Name::GetEngineeringHousekeeping => Decoded::Run(Command::Report(
+        Name::GetEngineeringHousekeeping => Ok(Command::Report(
             Layout::EngineeringHousekeeping,
         )),
-        Name::GetAbfPlacedState => Decoded::Run(Command::Report(Layout::AbfPlacedState)),
-        Name::GetBatteryHousekeeping => Decoded::Run(Command::Report(Layout::BatteryHousekeeping)),
-        Name::GetEngineeringBatteryHousekeeping => Decoded::Run(Command::Report(
+        Name::GetAbfPlacedState => Ok(Command::Report(Layout::AbfPlacedState)),
+        Name::GetBatteryHousekeeping => Ok(Command::Report(Layout::BatteryHousekeeping)),
+        Name::GetEngineeringBatteryHousekeeping => Ok(Command::Report(
             Layout::EngineeringBatteryHousekeeping,
         )),
     }
@@ -282,31 +275,31 @@ fn carried(name: Name, transfer: &[u8]) -> Decoded
 
 // A command as the table has it: long enough, with its key, and then what it carries. A code that has no row is not
 // listed; no list of a kind has one.
-fn by_list(entry: Listed, transfer: &[u8]) -> Decoded
+fn by_list(entry: Listed, transfer: &[u8]) -> Result<Command, Refusal>
     ensures { result ≡ listed entry transfer.now }
 {
     match entry {
         Listed::Plain(name, needed) => {
             if transfer.len() < needed {
-                return Decoded::Refused(Refusal::TooShort);
+                return Err(Refusal::TooShort);
             }
             carried(name, transfer)
         }
         Listed::Keyed(name, needed, key) => {
             if transfer.len() < needed {
-                return Decoded::Refused(Refusal::TooShort);
+                return Err(Refusal::TooShort);
             }
             if wire::byte(transfer, 4) != key {
-                return Decoded::Refused(Refusal::WrongKey);
+                return Err(Refusal::WrongKey);
             }
             carried(name, transfer)
         }
-        Listed::Missing => Decoded::Refused(Refusal::CodeNotListed),
+        Listed::Missing => Err(Refusal::CodeNotListed),
     }
 }
 
 // What a transfer is to a board of a kind and a BID that is in startup or not: the first check that applies answers.
-pub fn decode(kind: Kind, bid: u8, in_startup: bool, transfer: &[u8]) -> Decoded
+pub fn decode(kind: Kind, bid: u8, in_startup: bool, transfer: &[u8]) -> Result<Command, Refusal>
     ensures value { result ≡ decode_of kind bid in_startup transfer.now }
     ensures number { decoded_number result ≡ first (checks kind bid (mode_alone in_startup) transfer.now) }
 {
@@ -315,16 +308,16 @@ pub fn decode(kind: Kind, bid: u8, in_startup: bool, transfer: &[u8]) -> Decoded
     let ours = is_for(header_of(kind, bid), transfer);
     let listed = kinds::lists(kind, code);
     if short {
-        return Decoded::Refused(Refusal::FewerThanFourBytes);
+        return Err(Refusal::FewerThanFourBytes);
     }
     if in_startup {
-        return Decoded::Refused(Refusal::InStartup);
+        return Err(Refusal::InStartup);
     }
     if !ours {
-        return Decoded::Refused(Refusal::NotThisBoard);
+        return Err(Refusal::NotThisBoard);
     }
     if !listed {
-        return Decoded::Refused(Refusal::CodeNotListed);
+        return Err(Refusal::CodeNotListed);
     }
     by_list(listed_as(code), transfer)
 }

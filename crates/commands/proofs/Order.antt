@@ -7,6 +7,7 @@ use mathlib.Core.Option.{Option, some}
 use lib.Dec.{T, ltb, eqb}
 use lib.IntN.{ℤ}
 use lib.ListN.{length}
+use Rattle.std.specs.Prelude.{Err}
 use Rattle.laws.proofs.Cases.{cases}
 use Rattle.kinds.specs.Kinds.{board_of, is_in}
 use Rattle.value.specs.Values.{read_of}
@@ -23,11 +24,9 @@ use Rattle.modes.specs.declared.Limits.{Limits}
 use Rattle.channels.specs.Operations.{wrong_to_switch_on, wrong_to_switch_off}
 use Rattle.channels.specs.declared.Channels.{Channels}
 use Rattle.command.specs.Table.{command_table, find}
-use Rattle.command.specs.Decode.{fewer_than_four, header_of, header_is, code_of, byte_after, id_of, value_part, checksum_in, get_by, getting, valued, set_by, setting, reset_by, resetting, carried, listed, decode_of}
+use Rattle.command.specs.Decode.{Decoded, fewer_than_four, header_of, header_is, code_of, byte_after, id_of, value_part, checksum_in, get_by, getting, valued, set_by, setting, reset_by, resetting, carried, listed, decode_of}
 use Rattle.command.specs.Answers.{refusal_number}
 use Rattle.command.specs.Checks.{Check, ◌when◌, first, shorter, key_wrong, id_wrong, is_too_short, is_nan_value, value_reads, checks}
-use Rattle.command.specs.declared.Decoded.{Decoded}
-use Rattle.command.specs.declared.Decoded.TheVariants.{Refused}
 use Rattle.command.specs.declared.Refusal.{Refusal}
 use Rattle.command.specs.declared.Refusal.TheVariants.{FewerThanFourBytes, InStartup, NotThisBoard, CodeNotListed, TooShort, WrongKey, WrongParameter, NotANumber}
 use Rattle.command.proofs.Laws.{none, ◌and◌, at_code, table_codes, has_a_command, header_check}
@@ -88,7 +87,7 @@ module _ (rail : ℤ) (limits : Limits) (b : Board) where
   told_of code d = told (decoded_of rail limits code d b)
 
   -- ---- the decoder's checks
-  refused : (code : ℕ) (r : Refusal) → told_of code (Refused r) ≡ some (refusal_number r)
+  refused : (code : ℕ) (r : Refusal) → told_of code (Err r) ≡ some (refusal_number r)
   unfolding decoded_of turned_down refused_of not_this_board_of
   refused code FewerThanFourBytes = refl
   refused code InStartup = refl
@@ -99,19 +98,19 @@ module _ (rail : ℤ) (limits : Limits) (b : Board) where
   refused code WrongParameter = refl
   refused code NotANumber = refl
 
-  past : (code : ℕ) (x : Bool) (r : Refusal) (d : Decoded) {rest : ℕ} → (x ≡ false → told_of code d ≡ some rest) → told_of code (cond x (Refused r) d) ≡ some (cond x (refusal_number r) rest)
+  past : (code : ℕ) (x : Bool) (r : Refusal) (d : Decoded) {rest : ℕ} → (x ≡ false → told_of code d ≡ some rest) → told_of code (cond x (Err r) d) ≡ some (cond x (refusal_number r) rest)
   past code true r d e = refused code r
   past code false r d e = e refl
 
-  behind : (code : ℕ) (x : Bool) (r : Refusal) (d : Decoded) {rest : ℕ} → told_of code d ≡ some rest → told_of code (cond x (Refused r) d) ≡ some (cond x (refusal_number r) rest)
+  behind : (code : ℕ) (x : Bool) (r : Refusal) (d : Decoded) {rest : ℕ} → told_of code d ≡ some rest → told_of code (cond x (Err r) d) ≡ some (cond x (refusal_number r) rest)
   behind code x r d e = past code x r d (λ _. e)
 
   module _ (s : List ℕ) where
-    plain : (code needed : ℕ) (d : Decoded) {rest : ℕ} → told_of code d ≡ some rest → told_of code (cond (ltb (length s) needed) (Refused TooShort) d) ≡ some (cond (ltb (length s) needed) 5 rest)
+    plain : (code needed : ℕ) (d : Decoded) {rest : ℕ} → told_of code d ≡ some rest → told_of code (cond (ltb (length s) needed) (Err TooShort) d) ≡ some (cond (ltb (length s) needed) 5 rest)
     plain code needed d e = behind code (ltb (length s) needed) TooShort d e
 
     keyed : (code needed key : ℕ) (d : Decoded) {rest : ℕ} → told_of code d ≡ some rest
-        → told_of code (cond (ltb (length s) needed) (Refused TooShort) (cond (not (eqb (byte_after s) key)) (Refused WrongKey) d))
+        → told_of code (cond (ltb (length s) needed) (Err TooShort) (cond (not (eqb (byte_after s) key)) (Err WrongKey) d))
         ≡ some (cond (ltb (length s) needed) 5 (cond (not (eqb (byte_after s) key)) 7 rest))
     keyed code needed key d e = plain code needed _ (behind code (not (eqb (byte_after s) key)) WrongKey d e)
 

@@ -3,11 +3,10 @@
 use Prim.Native.Nat.{ℕ}
 use mathlib.Core.List.{List}
 use lib.IntN.{ℤ}
+use Rattle.std.specs.Prelude.{Ok, Err}
 use Rattle.modes.specs.declared.Limits.{Limits}
-use Rattle.command.specs.Decode.{code_of}
+use Rattle.command.specs.Decode.{Decoded, code_of}
 use Rattle.command.specs.declared.Refusal.{Refusal}
-use Rattle.command.specs.declared.Decoded.{Decoded}
-use Rattle.command.specs.declared.Decoded.TheVariants.{Run, Refused}
 use Rattle.state.specs.declared.parts.Board.{Board}
 use Rattle.answers.specs.Answers.{silent_of, refused_of, not_this_board_of}
 use Rattle.answers.specs.declared.Answer.{Answer}
@@ -28,8 +27,8 @@ turned_down code Refusal.WrongParameter b = refused_of Answer.Wrong code b
 turned_down code Refusal.NotANumber b = refused_of Answer.Wrong code b
 
 unfoldable pub decoded_of : ℤ → Limits → ℕ → Decoded → Board → Commanded
-decoded_of rail limits code (Run c) b = run_of rail limits code c b
-decoded_of rail limits code (Refused r) b = turned_down code r b
+decoded_of rail limits code (Ok c) b = run_of rail limits code c b
+decoded_of rail limits code (Err r) b = turned_down code r b
 
 -- a transfer
 unfoldable pub stepped_of : ℤ → Limits → List ℕ → Board → Commanded

@@ -8,17 +8,16 @@ use mathlib.Core.List.{List}
 use mathlib.Core.Option.{Option, some}
 use native.Mathlib.Omega.{arith}
 use lib.IntN.{ℤ}
+use Rattle.std.specs.Prelude.{Ok, Err}
 use Rattle.modes.specs.Commands.{to_safety, to_nominal}
 use Rattle.modes.specs.declared.Limits.{Limits}
 use Rattle.modes.specs.declared.ModeAnswer as change
 use Rattle.channels.specs.declared.Channels.{Channels}
 use Rattle.command.specs.Checks.{first}
-use Rattle.command.specs.Decode.{code_of}
+use Rattle.command.specs.Decode.{Decoded, code_of}
 use Rattle.command.specs.declared.Command.{Command}
 use Rattle.command.specs.declared.Layout.{Layout}
 use Rattle.command.specs.declared.Refusal.{Refusal}
-use Rattle.command.specs.declared.Decoded.{Decoded}
-use Rattle.command.specs.declared.Decoded.TheVariants.{Run, Refused}
 use Rattle.memory.specs.Memory.{saved_of}
 use Rattle.state.specs.Parts.{mode_of}
 use Rattle.state.specs.Start.{fresh_of, command_reset_of}
@@ -113,23 +112,23 @@ module _ (code : ℕ) (b : Board) where
 
   decoded : (rail : ℤ) (limits : Limits) (d : Decoded) → Result code b (decoded_of rail limits code d b)
   unfolding decoded_of
-  decoded rail limits (Run c) = run rail limits c
-  decoded rail limits (Refused refusal) = turned_down_lem refusal
+  decoded rail limits (Ok c) = run rail limits c
+  decoded rail limits (Err refusal) = turned_down_lem refusal
 
 -- ---- by the number that is told, it is what the table returns
 module _ (rail : ℤ) (limits : Limits) (s : List ℕ) (b : Board) where
   -- an accepted transfer is a command
   done : (d : Decoded) → told_number (decoded_of rail limits (code_of s) d b).outcome ≡ some 0 → decoded_of rail limits (code_of s) d b ≡ done_of rail limits (code_of s) d b
   unfolding decoded_of turned_down refused_of not_this_board_of
-  done (Run c) q = refl
-  done (Refused Refusal.FewerThanFourBytes) q = absurd (omega (arith, same_number 1 0 q))
-  done (Refused Refusal.InStartup) q = absurd (omega (arith, same_number 2 0 q))
-  done (Refused Refusal.NotThisBoard) q = absurd (omega (arith, same_number 3 0 q))
-  done (Refused Refusal.CodeNotListed) q = absurd (omega (arith, same_number 4 0 q))
-  done (Refused Refusal.TooShort) q = absurd (omega (arith, same_number 5 0 q))
-  done (Refused Refusal.WrongKey) q = absurd (omega (arith, same_number 7 0 q))
-  done (Refused Refusal.WrongParameter) q = absurd (omega (arith, same_number 7 0 q))
-  done (Refused Refusal.NotANumber) q = absurd (omega (arith, same_number 7 0 q))
+  done (Ok c) q = refl
+  done (Err Refusal.FewerThanFourBytes) q = absurd (omega (arith, same_number 1 0 q))
+  done (Err Refusal.InStartup) q = absurd (omega (arith, same_number 2 0 q))
+  done (Err Refusal.NotThisBoard) q = absurd (omega (arith, same_number 3 0 q))
+  done (Err Refusal.CodeNotListed) q = absurd (omega (arith, same_number 4 0 q))
+  done (Err Refusal.TooShort) q = absurd (omega (arith, same_number 5 0 q))
+  done (Err Refusal.WrongKey) q = absurd (omega (arith, same_number 7 0 q))
+  done (Err Refusal.WrongParameter) q = absurd (omega (arith, same_number 7 0 q))
+  done (Err Refusal.NotANumber) q = absurd (omega (arith, same_number 7 0 q))
 
   refusing : (a : Answer) → 4 ≤ answer_number a → refused_of a (code_of s) b ≡ returning (answer_of (answer_number a)) rail limits s b
   unfolding returning

@@ -4,15 +4,15 @@ use mathlib.Core.Path.{◌≡◌, refl, ap, sym, ◌∙◌}
 use mathlib.Core.Bool.{Bool, true, false, cond}
 use mathlib.Core.List.{List}
 use lib.IntN.{ℤ}
+use Rattle.std.specs.Prelude.{Ok, Err}
 use Rattle.laws.proofs.Cases.{cases}
 use Rattle.modes.specs.declared.Limits.{Limits}
 use Rattle.modes.specs.declared.ModeAnswer as change
 use Rattle.modes.specs.Commands.{to_safety, to_nominal}
 use Rattle.channels.specs.declared.Channels.{Channels}
-use Rattle.command.specs.Decode.{code_of}
+use Rattle.command.specs.Decode.{Decoded, code_of}
 use Rattle.command.specs.declared.Command.{Command}
 use Rattle.command.specs.declared.Refusal.{Refusal}
-use Rattle.command.specs.declared.Decoded.{Decoded}
 use Rattle.memory.specs.Memory.{is_right, saved_of}
 use Rattle.state.specs.Parts.{mode_of, with_reply, with_memory}
 use Rattle.state.specs.Start.{command_reset_of}
@@ -121,7 +121,7 @@ module _ (code : ℕ) (b : Board) where
 
 -- ---- what is asked comes to the step
 module _ (rail : ℤ) (limits : Limits) (code : ℕ) (b : Board) where
-  refused_as_lem : (r : Refusal) → asked_in rail limits code (asked_by (Decoded.Refused r)) b ≡ turned_down code r b
+  refused_as_lem : (r : Refusal) → asked_in rail limits code (asked_by (Err r)) b ≡ turned_down code r b
   unfolding asked_in turned_down refused_of not_this_board_of
   refused_as_lem Refusal.FewerThanFourBytes = refl
   refused_as_lem Refusal.InStartup = refl
@@ -134,8 +134,8 @@ module _ (rail : ℤ) (limits : Limits) (code : ℕ) (b : Board) where
 
   decoded_as : (d : Decoded) → asked_in rail limits code (asked_by d) b ≡ decoded_of rail limits code d b
   unfolding asked_in decoded_of
-  decoded_as (Decoded.Run c) = refl
-  decoded_as (Decoded.Refused r) = refused_as_lem r
+  decoded_as (Ok c) = refl
+  decoded_as (Err r) = refused_as_lem r
 
 -- what a board is asked
 abbrev pub asked_of_board : Bool → List ℕ → Board → Asked

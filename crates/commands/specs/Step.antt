@@ -1,10 +1,9 @@
 -- Step 4 of a tick: document 01's table. The first check that applies gives the number, and by it what is returned and
 -- left. Assumes nothing: these are definitions.
-use Rattle.std.specs.Prelude.{ℕ, ℤ}
+use Rattle.std.specs.Prelude.{ℕ, ℤ, Ok, Err}
 use mathlib.Core.{Bool.Bool, Bool.cond, Bool.not, List.List, Option.Option, Option.none, Option.some}
 use Rattle.modes.specs.declared.Limits.{Limits}
-use Rattle.command.specs.{Checks.first, Decode.code_of, Decode.decode_of, declared.Decoded.Decoded}
-use Rattle.command.specs.declared.Decoded.TheVariants.{Run, Refused}
+use Rattle.command.specs.{Checks.first, Decode.code_of, Decode.Decoded, Decode.decode_of}
 use Rattle.state.specs.{Parts.mode_of, declared.parts.Board.Board}
 use Rattle.answers.specs.Answers.{answer_of, silent_of, refused_of, not_this_board_of}
 use Rattle.answers.specs.{declared.Answer.Answer, declared.Commanded.Commanded}
@@ -16,8 +15,8 @@ use Rattle.asking.specs.Checks.{is_startup, checks_of}
 -- the command that a transfer is to a board, and what it does; a transfer that none of the checks refuses is a command,
 -- so the second row is not reached
 abbrev pub done_of : ℤ → Limits → ℕ → Decoded → Board → Commanded
-done_of rail limits code (Run c) b = run_of rail limits code c b
-done_of rail limits code (Refused r) b = silent_of (Answered Accepted) b
+done_of rail limits code (Ok c) b = run_of rail limits code c b
+done_of rail limits code (Err r) b = silent_of (Answered Accepted) b
 
 abbrev pub read_by : Board → List ℕ → Decoded
 read_by b s = decode_of b.profile.kind b.profile.bid (is_startup (mode_of b)) s

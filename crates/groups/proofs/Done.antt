@@ -8,6 +8,7 @@ use mathlib.Core.Option.{some}
 use lib.Dec.{eqb, ltb}
 use lib.IntN.{ℤ}
 use lib.ListN.{length}
+use Rattle.std.specs.Prelude.{Err}
 use Rattle.laws.proofs.Cases.{cases}
 use Rattle.kinds.specs.Kinds.{board_of, is_in}
 use Rattle.wire.specs.Replies.{reply_of}
@@ -28,9 +29,7 @@ use Rattle.modes.specs.declared.Limits.{Limits}
 use Rattle.channels.specs.declared.Channels.{Channels}
 use Rattle.channels.proofs.Laws as channel
 use Rattle.command.specs.Table.{command_table, find}
-use Rattle.command.specs.Decode.{fewer_than_four, header_is, code_of, byte_after, id_of, value_part, group_in, get_by, getting, valued, set_by, setting, reset_by, resetting, carried, header_of, listed, decode_of}
-use Rattle.command.specs.declared.Decoded.{Decoded}
-use Rattle.command.specs.declared.Decoded.TheVariants.{Refused}
+use Rattle.command.specs.Decode.{Decoded, fewer_than_four, header_is, code_of, byte_after, id_of, value_part, group_in, get_by, getting, valued, set_by, setting, reset_by, resetting, carried, header_of, listed, decode_of}
 use Rattle.command.specs.declared.Refusal.{Refusal}
 use Rattle.command.specs.declared.Refusal.TheVariants.{FewerThanFourBytes, InStartup, NotThisBoard, CodeNotListed, TooShort, WrongKey, WrongParameter, NotANumber}
 use Rattle.command.proofs.Laws.{none, ◌and◌, at_code, table_codes, has_a_command}
@@ -219,17 +218,17 @@ module _ (rail : ℤ) (limits : Limits) (s : List ℕ) (b : Board) where
 
   -- ---- every code of the table
   -- what the decoder refuses stands in front of the command
-  behind : (k : ℕ) (x : Bool) (r : Refusal) (d : Decoded) → Runs k d → Runs k (cond x (Refused r) d)
+  behind : (k : ℕ) (x : Bool) (r : Refusal) (d : Decoded) → Runs k d → Runs k (cond x (Err r) d)
   unfolding decoded_of
   behind k true r d p = turned_down_lem k r
   behind k false r d p = p
 
   -- a command that may be too short
-  plain : (k needed : ℕ) (d : Decoded) → Runs k d → Runs k (cond (ltb (length s) needed) (Refused TooShort) d)
+  plain : (k needed : ℕ) (d : Decoded) → Runs k d → Runs k (cond (ltb (length s) needed) (Err TooShort) d)
   plain k needed d p = behind k (ltb (length s) needed) TooShort d p
 
   -- a command that may be too short, or have a wrong key
-  keyed : (k needed key : ℕ) (d : Decoded) → Runs k d → Runs k (cond (ltb (length s) needed) (Refused TooShort) (cond (not (eqb (byte_after s) key)) (Refused WrongKey) d))
+  keyed : (k needed key : ℕ) (d : Decoded) → Runs k d → Runs k (cond (ltb (length s) needed) (Err TooShort) (cond (not (eqb (byte_after s) key)) (Err WrongKey) d))
   keyed k needed key d p = plain k needed _ (behind k (not (eqb (byte_after s) key)) WrongKey d p)
 
   -- by the table, code by code

@@ -7,6 +7,7 @@ use mathlib.Core.List.{List}
 use native.Mathlib.Omega.{arith}
 use lib.IntN.{ℤ}
 use lib.ListN.{length}
+use Rattle.std.specs.Prelude.{Ok}
 use Rattle.laws.proofs.Cases.{cases}
 use Rattle.wire.specs.Replies.{shown}
 use Rattle.wire.specs.declared.reply.Reply as reply
@@ -18,7 +19,6 @@ use Rattle.watchdog.specs.declared.Event.TheVariants.{NoEvent, PeripheralReset, 
 use Rattle.modes.specs.declared.Limits.{Limits}
 use Rattle.command.specs.Decode.{fewer_than_four, decode_of}
 use Rattle.command.specs.declared.Command.TheVariants.{SystemReset}
-use Rattle.command.specs.declared.Decoded.TheVariants.{Run}
 use Rattle.memory.specs.declared.Store.{Store}
 use Rattle.memory.specs.Limits.{timeout_of, limits_of}
 use Rattle.state.specs.Parts.{mode_of, word_count, with_form, with_reply}
@@ -48,7 +48,7 @@ use Rattle.unit.specs.Machine.{begun_of, due_by, due_after, told_of, after_line,
 
 -- a transfer that is a reset to a board of a profile, whatever its mode
 abbrev pub reset_is : Profile → List ℕ → Type 0
-reset_is p s = decode_of p.kind p.bid false s ≡ Run SystemReset
+reset_is p s = decode_of p.kind p.bid false s ≡ Ok SystemReset
 
 -- in startup no reply is made
 silent_in_startup : (rail : ℤ) (limits : Limits) (s : List ℕ) (b : Board) → is_startup (mode_of b) ≡ true → (stepped_of rail limits s b).replied ≡ false
