@@ -8,15 +8,16 @@ use mathlib.Core.Logic.{◌⊎◌, inl, inr, ⊎_elim}
 use mathlib.Core.List.{List}
 use mathlib.Core.Option.{some}
 use native.Mathlib.Omega.{arith}
+use Rattle.std.specs.Prelude.{Option, Some, None}
 use lib.IntN.{ℤ}
 use lib.ListN.{length}
 use Rattle.std.specs.Prelude.{Ok, Err}
 use Rattle.laws.proofs.Cases.{cases}
+use Rattle.modes.specs.declared.ModeAge.{ModeAge}
 use Rattle.modes.specs.Commands.{to_safety, to_nominal}
 use Rattle.modes.specs.Table.{entered}
 use Rattle.modes.specs.declared.Mode.TheVariants.{Startup}
 use Rattle.modes.specs.declared.Limits.{Limits}
-use Rattle.modes.specs.declared.ModeAnswer as change
 use Rattle.watchdog.specs.Watchdog as dog
 use Rattle.watchdog.specs.declared.Event.{Event}
 use Rattle.watchdog.specs.declared.Event.TheVariants.{NoEvent, PeripheralReset, WatchdogReset}
@@ -73,10 +74,10 @@ module _ (r : Reply) where
   unfolding switched_of refused_of accepted_of accepted_with
   switched code right channels b = either (not (is_nominal (mode_of b))) (replies NotAvailable refl refl refl) (either (not right) (replies Wrong refl refl refl) (replies Accepted refl refl refl))
 
-  switched_mode : (code : ℕ) (c : change.ModeAnswer) (b : Board) → Answers b (switched_mode_of code c b) (switched_mode_of code c (with_reply r b))
+  switched_mode : (code : ℕ) (c : Option ModeAge) (b : Board) → Answers b (switched_mode_of code c b) (switched_mode_of code c (with_reply r b))
   unfolding switched_mode_of refused_of accepted_of accepted_with
-  switched_mode code (change.ModeAnswer.Accepted phase) b = replies Accepted refl refl refl
-  switched_mode code change.ModeAnswer.Unavailable b = replies NotAvailable refl refl refl
+  switched_mode code (Some phase) b = replies Accepted refl refl refl
+  switched_mode code None b = replies NotAvailable refl refl refl
 
   reported : (code : ℕ) (layout : Layout) (b : Board) → Answers b (reported_of code layout b) (reported_of code layout (with_reply r b))
   unfolding reported_of faults_of housekeeping_of engineering_housekeeping_of abf_of battery_housekeeping_of engineering_battery_housekeeping_of parameter_answered accepted_of accepted_with

@@ -5,13 +5,14 @@ use mathlib.Core.Path.{◌≡◌, refl, sym, ap, ◌∙◌, subst}
 use mathlib.Core.Bool.{Bool, true, false, false≢true}
 use mathlib.Core.List.{List, [], ◌∷◌}
 use mathlib.Core.Option.{some}
+use Rattle.std.specs.Prelude.{Option, Some}
 use lib.Dec.{eqb}
 use lib.IntN.{ℤ}
 use Rattle.kinds.specs.Kinds.{is_in}
 use Rattle.wire.specs.Replies.{reply_of}
+use Rattle.modes.specs.declared.ModeAge.{ModeAge}
 use Rattle.modes.specs.Commands.{to_safety, to_nominal, leaves}
 use Rattle.modes.specs.declared.Limits.{Limits}
-use Rattle.modes.specs.declared.ModeAnswer as change
 use Rattle.channels.proofs.Laws as channel
 use Rattle.command.specs.Decode.{code_of}
 use Rattle.memory.specs.Memory.{load_of}
@@ -99,13 +100,13 @@ module _ (rail : ℤ) (limits : Limits) (s : List ℕ) (b : Board) where
   remembering after (save given) t p e = plainly 0x94 after refl t p (λ _. rw e (save_leaves_current given b.memory)) (λ n. both n refl) (λ r. rw e (saved b.memory r given))
 
   -- ---- the commands on the mode: 0x30
-  to_nominal_by : (after : Board) → after.timer ≡ 0 → after.memory ≡ b.memory → to_nominal b.phase rail limits ≡ change.ModeAnswer.Accepted after.phase → Obeyed 0x30 after
+  to_nominal_by : (after : Board) → after.timer ≡ 0 → after.memory ≡ b.memory → to_nominal b.phase rail limits ≡ Some after.phase → Obeyed 0x30 after
   unfolding is_in
   to_nominal_by after t m e =
       record {
         timer = t;
         phase = λ n _. both n refl;
-        nominal = λ _. sym (ap (λ (x : change.ModeAnswer). leaves x b.phase) e);
+        nominal = λ _. sym (ap (λ (x : Option ModeAge). leaves x b.phase) e);
         safety = λ e. both refl e;
         current = λ _ _. ap (λ (x : Memory). x.current) m;
         store = λ _. ap (λ (x : Memory). x.store) m;
@@ -114,14 +115,14 @@ module _ (rail : ℤ) (limits : Limits) (s : List ℕ) (b : Board) where
       }
 
   -- 0x32
-  to_safety_by : (after : Board) → after.timer ≡ 0 → after.memory ≡ b.memory → to_safety b.phase ≡ change.ModeAnswer.Accepted after.phase → Obeyed 0x32 after
+  to_safety_by : (after : Board) → after.timer ≡ 0 → after.memory ≡ b.memory → to_safety b.phase ≡ Some after.phase → Obeyed 0x32 after
   unfolding is_in
   to_safety_by after t m e =
       record {
         timer = t;
         phase = λ n _. both n refl;
         nominal = λ e. both refl e;
-        safety = λ _. sym (ap (λ (x : change.ModeAnswer). leaves x b.phase) e);
+        safety = λ _. sym (ap (λ (x : Option ModeAge). leaves x b.phase) e);
         current = λ _ _. ap (λ (x : Memory). x.current) m;
         store = λ _. ap (λ (x : Memory). x.store) m;
         range = λ r. subst InRange (sym m) r;

@@ -4,6 +4,7 @@ use Prim.Native.Nat.{ℕ}
 use mathlib.Core.Path.{◌≡◌, refl}
 use mathlib.Core.Bool.{Bool, true, false, cond, false≢true}
 use mathlib.Core.List.{List}
+use Rattle.std.specs.Prelude.{Option, Some, None}
 use lib.IntN.{ℤ}
 use Rattle.std.specs.Prelude.{Ok, Err}
 use Rattle.laws.proofs.Cases.{cases}
@@ -13,7 +14,6 @@ use Rattle.modes.specs.declared.Mode.{Mode}
 use Rattle.modes.specs.declared.Mode.TheVariants.{Startup, Nominal, Safety, Emergency}
 use Rattle.modes.specs.declared.ModeAge.{ModeAge}
 use Rattle.modes.specs.declared.Limits.{Limits}
-use Rattle.modes.specs.declared.ModeAnswer as change
 use Rattle.channels.specs.declared.Channels.{Channels}
 use Rattle.channels.proofs.Laws as of-channels
 use Rattle.power.specs.Machine as small
@@ -50,9 +50,9 @@ abbrev pub Stays : Board → Board → Type 0
 Stays b c = Becomes b.phase b.channels c
 
 -- a change of mode that was asked for, with what it brings for the channels; where it is not available they stay
-abbrev pub Changes : change.ModeAnswer → Board → Board → Type 0
-Changes (change.ModeAnswer.Accepted next) b c = Becomes next (entering_of (mode_of b) next.mode b.profile b.channels) c
-Changes change.ModeAnswer.Unavailable b c = Stays b c
+abbrev pub Changes : Option ModeAge → Board → Board → Type 0
+Changes (Some next) b c = Becomes next (entering_of (mode_of b) next.mode b.profile b.channels) c
+Changes None b c = Stays b c
 
 -- the channels after a command on them
 abbrev pub obeying : of-channels.Command → Board → Channels
@@ -141,10 +141,10 @@ module _ (rail : ℤ) (limits : Limits) (b : Board) where
       (λ e. rw e (refuses a (refused Answer.NotAvailable code)))
 
   -- the two on the mode
-  switched_mode : (code : ℕ) (c : change.ModeAnswer) → Changes c b (switched_mode_of code c b).board
+  switched_mode : (code : ℕ) (c : Option ModeAge) → Changes c b (switched_mode_of code c b).board
   unfolding switched_mode_of accepted_of accepted_with
-  switched_mode code (change.ModeAnswer.Accepted next) = record { phase = refl; channels = refl }
-  switched_mode code change.ModeAnswer.Unavailable = refused Answer.NotAvailable code
+  switched_mode code (Some next) = record { phase = refl; channels = refl }
+  switched_mode code None = refused Answer.NotAvailable code
 
   -- 0x50 and 0x52 forget that the words are new
   measured : (reply : Reply) (m : Measured) → Stays b (accepted_with reply (with_measured m b)).board

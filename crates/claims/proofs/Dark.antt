@@ -3,13 +3,14 @@ use Prim.Native.Nat.{ℕ, ◌<◌}
 use mathlib.Core.Path.{◌≡◌, refl, ap, ◌∙◌}
 use mathlib.Core.Bool.{Bool, true, false, cond, and-false, false≢true}
 use mathlib.Core.List.{List}
+use Rattle.std.specs.Prelude.{Option, Some, None}
 use lib.IntN.{ℤ}
+use Rattle.modes.specs.declared.ModeAge.{ModeAge}
 use Rattle.modes.specs.Table.{step_of, older_of}
 use Rattle.modes.specs.Commands.{to_safety, to_nominal}
 use Rattle.modes.specs.declared.Mode.{Mode}
 use Rattle.modes.specs.declared.Mode.TheVariants.{Nominal}
 use Rattle.modes.specs.declared.Limits.{Limits}
-use Rattle.modes.specs.declared.ModeAnswer as change
 use Rattle.channels.specs.Sets.{has}
 use Rattle.channels.specs.Chan.{Chan, chan}
 use Rattle.channels.specs.Operations.{off_and_latch_kept, overcurrent_one, command_enabled}
@@ -52,9 +53,9 @@ module _ (k : ℕ) (h : k < 32) where
   stays b c q w = rw (q.phase, q.channels) w
 
   -- a change of mode that leads into the dark turns every channel off
-  changed : (x : change.ModeAnswer) (b c : Board) → Changes x b c → OffInTheDark k b → OffInTheDark k c
-  changed (change.ModeAnswer.Accepted next) b c q w = rw (q.phase, q.channels) (λ d. entering_off (mode_of b) next.mode b.profile b.channels d)
-  changed change.ModeAnswer.Unavailable b c q w = stays b c q w
+  changed : (x : Option ModeAge) (b c : Board) → Changes x b c → OffInTheDark k b → OffInTheDark k c
+  changed (Some next) b c q w = rw (q.phase, q.channels) (λ d. entering_off (mode_of b) next.mode b.profile b.channels d)
+  changed None b c q w = stays b c q w
 
   -- 0x04 turns no channel on
   still_off : (enabled : Bool) (x : Chan) → x.on ≡ false → (cond enabled (off_and_latch_kept x) x).on ≡ false

@@ -5,6 +5,8 @@ use mathlib.Core.Bool.{Bool, true, false, cond, not, ◌&&◌, ◌||◌, false�
 use mathlib.Core.List.{List, [], ◌∷◌, ◌++◌, map}
 use mathlib.Core.Option.{Option, some}
 use native.Mathlib.Omega.{arith}
+use Rattle.std.specs.Prelude as prelude
+use Rattle.std.specs.Prelude.{Some, None}
 use lib.Dec.{eqb, ltb}
 use lib.IntN.{ℤ}
 use lib.ListN.{length, get_or}
@@ -14,12 +16,12 @@ use Rattle.kinds.specs.Kinds.{board_of, is_in}
 use Rattle.wire.specs.Numbers.{bytes_of}
 use Rattle.wire.specs.Replies.{shown, reply_of, room, laid_out, reply_code}
 use Rattle.wire.proofs.Room.{shown_reply_of}
+use Rattle.modes.specs.declared.ModeAge.{ModeAge}
 use Rattle.modes.specs.Table.{◌at_least◌, entered}
 use Rattle.modes.specs.Commands.{to_safety, to_nominal_from, to_nominal}
 use Rattle.modes.specs.declared.Mode.{Mode}
 use Rattle.modes.specs.declared.Mode.TheVariants.{Startup, Nominal, Safety, Emergency}
 use Rattle.modes.specs.declared.Limits.{Limits}
-use Rattle.modes.specs.declared.ModeAnswer as change
 use Rattle.channels.specs.declared.Channels.{Channels}
 use Rattle.channels.specs.Chan.{chan}
 use Rattle.command.specs.Table as commands
@@ -102,10 +104,10 @@ module _ (code : ℕ) where
   unfolding switched_of
   switched right channels b = either (not (is_nominal (mode_of b))) (refused _ b) (either (not right) (refused _ b) (accepted _))
 
-  switched_mode : (x : change.ModeAnswer) (b : Board) → Coded (switched_mode_of code x b)
+  switched_mode : (x : prelude.Option ModeAge) (b : Board) → Coded (switched_mode_of code x b)
   unfolding switched_mode_of
-  switched_mode (change.ModeAnswer.Accepted phase) b = accepted _
-  switched_mode change.ModeAnswer.Unavailable b = refused _ b
+  switched_mode (Some phase) b = accepted _
+  switched_mode None b = refused _ b
 
   reported : (layout : Layout) (b : Board) → Coded (reported_of code layout b)
   unfolding reported_of faults_of housekeeping_of engineering_housekeeping_of abf_of battery_housekeeping_of engineering_battery_housekeeping_of parameter_answered accepted_with faults_reply housekeeping_reply parameter_reply abf_reply battery_reply laid_out bytes_of
@@ -234,7 +236,7 @@ module _ (rail : ℤ) (limits : Limits) (s : List ℕ) (b : Board) where
   moved Nominal h e = h
   moved Safety h e = low (rail at_least limits.safety_low) e
     where
-      low : (x : Bool) → Nominal_if_0 (switched_mode_of 0x30 (cond x (change.ModeAnswer.Accepted (entered Nominal)) change.ModeAnswer.Unavailable) b)
+      low : (x : Bool) → Nominal_if_0 (switched_mode_of 0x30 (cond x (Some (entered Nominal)) None) b)
       low true e = refl
       low false e = absurd (not_0 5 e)
   moved Emergency h e = absurd (not_0 5 e)

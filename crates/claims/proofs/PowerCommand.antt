@@ -4,6 +4,7 @@ use Prim.Native.Nat.{ℕ}
 use mathlib.Core.Path.{◌≡◌, refl, sym, ap, ◌∙◌}
 use mathlib.Core.Bool.{true, false, cond, false≢true}
 use mathlib.Core.Logic.{◌⊎◌, inl, inr, ⊎_elim}
+use Rattle.std.specs.Prelude.{Option, Some, None}
 use lib.IntN.{ℤ}
 use Rattle.std.specs.Prelude.{Ok}
 use Rattle.laws.proofs.Cases.{cases}
@@ -13,7 +14,6 @@ use Rattle.modes.specs.declared.Mode.{Mode}
 use Rattle.modes.specs.declared.Mode.TheVariants.{Startup, Nominal, Safety, Emergency}
 use Rattle.modes.specs.declared.ModeAge.{ModeAge}
 use Rattle.modes.specs.declared.Limits.{Limits}
-use Rattle.modes.specs.declared.ModeAnswer as change
 use Rattle.channels.specs.Sets.{has}
 use Rattle.channels.specs.Chan.{Chan, chan}
 use Rattle.channels.specs.Operations.{on_and_cleared, off_and_latch_kept, all_off, forced_on, command_enabled_off}
@@ -106,9 +106,9 @@ module _ (p : Profile) (k : ℕ) (fe : ForceEnabledBy p k) (s : Channels) where
 -- ---- 0x30 and 0x32 lead from a lit mode to a lit one, if anywhere
 module _ (s : ModeAge) where
   -- where a change is accepted, the mode was lit and is lit
-  abbrev pub BothLit : change.ModeAnswer → Type 0
-  BothLit (change.ModeAnswer.Accepted next) = (small.is_lit s.mode ≡ true) × (small.is_lit next.mode ≡ true)
-  BothLit change.ModeAnswer.Unavailable = Unit {0}
+  abbrev pub BothLit : Option ModeAge → Type 0
+  BothLit (Some next) = (small.is_lit s.mode ≡ true) × (small.is_lit next.mode ≡ true)
+  BothLit None = Unit {0}
 
   -- 0x32 is accepted in nominal and safety alone
   safety_lit : (m : Mode) → s.mode ≡ m → BothLit (to_safety_from m s)
@@ -135,9 +135,9 @@ module _ (s : ModeAge) where
   to_nominal_lit rail limits = nominal_lit s.mode rail limits refl
 
   -- so neither command leads into the dark or out of it
-  pub stays_lit : (x : change.ModeAnswer) → BothLit x → small.is_lit (leaves x s).mode ≡ small.is_lit s.mode
-  stays_lit (change.ModeAnswer.Accepted next) lit = lit.1 ∙ sym lit.0
-  stays_lit change.ModeAnswer.Unavailable lit = refl
+  pub stays_lit : (x : Option ModeAge) → BothLit x → small.is_lit (leaves x s).mode ≡ small.is_lit s.mode
+  stays_lit (Some next) lit = lit.1 ∙ sym lit.0
+  stays_lit None lit = refl
 
 -- ---- the step at channel k
 module _ (k : ℕ) (b : Board) (fe : ForceEnabledBy b.profile k) where
@@ -165,9 +165,9 @@ module _ (k : ℕ) (b : Board) (fe : ForceEnabledBy b.profile k) where
   stays c q = moved b.phase b.channels c q refl
 
   -- a change between lit modes leaves the channel
-  changed : (x : change.ModeAnswer) (c : Board) → BothLit b.phase x → Changes x b c → Moved k (leaves x b.phase) b c
-  changed (change.ModeAnswer.Accepted next) c lit q = moved next _ c q (entering b.profile k fe b.channels (mode_of b) next.mode ∙ rw (lit.0, lit.1))
-  changed change.ModeAnswer.Unavailable c lit q = stays c q
+  changed : (x : Option ModeAge) (c : Board) → BothLit b.phase x → Changes x b c → Moved k (leaves x b.phase) b c
+  changed (Some next) c lit q = moved next _ c q (entering b.profile k fe b.channels (mode_of b) next.mode ∙ rw (lit.0, lit.1))
+  changed None c lit q = stays c q
 
   -- the law of the command step, at channel k
   pub at_channel : (rail : ℤ) (limits : Limits) (d : Decoded) (ask : small.Command) (c : Commanded) → Does rail limits d ask b c → DoesAt k rail limits d ask b c

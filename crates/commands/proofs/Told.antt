@@ -7,11 +7,12 @@ use mathlib.Core.Bool.{Bool, true, false, cond, not}
 use mathlib.Core.List.{List}
 use mathlib.Core.Option.{Option, some}
 use native.Mathlib.Omega.{arith}
+use Rattle.std.specs.Prelude as prelude
+use Rattle.std.specs.Prelude.{Some, None, Ok, Err}
 use lib.IntN.{ℤ}
-use Rattle.std.specs.Prelude.{Ok, Err}
+use Rattle.modes.specs.declared.ModeAge.{ModeAge}
 use Rattle.modes.specs.Commands.{to_safety, to_nominal}
 use Rattle.modes.specs.declared.Limits.{Limits}
-use Rattle.modes.specs.declared.ModeAnswer as change
 use Rattle.channels.specs.declared.Channels.{Channels}
 use Rattle.command.specs.Checks.{first}
 use Rattle.command.specs.Decode.{Decoded, code_of}
@@ -65,10 +66,10 @@ module _ (code : ℕ) (b : Board) where
   unfolding switched_of accepted_of accepted_with
   switched right channels = either (not (is_nominal (mode_of b))) not_available_lem (either (not right) wrong (accepted refl refl))
 
-  switched_mode : (c : change.ModeAnswer) → Result code b (switched_mode_of code c b)
+  switched_mode : (c : prelude.Option ModeAge) → Result code b (switched_mode_of code c b)
   unfolding switched_mode_of accepted_of accepted_with
-  switched_mode (change.ModeAnswer.Accepted phase) = accepted refl refl
-  switched_mode change.ModeAnswer.Unavailable = not_available_lem
+  switched_mode (Some phase) = accepted refl refl
+  switched_mode None = not_available_lem
 
   reported : (layout : Layout) → Result code b (reported_of code layout b)
   unfolding reported_of faults_of housekeeping_of engineering_housekeeping_of abf_of battery_housekeeping_of engineering_battery_housekeeping_of parameter_answered accepted_of accepted_with

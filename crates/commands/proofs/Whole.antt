@@ -3,11 +3,12 @@ use Prim.Native.Nat.{ℕ}
 use mathlib.Core.Path.{◌≡◌, refl, ap, sym, ◌∙◌}
 use mathlib.Core.Bool.{Bool, true, false, cond}
 use mathlib.Core.List.{List}
+use Rattle.std.specs.Prelude.{Option, Some, None}
 use lib.IntN.{ℤ}
 use Rattle.std.specs.Prelude.{Ok, Err}
 use Rattle.laws.proofs.Cases.{cases}
+use Rattle.modes.specs.declared.ModeAge.{ModeAge}
 use Rattle.modes.specs.declared.Limits.{Limits}
-use Rattle.modes.specs.declared.ModeAnswer as change
 use Rattle.modes.specs.Commands.{to_safety, to_nominal}
 use Rattle.channels.specs.declared.Channels.{Channels}
 use Rattle.command.specs.Decode.{Decoded, code_of}
@@ -74,10 +75,10 @@ module _ (code : ℕ) (b : Board) where
   unfolding switched_of reply_to accepted_of accepted_with refused_of
   switched right channels = cases (is_nominal (mode_of b)) (λ n. cases right (λ r. rw (n, r)) (λ r. rw (n, r))) (λ n. rw n)
 
-  changed : (to : change.ModeAnswer) → shortly (obeyed_in (switched_mode_of 0 to b)) ≡ switched_mode_of code to b
+  changed : (to : Option ModeAge) → shortly (obeyed_in (switched_mode_of 0 to b)) ≡ switched_mode_of code to b
   unfolding switched_mode_of reply_to accepted_of accepted_with refused_of
-  changed (change.ModeAnswer.Accepted phase) = refl
-  changed change.ModeAnswer.Unavailable = refl
+  changed (Some phase) = refl
+  changed None = refl
 
   saved : (given : ℕ) → whole code (asked.Run (Command.SaveConfiguration given)) (obeyed_in (saved_in 0 given b)) b ≡ saved_in code given b
   unfolding saved_in saved_of remembered_of reply_to accepted_of accepted_with refused_of

@@ -3,11 +3,10 @@
 -- answers that too; the step takes an effect only where no check applies, so there those rows are not reached. `code`
 -- is the command's code, from which the reply's is made; the last argument is the board as the command finds it.
 -- Assumes nothing: these are definitions.
-use Rattle.std.specs.Prelude.{ℕ, Bool, true, false, cond, not, ℤ}
+use Rattle.std.specs.Prelude.{ℕ, Bool, true, false, cond, not, ℤ, Option, Some, None}
 use Rattle.wire.specs.Replies.{reply_of}
-use Rattle.modes.specs.{Commands.to_safety, Commands.to_nominal, declared.Mode.Mode, declared.Limits.Limits}
+use Rattle.modes.specs.{Commands.to_safety, Commands.to_nominal, declared.Mode.Mode, declared.ModeAge.ModeAge, declared.Limits.Limits}
 use Rattle.modes.specs.declared.Mode.TheVariants.{Startup, Nominal, Safety, Emergency}
-use Rattle.modes.specs.declared.ModeAnswer as switch
 use Rattle.kinds.specs.Kinds.{board_of}
 use Rattle.channels.specs.Operations.{group_on, group_off, group_state, switch_on, switch_off, command_enabled_off, wrong_to_switch_on, wrong_to_switch_off}
 use Rattle.channels.specs.declared.Channels.{Channels}
@@ -62,10 +61,10 @@ cancelled_of code b = accepted_of code (with_channels (command_enabled_off b.pro
 
 -- ---- 0x30 and 0x32: the mode that the command leads to, with what the change brings for the channels; 6 where it is
 -- not available
-unfoldable pub switched_mode_of : ℕ → switch.ModeAnswer → Board → Commanded
-switched_mode_of code (switch.ModeAnswer.Accepted phase) b =
+unfoldable pub switched_mode_of : ℕ → Option ModeAge → Board → Commanded
+switched_mode_of code (Some phase) b =
     accepted_of code (with_phase phase (with_channels (entering_of (mode_of b) phase.mode b.profile b.channels) b))
-switched_mode_of code switch.ModeAnswer.Unavailable b = refused_of NotAvailable code b
+switched_mode_of code None b = refused_of NotAvailable code b
 
 -- ---- 0x42: the sets of channels, and how often each one tripped
 unfoldable pub faults_of : ℕ → Board → Commanded

@@ -52,15 +52,15 @@ pub fn only_fed(b: Board, answer: Answer) -> Obeyed
 }
 
 // 0x30 and 0x32: the mode, and with it the channels, where the change is available.
-fn switched_mode(b: Board, asked: modes::ModeAnswer) -> Obeyed
+fn switched_mode(b: Board, asked: Option<ModeAge>) -> Obeyed
     ensures { result ≡ obeyed_in (switched_mode_of any_code asked b) }
 {
     match asked {
-        modes::ModeAnswer::Accepted(phase) => {
+        Some(phase) => {
             let channels = change::entering(b.phase.mode(), phase.mode(), b.profile, b.channels);
             accepted(b, phase, channels)
         }
-        modes::ModeAnswer::Unavailable => only_fed(b, Answer::NotAvailable),
+        None => only_fed(b, Answer::NotAvailable),
     }
 }
 

@@ -5,6 +5,7 @@ use mathlib.Core.Path.{◌≡◌, refl, sym, subst}
 use mathlib.Core.Bool.{Bool, true, false, cond, not}
 use mathlib.Core.List.{List, [], ◌∷◌}
 use mathlib.Core.Option.{some}
+use Rattle.std.specs.Prelude.{Some}
 use lib.Dec.{eqb, ltb}
 use lib.IntN.{ℤ}
 use lib.ListN.{length}
@@ -24,7 +25,6 @@ use Rattle.modes.specs.Commands.{to_safety_from, to_safety, to_nominal_from, to_
 use Rattle.modes.specs.declared.Mode.{Mode}
 use Rattle.modes.specs.declared.Mode.TheVariants.{Startup, Nominal, Safety, Emergency}
 use Rattle.modes.specs.declared.ModeAge.{ModeAge}
-use Rattle.modes.specs.declared.ModeAnswer as change
 use Rattle.modes.specs.declared.Limits.{Limits}
 use Rattle.channels.specs.declared.Channels.{Channels}
 use Rattle.channels.proofs.Laws as channel
@@ -71,10 +71,10 @@ module _ (rail : ℤ) (limits : Limits) (s : List ℕ) (b : Board) where
 
   -- a mode, with the channels that it brings
   pub data Enters : ℕ → ModeAge → Channels → Type 0 where
-    in_nominal : to_nominal b.phase rail limits ≡ change.ModeAnswer.Accepted b.phase → Enters 0x30 b.phase b.channels
-    into_nominal : to_nominal b.phase rail limits ≡ change.ModeAnswer.Accepted (entered Nominal) → Enters 0x30 (entered Nominal) b.channels
-    in_safety : same (mode_of b) Nominal ≡ false → to_safety b.phase ≡ change.ModeAnswer.Accepted b.phase → Enters 0x32 b.phase b.channels
-    into_safety : same (mode_of b) Nominal ≡ true → to_safety b.phase ≡ change.ModeAnswer.Accepted (entered Safety) → Enters 0x32 (entered Safety) (operated channel.turn_command_enabled_off)
+    in_nominal : to_nominal b.phase rail limits ≡ Some b.phase → Enters 0x30 b.phase b.channels
+    into_nominal : to_nominal b.phase rail limits ≡ Some (entered Nominal) → Enters 0x30 (entered Nominal) b.channels
+    in_safety : same (mode_of b) Nominal ≡ false → to_safety b.phase ≡ Some b.phase → Enters 0x32 b.phase b.channels
+    into_safety : same (mode_of b) Nominal ≡ true → to_safety b.phase ≡ Some (entered Safety) → Enters 0x32 (entered Safety) (operated channel.turn_command_enabled_off)
 
   -- another memory
   pub data Remembers : ℕ → Memory → Type 0 where

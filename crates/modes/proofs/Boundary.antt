@@ -8,8 +8,7 @@ use Rattle.modes.specs.declared.Mode.{Mode}
 use Rattle.modes.specs.declared.Mode.TheVariants.{Startup, Nominal, Safety, Emergency}
 use Rattle.modes.specs.declared.ModeAge.{ModeAge}
 use Rattle.modes.specs.declared.Limits.{Limits}
-use Rattle.modes.specs.declared.ModeAnswer.{ModeAnswer}
-use Rattle.modes.specs.declared.ModeAnswer.TheVariants.{Accepted, Unavailable}
+use Rattle.std.specs.Prelude.{Option, Some, None}
 use Rattle.modes.specs.Table.{step_of}
 use Rattle.modes.specs.Commands.{to_nominal}
 
@@ -99,13 +98,13 @@ unfolding expected stepped cases step_of
 each_case = refl
 
 -- 0x30 in safety: at safety low, below it, and at a threshold that no rail reaches
-abbrev asked : ℤ → Limits → ModeAnswer
+abbrev asked : ℤ → Limits → Option ModeAge
 asked z l = to_nominal (record { mode = Safety; age = 7 }) z l
 
-abbrev nominal : ModeAnswer
-nominal = Accepted (record { mode = Nominal; age = 0 })
+abbrev nominal : Option ModeAge
+nominal = Some (record { mode = Nominal; age = 0 })
 
 pub asked_at_the_edge : (asked (+ 6500) usual ∷ asked (+ 6499) usual ∷ asked (− 1) usual ∷ asked (+ 32767) (at (+ 40000)) ∷ asked (− 32768) (at (− 32768)) ∷ [])
-    ≡ (nominal ∷ Unavailable ∷ Unavailable ∷ Unavailable ∷ nominal ∷ [])
+    ≡ (nominal ∷ None ∷ None ∷ None ∷ nominal ∷ [])
 unfolding to_nominal
 asked_at_the_edge = refl

@@ -1,6 +1,6 @@
 -- What follows from the table and the commands: by what each mode is left and for which, one change at most, and that
 -- the mode and its age change together. Assumes nothing.
-use mathlib.Core.Path.{◌≡◌, refl, ap, ◌∙◌}
+use mathlib.Core.Path.{◌≡◌, refl, ap}
 use mathlib.Core.Bool.{Bool, true, false, not, cond, ◌&&◌, ◌||◌, or-true}
 use mathlib.Core.List.{List, [], ◌∷◌}
 use Prim.Native.Nat.{◌+◌, ◌-◌, ◌^◌, ◌≤◌, ◌<◌}
@@ -13,10 +13,8 @@ use Rattle.modes.specs.declared.Mode.{Mode}
 use Rattle.modes.specs.declared.Mode.TheVariants.{Startup, Nominal, Safety, Emergency}
 use Rattle.modes.specs.declared.ModeAge.{ModeAge}
 use Rattle.modes.specs.declared.Limits.{Limits}
-use Rattle.modes.specs.declared.ModeAnswer.{ModeAnswer}
-use Rattle.modes.specs.declared.ModeAnswer.TheVariants.{Accepted, Unavailable}
 use Rattle.modes.specs.Table.{◌reaches◌, ◌exceeds◌, ◌at_least◌, ◌above◌, ◌below◌, ◌aged◌, entered, Row, from◌when◌to◌, ◌if◌else◌, mode_table, number, same, first, step_of, older_of}
-use Rattle.modes.specs.Commands.{to_safety_from, to_safety, to_nominal_from, to_nominal, mode_number, safety_unavailable, nominal_unavailable, leaves}
+use Rattle.modes.specs.Commands.{to_safety_from, to_safety, to_nominal_from, to_nominal, mode_number, leaves}
 
 -- ---- what each mode is left by, and for which
 module _ (s : ModeAge) (rail : ℤ) (limits : Limits) where
@@ -176,19 +174,6 @@ pub to_nominal_unavailable : (s : ModeAge) (rail : ℤ) (limits : Limits)
     → eqb (mode_number (to_nominal s rail limits)) 6 ≡ (same Startup s.mode || same Emergency s.mode || (same Safety s.mode && not (rail at_least limits.safety_low)))
 unfolding to_nominal
 to_nominal_unavailable s rail limits = to_nominal_answers s.mode s rail limits
-
--- and the answer of a command has that number
-six : (c : ModeAnswer) → mode_number c ≡ cond (eqb (mode_number c) 6) 6 0
-six (Accepted s) = refl
-six Unavailable = refl
-
-pub to_safety_number : {r : ModeAnswer} (s : ModeAge) → r ≡ to_safety s → (r ≡ to_safety s) × (mode_number r ≡ cond (safety_unavailable s.mode) 6 0)
-to_safety_number s e = (e, ap mode_number e ∙ six (to_safety s) ∙ ap (λ (b : Bool). cond b 6 0) (to_safety_unavailable s))
-
-pub to_nominal_number : {r : ModeAnswer} (s : ModeAge) (rail : ℤ) (limits : Limits) → r ≡ to_nominal s rail limits
-    → (r ≡ to_nominal s rail limits) × (mode_number r ≡ cond (nominal_unavailable s.mode rail limits) 6 0)
-to_nominal_number s rail limits e =
-    (e, ap mode_number e ∙ six (to_nominal s rail limits) ∙ ap (λ (b : Bool). cond b 6 0) (to_nominal_unavailable s rail limits))
 
 -- ---- the age rises by one below the top, where it stops
 pub older_rises : (s : ModeAge) → s.age < 2 ^ 64 - 1 → (older_of s).age ≡ s.age + 1

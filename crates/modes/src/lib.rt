@@ -3,11 +3,11 @@
 #![tactic(auto)]
 
 ghost use Rattle.std.specs.Prelude.{◌≡◌, cond};
-ghost use Rattle.modes.specs.Table.{◌at_least◌, ◌above◌, ◌below◌, entered, older_of, step_of};
+ghost use Rattle.modes.specs.Table.{entered, older_of, step_of};
 ghost use Rattle.modes.specs.Commands.{to_safety, to_nominal, mode_number, safety_unavailable, nominal_unavailable};
 ghost use Rattle.modes.specs.declared.Mode.TheVariants.{Startup};
 
-#[derive(Clone, Copy)]
+#[derive(Clone, Copy, PartialEq, Eq)]
 pub enum Mode {
     Startup,
     Nominal,
@@ -35,35 +35,7 @@ pub struct Limits {
     pub emergency_high: i32,
 }
 
-// What a commanded change answers: the mode and age that it leaves, or that it is not available in this mode.
-#[derive(Clone, Copy)]
-pub enum ModeAnswer {
-    Accepted(ModeAge),
-    Unavailable,
-}
-
 const STARTUP_TICKS: u64 = 50;
-
-// Whether the rail is at or above a threshold, both with their sign.
-fn at_least(rail: i16, millivolts: i32) -> bool
-    ensures { result ≡ (rail at_least millivolts) }
-{
-    (rail as i64) >= (millivolts as i64)
-}
-
-// Whether the rail is above a threshold, both with their sign.
-fn above(rail: i16, millivolts: i32) -> bool
-    ensures { result ≡ (rail above millivolts) }
-{
-    (rail as i64) > (millivolts as i64)
-}
-
-// Whether the rail is below a threshold, both with their sign.
-fn below(rail: i16, millivolts: i32) -> bool
-    ensures { result ≡ (rail below millivolts) }
-{
-    (rail as i64) < (millivolts as i64)
-}
 
 // A mode as it is when it is entered.
 fn enter(mode: Mode) -> ModeAge
@@ -94,8 +66,9 @@ impl ModeAge {
         self.age
     }
 
-    // The same mode and age. They are put together anew, since a copy of the whole would carry along the bytes that lie
-    // unused behind the mode, and that is slow.
+    // The same mode and age.
+    // Kept: put together anew and not copied, since a copy of the whole carries along the unused bytes behind the mode,
+    // and that is slow.
     pub fn kept(self) -> ModeAge
         ensures { result ≡ self }
     {
@@ -107,96 +80,60 @@ impl ModeAge {
     }
 
     // The same mode, one tick older; the age stops at the top.
+    #[tactic(auto, unfolding(crate::specs::Table::older_of))]
     pub fn older(self) -> ModeAge
         ensures { result ≡ older_of self }
     {
-        let mode = self.mode;
-        if self.age < 18446744073709551615 {
-            ModeAge {
-                age: self.age + 1,
-                mode,
-            }
-        } else {
-            self
+        ModeAge {
+            age: self.age.saturating_add(1),
+            mode: self.mode,
         }
     }
 
     // The mode after the tick's automatic change, of which there is one at most: what the first row of the table that
     // applies says.
+    #[tactic(auto, unfolding(crate::specs::Table::step_of))]
     pub fn step(self, rail: i16, limits: Limits) -> ModeAge
         ensures { result ≡ step_of self rail limits }
     {
-        let mode = self.mode;
-        match mode {
-            Mode::Startup => {
-                if self.age >= STARTUP_TICKS {
-                    if at_least(rail, limits.safety_low) {
-                        return enter(Mode::Nominal);
-                    }
-                    return enter(Mode::Safety);
-                }
-                self
-            }
-            Mode::Nominal => {
-                if below(rail, limits.safety_low) {
-                    return enter(Mode::Safety);
-                }
-                self
-            }
-            Mode::Safety => {
-                if self.age > limits.linger {
-                    if above(rail, limits.safety_high) {
-                        return enter(Mode::Nominal);
-                    }
-                    if below(rail, limits.emergency_low) {
-                        return enter(Mode::Emergency);
-                    }
-                }
-                self
-            }
-            Mode::Emergency => {
-                if above(rail, limits.emergency_high) {
-                    return enter(Mode::Safety);
-                }
-                if self.age >= limits.period {
-                    return enter(Mode::Safety);
-                }
-                self
-            }
+        use Mode::{Emergency, Nominal, Safety, Startup};
+        let rail = i32::from(rail);
+        match self.mode {
+            Startup if self.age >= STARTUP_TICKS && rail >= limits.safety_low => enter(Nominal),
+            Startup if self.age >= STARTUP_TICKS => enter(Safety),
+            Nominal if rail < limits.safety_low => enter(Safety),
+            Safety if self.age > limits.linger && rail > limits.safety_high => enter(Nominal),
+            Safety if self.age > limits.linger && rail < limits.emergency_low => enter(Emergency),
+            Emergency if rail > limits.emergency_high => enter(Safety),
+            Emergency if self.age >= limits.period => enter(Safety),
+            Startup | Nominal | Safety | Emergency => self,
         }
     }
 
     // 0x32: nominal is left for safety, safety stays as it is, and elsewhere the command is not available.
-    pub fn to_safety(self) -> ModeAnswer
+    #[tactic(auto, unfolding(crate::specs::Commands::to_safety))]
+    pub fn to_safety(self) -> Option<ModeAge>
         ensures value { result ≡ to_safety self }
         ensures number { mode_number result ≡ cond (safety_unavailable self.mode) 6 0 }
     {
-        let mode = self.mode;
-        match mode {
-            Mode::Startup => ModeAnswer::Unavailable,
-            Mode::Nominal => ModeAnswer::Accepted(enter(Mode::Safety)),
-            Mode::Safety => ModeAnswer::Accepted(self),
-            Mode::Emergency => ModeAnswer::Unavailable,
+        match self.mode {
+            Mode::Nominal => Some(enter(Mode::Safety)),
+            Mode::Safety => Some(self),
+            Mode::Startup | Mode::Emergency => None,
         }
     }
 
     // 0x30: nominal stays as it is, safety is left for nominal where the rail is not below safety low, and elsewhere
     // the command is not available.
-    pub fn to_nominal(self, rail: i16, limits: Limits) -> ModeAnswer
+    #[tactic(auto, unfolding(crate::specs::Commands::to_nominal))]
+    pub fn to_nominal(self, rail: i16, limits: Limits) -> Option<ModeAge>
         ensures value { result ≡ to_nominal self rail limits }
         ensures number { mode_number result ≡ cond (nominal_unavailable self.mode rail limits) 6 0 }
     {
-        let mode = self.mode;
-        match mode {
-            Mode::Startup => ModeAnswer::Unavailable,
-            Mode::Nominal => ModeAnswer::Accepted(self),
-            Mode::Safety => {
-                if at_least(rail, limits.safety_low) {
-                    return ModeAnswer::Accepted(enter(Mode::Nominal));
-                }
-                ModeAnswer::Unavailable
-            }
-            Mode::Emergency => ModeAnswer::Unavailable,
+        match self.mode {
+            Mode::Nominal => Some(self),
+            Mode::Safety if i32::from(rail) >= limits.safety_low => Some(enter(Mode::Nominal)),
+            Mode::Startup | Mode::Safety | Mode::Emergency => None,
         }
     }
 }
