@@ -3,7 +3,7 @@
 use Rattle.std.specs.Prelude.{ℕ, Bool, true, false}
 use Rattle.wire.specs.{Replies.reply_of, declared.reply.Reply.Reply}
 use Rattle.kinds.specs.{Kinds.board_of, declared.Kind.Kind}
-use Rattle.memory.specs.{Memory.load_of, Memory.defaulted_of, Memory.set_in, Memory.reset_in, Memory.saved_of, declared.Memory.Memory}
+use Rattle.memory.specs.{Memory.load_of, Memory.defaulted_of, Memory.set_in, Memory.reset_in, Memory.saved_of, Memory.after_save, declared.Memory.Memory}
 use Rattle.replies.specs.Layouts.{short_reply, faults_reply, housekeeping_reply, parameter_reply, abf_reply, battery_reply}
 use Rattle.state.specs.{Parts.words_of, Parts.in_units_of, Parts.packs_told_of, declared.parts.Board.Board}
 use Rattle.answers.specs.{Answers.header_of, Answers.new, Answers.stat_of, Parameters.value_read, declared.Outcome.Outcome}
@@ -20,7 +20,7 @@ memory_after kind (Set id v) m = set_in id v m
 memory_after kind (ResetOne id) m = reset_in kind id m
 memory_after kind Defaults m = defaulted_of kind m
 memory_after kind Load m = load_of kind m
-memory_after kind (Save given) m = (saved_of given m).memory
+memory_after kind (Save given) m = (after_save (saved_of given m) m)
 memory_after kind Restart m = m
 
 abbrev pub alters : MemoryChange → Bool

@@ -159,10 +159,7 @@ pub fn memory_after(kind: Kind, m: Memory, change: MemoryChange) -> Memory
         MemoryChange::ResetOne(id) => m.reset_one(kind, id),
         MemoryChange::Defaults => m.to_defaults(kind),
         MemoryChange::Load => m.load(kind),
-        MemoryChange::Save(checksum) => {
-            let s = m.save(checksum);
-            s.memory
-        }
+        MemoryChange::Save(checksum) => m.save(checksum).unwrap_or(m),
         MemoryChange::Restart => m,
     }
 }

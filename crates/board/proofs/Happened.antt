@@ -8,7 +8,7 @@ use mathlib.Core.Logic.{◌⊎◌, inl, inr, ⊎_elim}
 use mathlib.Core.List.{List}
 use mathlib.Core.Option.{some}
 use native.Mathlib.Omega.{arith}
-use Rattle.std.specs.Prelude.{Option, Some, None}
+use Rattle.std.specs.Prelude.{is_err, Option, Some, None}
 use lib.IntN.{ℤ}
 use lib.ListN.{length}
 use Rattle.std.specs.Prelude.{Ok, Err}
@@ -104,7 +104,7 @@ module _ (r : Reply) where
   run rail limits code (Command.ResetParameter id) b = replies Accepted refl refl refl
   run rail limits code Command.ResetConfiguration b = replies Accepted refl refl refl
   run rail limits code Command.LoadConfiguration b = replies Accepted refl refl refl
-  run rail limits code (Command.SaveConfiguration given) b = either (not (saved_of given b.memory).right) (replies Wrong refl refl refl) (replies Accepted refl refl refl)
+  run rail limits code (Command.SaveConfiguration given) b = either (is_err (saved_of given b.memory)) (replies Wrong refl refl refl) (replies Accepted refl refl refl)
   run rail limits code (Command.Report layout) b = reported code layout b
   run rail limits code Command.SystemReset b = record { answer = Accepted; told_so = refl; own_reply = λ e. absurd (false≢true e); form_kept = inr refl }
 

@@ -8,13 +8,13 @@ use mathlib.Core.Logic.{⊎_elim}
 use mathlib.Core.Option.{some}
 use native.Mathlib.Omega.{arith}
 use lib.ListN.{length, get_or, drop, get_or-eq_default}
+use Rattle.memory.specs.Memory.{Store}
 use Rattle.laws.proofs.Lists.{lt_or_le}
 use Rattle.wire.specs.Numbers.{number}
 use Rattle.wire.specs.Replies.{shown, reply_of}
 use Rattle.command.specs.Decode.{code_of}
 use Rattle.command.specs.declared.Header.{Header}
 use Rattle.memory.specs.Limits.{limits_of}
-use Rattle.memory.specs.declared.Store.{Store}
 use Rattle.replies.specs.Layouts.{faults_reply}
 use Rattle.replies.proofs.Positions.{shown_faults, count_at}
 use Rattle.state.specs.Start.{keeps_the_rules}

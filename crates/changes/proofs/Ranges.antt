@@ -9,6 +9,7 @@ use native.Mathlib.Decide.{ℕ_discrete}
 use lib.IntN.{ℤ, pos}
 use lib.ListN.{length, get_or}
 use lib.Seq.{set_out, get_or-set_same}
+use Rattle.std.specs.Prelude.{Some, None}
 use Rattle.laws.proofs.Cases.{cases}
 use Rattle.laws.proofs.Lists.{lt_or_le}
 use Rattle.kinds.specs.declared.Kind.{Kind}
@@ -23,9 +24,8 @@ use Rattle.settings.proofs.Places.{at, number_at}
 use Rattle.settings.proofs.Ranges.{in_fits}
 use Rattle.settings.proofs.Stores.{numbers_with, Wrote, nothing, one, set_wrote, reset_wrote, number_other}
 use Rattle.settings.proofs.Laws.{in_range_each, each_in_range, defaults_in_range}
-use Rattle.memory.specs.Memory.{loaded_from, load_of, defaulted_of, set_in, reset_in, is_right, saved_of}
+use Rattle.memory.specs.Memory.{after_save, Store, loaded_from, load_of, defaulted_of, set_in, reset_in, is_right, saved_of}
 use Rattle.memory.specs.declared.Memory.{Memory}
-use Rattle.memory.specs.declared.Store.{Store}
 use Rattle.memory.proofs.Laws.{load_of_stored, load_of_nothing}
 use Rattle.state.specs.Start.{stored_in_range}
 
@@ -66,10 +66,8 @@ pub record InRange (m : Memory) : Type 0 where
 
 -- what is loaded from a store that is in range
 pub loaded : (kind : Kind) (store : Store) → stored_in_range store ≡ true → InRange (loaded_from kind store)
-loaded kind store h =
-    cases store.held
-    (λ held. subst InRange (sym (load_of_stored kind store held)) (record { current = rw held at h; store = h }))
-    (λ empty. subst InRange (sym (load_of_nothing kind store empty)) (record { current = defaults_in_range kind; store = h }))
+loaded kind (Some s) h = subst InRange (sym (load_of_stored kind s)) (record { current = h; store = h })
+loaded kind None h = subst InRange (sym (load_of_nothing kind)) (record { current = defaults_in_range kind; store = h })
 
 module _ (m : Memory) (h : InRange m) where
   -- 0x84
@@ -93,6 +91,6 @@ module _ (m : Memory) (h : InRange m) where
   load kind = loaded kind m.store h.store
 
   -- 0x94
-  pub saved : (given : ℕ) → InRange (saved_of given m).memory
+  pub saved : (given : ℕ) → InRange (after_save (saved_of given m) m)
   unfolding saved_of
   saved given = cases (is_right given m) (λ right. rw right (record { current = h.current; store = h.current })) (λ wrong. rw wrong h)

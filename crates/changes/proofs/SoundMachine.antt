@@ -5,6 +5,7 @@ use mathlib.Core.Path.{◌≡◌, refl, sym, ◌∙◌, subst}
 use mathlib.Core.Bool.{Bool, true, false, cond, ◌&&◌, and-false}
 use mathlib.Core.List.{List, [], ◌∷◌}
 use lib.IntN.{ℤ}
+use Rattle.memory.specs.Memory.{Store}
 use Rattle.laws.proofs.Cases.{cases, both}
 use Rattle.modes.specs.declared.Mode.{Mode}
 use Rattle.modes.specs.declared.Limits.{Limits}
@@ -15,7 +16,6 @@ use Rattle.channels.specs.declared.Channels.{Channels}
 use Rattle.channels.proofs.Laws as channel
 use Rattle.command.specs.Decode.{code_of}
 use Rattle.memory.specs.Limits.{limits_of}
-use Rattle.memory.specs.declared.Store.{Store}
 use Rattle.change.specs.Change.{is_dark, from_nominal_to_safety, entering_of}
 use Rattle.kinds.specs.Kinds.{is_served}
 use Rattle.state.specs.Parts.{word_count}

@@ -2,10 +2,10 @@
 -- tick accept 0x42. In the reply that then waits, the two bytes at 14 + 2 * c, the lower first, are the number of times
 -- that step 3 turned channel c off since the machine was last reset, this tick included, as far as 65,535 reaches.
 -- Assumes nothing: these are definitions.
+use Rattle.memory.specs.Memory.{Store}
 use Rattle.std.specs.Prelude.{ℕ, ◌+◌, ◌*◌, ◌<◌, min, drop}
 use mathlib.Core.{Path.◌≡◌, Bool.true, List.List, List.[], List.◌∷◌, List.◌++◌}
 use Rattle.wire.specs.{Numbers.number, Replies.shown}
-use Rattle.memory.specs.declared.Store.{Store}
 use Rattle.state.specs.{Start.keeps_the_rules, declared.parts.Profile.Profile}
 use Rattle.unit.specs.{Machine.begun_of, declared.Machine.Machine, Runs.Sample, Runs.told, Runs.Call, Runs.tick, Runs.after}
 use Rattle.groups.specs.Counts.{times_taken_off}

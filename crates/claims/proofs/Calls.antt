@@ -6,13 +6,13 @@ use mathlib.Core.Bool.{Bool, true, false, false≢true}
 use mathlib.Core.List.{List, [], ◌∷◌}
 use lib.IntN.{ℤ}
 use lib.ListN.{length}
+use Rattle.memory.specs.Memory.{Store}
 use Rattle.laws.proofs.Cases.{cases}
 use Rattle.wire.specs.declared.forms.Form.{Form}
 use Rattle.watchdog.specs.Watchdog as dog
 use Rattle.watchdog.specs.declared.Event.{Event}
 use Rattle.watchdog.specs.declared.Event.TheVariants.{NoEvent, PeripheralReset, WatchdogReset}
 use Rattle.memory.specs.Limits.{timeout_of, limits_of}
-use Rattle.memory.specs.declared.Store.{Store}
 use Rattle.state.specs.Parts.{word_count, with_form}
 use Rattle.state.specs.Start.{fresh_of, never_reset, keeps_the_rules, start_of, watchdog_reset_of}
 use Rattle.state.specs.declared.parts.Board.{Board}

@@ -4,7 +4,7 @@ use Prim.Native.Nat.{ℕ}
 use mathlib.Core.Path.{◌≡◌, refl}
 use mathlib.Core.Bool.{Bool, true, false, cond, false≢true}
 use mathlib.Core.List.{List}
-use Rattle.std.specs.Prelude.{Option, Some, None}
+use Rattle.std.specs.Prelude.{is_err, Option, Some, None}
 use lib.IntN.{ℤ}
 use Rattle.std.specs.Prelude.{Ok, Err}
 use Rattle.laws.proofs.Cases.{cases}
@@ -21,7 +21,7 @@ use Rattle.command.specs.Decode.{Decoded, fewer_than_four, code_of, decode_of}
 use Rattle.command.specs.declared.Command.{Command}
 use Rattle.command.specs.declared.Layout.{Layout}
 use Rattle.command.specs.declared.Refusal.{Refusal}
-use Rattle.memory.specs.Memory.{saved_of}
+use Rattle.memory.specs.Memory.{after_save, saved_of}
 use Rattle.memory.specs.declared.Memory.{Memory}
 use Rattle.state.specs.Parts.{mode_of, with_memory, with_measured, with_channels}
 use Rattle.state.specs.Start.{command_reset_of}
@@ -125,7 +125,7 @@ module _ (rail : ℤ) (limits : Limits) (b : Board) where
   -- a save stores the settings, or is refused for its checksum
   saved : (code given : ℕ) → Stays b (saved_in code given b).board
   unfolding saved_in remembered_of accepted_of
-  saved code given = cases (saved_of given b.memory).right (λ e. rw e (remembers _ (saved_of given b.memory).memory)) (λ e. rw e (refused Answer.Wrong code))
+  saved code given = cases (is_err (saved_of given b.memory)) (λ e. rw e (refused Answer.Wrong code)) (λ e. rw e (remembers _ (after_save (saved_of given b.memory) b.memory)))
 
   -- accepted, with these channels put in place
   takes : (code : ℕ) (s : Channels) → Becomes b.phase s (accepted_of code (with_channels s b)).board

@@ -3,6 +3,7 @@ use Prim.Native.Nat.{ℕ, ◌<◌}
 use mathlib.Core.Path.{◌≡◌, refl, ap, ◌∙◌}
 use mathlib.Core.Bool.{Bool, true, false, cond, and-false, false≢true}
 use mathlib.Core.List.{List}
+use Rattle.memory.specs.Memory.{Store}
 use Rattle.std.specs.Prelude.{Option, Some, None}
 use lib.IntN.{ℤ}
 use Rattle.modes.specs.declared.ModeAge.{ModeAge}
@@ -18,7 +19,6 @@ use Rattle.channels.specs.declared.Channels.{Channels}
 use Rattle.channels.proofs.Laws as of-channels
 use Rattle.power.specs.Machine as small
 use Rattle.memory.specs.Limits.{limits_of}
-use Rattle.memory.specs.declared.Store.{Store}
 use Rattle.state.specs.Parts.{mode_of, word_count}
 use Rattle.state.specs.Start.{fresh_of, never_reset, command_reset_of, watchdog_reset_of}
 use Rattle.change.specs.Change.{is_dark, entering_of}

@@ -6,7 +6,7 @@ use mathlib.Core.List.{List, [], ◌∷◌, ◌++◌, map}
 use mathlib.Core.Option.{Option, some}
 use native.Mathlib.Omega.{arith}
 use Rattle.std.specs.Prelude as prelude
-use Rattle.std.specs.Prelude.{Some, None}
+use Rattle.std.specs.Prelude.{is_err, Some, None}
 use lib.Dec.{eqb, ltb}
 use lib.IntN.{ℤ}
 use lib.ListN.{length, get_or}
@@ -134,7 +134,7 @@ module _ (code : ℕ) where
   run rail limits (Command.ResetParameter id) b = coded (byte_2 _ _ _ _)
   run rail limits Command.ResetConfiguration b = accepted _
   run rail limits Command.LoadConfiguration b = accepted _
-  run rail limits (Command.SaveConfiguration given) b = either (not (saved_of given b.memory).right) (refused _ b) (accepted _)
+  run rail limits (Command.SaveConfiguration given) b = either (is_err (saved_of given b.memory)) (refused _ b) (accepted _)
   run rail limits (Command.Report layout) b = reported layout b
   run rail limits Command.SystemReset b = silent refl
 

@@ -7,6 +7,7 @@ use mathlib.Core.List.{List}
 use mathlib.Core.Logic.{⊎_elim}
 use lib.IntN.{ℤ}
 use lib.ListN.{length}
+use Rattle.memory.specs.Memory.{Store}
 use Rattle.laws.proofs.Cases.{cases}
 use Rattle.modes.specs.Table.{◌aged◌, same, step_of, older_of}
 use Rattle.modes.specs.Commands.{to_safety, to_nominal, leaves}
@@ -24,7 +25,6 @@ use Rattle.power.specs.Machine as small
 use Rattle.power.specs.Machine.{is_lit}
 use Rattle.command.specs.Decode.{Decoded, decode_of}
 use Rattle.memory.specs.Limits.{limits_of}
-use Rattle.memory.specs.declared.Store.{Store}
 use Rattle.state.specs.Parts.{mode_of, word_count}
 use Rattle.state.specs.Start.{fresh_of, command_reset_of, watchdog_reset_of}
 use Rattle.state.specs.declared.parts.Board.{Board}

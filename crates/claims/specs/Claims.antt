@@ -1,9 +1,9 @@
 -- All that is claimed of the machine, on one page. Each field is a claim, which its own file states with its premises;
 -- where a claim is about one transfer, one tick or one machine, it is claimed of all of them. docs/CLAIMS.md has each
 -- in words. Assumes nothing: this is what is claimed, and `claims` in the proofs/ of this crate is its one proof.
+use Rattle.memory.specs.Memory.{Store}
 use Rattle.std.specs.Prelude.{ℕ, List, ℤ}
 use Rattle.modes.specs.declared.Limits.{Limits}
-use Rattle.memory.specs.declared.Store.{Store}
 use Rattle.state.specs.{declared.parts.Board.Board, declared.parts.Profile.Profile}
 use Rattle.unit.specs.{declared.Machine.Machine, Runs.Sample, Runs.Reached}
 use Rattle.refusals.specs.{Conditions.ExactlyWhen, Refused.RefusedCommand, RefusedTicks.RefusedTick, Untouched.OtherRefusals, Rules.BaseBoard, Rules.BatteryBoard}

@@ -13,7 +13,7 @@ use Rattle.modes.specs.declared.Mode.TheVariants.{Nominal, Safety}
 use Rattle.channels.specs.{Chan.chan, Operations.overcurrent_at, Counting.count_all, declared.Channels.Channels}
 use Rattle.kinds.specs.Kinds.{is_in}
 use Rattle.command.specs.Decode.{code_of}
-use Rattle.memory.specs.{Limits.limits_of, Memory.empty_store, declared.Store.Store}
+use Rattle.memory.specs.{Limits.limits_of, Memory.empty_store, Memory.Store}
 use Rattle.state.specs.Parts.{distribution_board, word_count, mode_of, with_phase, with_channels, with_reply}
 use Rattle.state.specs.{Start.keeps_the_rules, declared.parts.Board.Board, declared.parts.Profile.Profile}
 use Rattle.answers.specs.Answers.{answer_number, told_number, short_to, silent_of, not_this_board_of, refused_of}

@@ -8,7 +8,7 @@ use mathlib.Core.List.{List}
 use mathlib.Core.Option.{Option, some}
 use native.Mathlib.Omega.{arith}
 use Rattle.std.specs.Prelude as prelude
-use Rattle.std.specs.Prelude.{Some, None, Ok, Err}
+use Rattle.std.specs.Prelude.{is_err, Some, None, Ok, Err}
 use lib.IntN.{ℤ}
 use Rattle.modes.specs.declared.ModeAge.{ModeAge}
 use Rattle.modes.specs.Commands.{to_safety, to_nominal}
@@ -96,7 +96,7 @@ module _ (code : ℕ) (b : Board) where
   run rail limits (Command.ResetParameter id) = accepted refl refl
   run rail limits Command.ResetConfiguration = accepted refl refl
   run rail limits Command.LoadConfiguration = accepted refl refl
-  run rail limits (Command.SaveConfiguration given) = either (not (saved_of given b.memory).right) wrong (accepted refl refl)
+  run rail limits (Command.SaveConfiguration given) = either (is_err (saved_of given b.memory)) wrong (accepted refl refl)
   run rail limits Command.SystemReset = accepted refl refl
   run rail limits (Command.Report layout) = reported layout
 

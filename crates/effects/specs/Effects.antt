@@ -3,7 +3,7 @@
 -- answers that too; the step takes an effect only where no check applies, so there those rows are not reached. `code`
 -- is the command's code, from which the reply's is made; the last argument is the board as the command finds it.
 -- Assumes nothing: these are definitions.
-use Rattle.std.specs.Prelude.{ℕ, Bool, true, false, cond, not, ℤ, Option, Some, None}
+use Rattle.std.specs.Prelude.{is_err, ℕ, Bool, true, false, cond, not, ℤ, Option, Some, None}
 use Rattle.wire.specs.Replies.{reply_of}
 use Rattle.modes.specs.{Commands.to_safety, Commands.to_nominal, declared.Mode.Mode, declared.ModeAge.ModeAge, declared.Limits.Limits}
 use Rattle.modes.specs.declared.Mode.TheVariants.{Startup, Nominal, Safety, Emergency}
@@ -11,7 +11,7 @@ use Rattle.kinds.specs.Kinds.{board_of}
 use Rattle.channels.specs.Operations.{group_on, group_off, group_state, switch_on, switch_off, command_enabled_off, wrong_to_switch_on, wrong_to_switch_off}
 use Rattle.channels.specs.declared.Channels.{Channels}
 use Rattle.command.specs.{declared.Group.Group, declared.Command.Command, declared.Layout.Layout}
-use Rattle.memory.specs.{Memory.load_of, Memory.defaulted_of, Memory.set_in, Memory.reset_in, Memory.saved_of, declared.Memory.Memory}
+use Rattle.memory.specs.{Memory.load_of, Memory.defaulted_of, Memory.set_in, Memory.reset_in, Memory.saved_of, Memory.after_save, declared.Memory.Memory}
 use Rattle.replies.specs.Layouts.{faults_reply, housekeeping_reply, parameter_reply, abf_reply, battery_reply}
 use Rattle.state.specs.{Parts.mode_of, Parts.words_of, Parts.in_units_of, Parts.packs_told_of, Parts.with_phase, Parts.with_memory, Parts.with_channels, Parts.with_measured, Start.command_reset_of}
 use Rattle.state.specs.{declared.parts.Board.Board, declared.parts.Measured.Measured}
@@ -134,8 +134,8 @@ remembered_of code memory b = accepted_of code (with_memory memory b)
 -- ---- 0x94 save: a checksum that is neither 0 nor right is 7
 unfoldable pub saved_in : ℕ → ℕ → Board → Commanded
 saved_in code given b =
-    cond (not (saved_of given b.memory).right) (refused_of Wrong code b)
-    (remembered_of code (saved_of given b.memory).memory b)
+    cond (is_err (saved_of given b.memory)) (refused_of Wrong code b)
+    (remembered_of code (after_save (saved_of given b.memory) b.memory) b)
 
 -- ---- 0xAA: a reset, which leaves no reply
 unfoldable pub restarted_of : Board → Commanded

@@ -14,6 +14,7 @@ mod switching;
 use answers::{Answer, Outcome};
 use channels::Channels;
 use command::{Command, Layout};
+use memory::SaveRefusal;
 use modes::{Limits, ModeAge};
 pub use parts::{MemoryChange, Obeyed};
 use state::{Board, Fresh};
@@ -86,11 +87,10 @@ fn engineering_housekeeping(b: Board) -> Obeyed
 fn saved(b: Board, checksum: u16) -> Obeyed
     ensures { result ≡ obeyed_in (saved_in any_code checksum b) }
 {
-    let s = b.memory.save(checksum);
-    if !s.right {
-        return only_fed(b, Answer::Wrong);
+    match b.memory.save(checksum) {
+        Ok(_) => only_fed(b, Answer::Accepted),
+        Err(SaveRefusal::WrongChecksum) => only_fed(b, Answer::Wrong),
     }
-    only_fed(b, Answer::Accepted)
 }
 
 // 0xAA: as a board is that starts over, with no reply.

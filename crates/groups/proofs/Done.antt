@@ -5,7 +5,7 @@ use mathlib.Core.Path.{◌≡◌, refl, sym, subst}
 use mathlib.Core.Bool.{Bool, true, false, cond, not}
 use mathlib.Core.List.{List, [], ◌∷◌}
 use mathlib.Core.Option.{some}
-use Rattle.std.specs.Prelude.{Some}
+use Rattle.std.specs.Prelude.{is_err, Some}
 use lib.Dec.{eqb, ltb}
 use lib.IntN.{ℤ}
 use lib.ListN.{length}
@@ -33,7 +33,7 @@ use Rattle.command.specs.Decode.{Decoded, fewer_than_four, header_is, code_of, b
 use Rattle.command.specs.declared.Refusal.{Refusal}
 use Rattle.command.specs.declared.Refusal.TheVariants.{FewerThanFourBytes, InStartup, NotThisBoard, CodeNotListed, TooShort, WrongKey, WrongParameter, NotANumber}
 use Rattle.command.proofs.Laws.{none, ◌and◌, at_code, table_codes, has_a_command}
-use Rattle.memory.specs.Memory.{load_of, defaulted_of, set_in, reset_in, saved_of}
+use Rattle.memory.specs.Memory.{after_save, load_of, defaulted_of, set_in, reset_in, saved_of}
 use Rattle.memory.specs.declared.Memory.{Memory}
 use Rattle.replies.specs.Layouts.{faults_reply}
 use Rattle.state.specs.Parts.{mode_of, with_phase, with_reply, with_memory, with_channels, with_measured}
@@ -82,7 +82,7 @@ module _ (rail : ℤ) (limits : Limits) (s : List ℕ) (b : Board) where
     reset_one : (id : ℕ) → Remembers 0x86 (reset_in b.profile.kind id b.memory)
     defaults : Remembers 0x90 (defaulted_of b.profile.kind b.memory)
     load : Remembers 0x92 (load_of b.profile.kind b.memory)
-    save : (given : ℕ) → Remembers 0x94 (saved_of given b.memory).memory
+    save : (given : ℕ) → Remembers 0x94 (after_save (saved_of given b.memory) b.memory)
 
   -- ---- the board that an accepted command of a code leaves, with some reply and the timer at 0, or by a reset
   pub data Done : ℕ → Board → Type 0 where
@@ -182,7 +182,7 @@ module _ (rail : ℤ) (limits : Limits) (s : List ℕ) (b : Board) where
   -- 0x94, which refuses a wrong checksum
   saved : (given : ℕ) → Does 0x94 (saved_in 0x94 given b)
   unfolding saved_in
-  saved given = either 0x94 (not (saved_of given b.memory).right) (wrong 0x94) (remembered (save given))
+  saved given = either 0x94 (is_err (saved_of given b.memory)) (wrong 0x94) (remembered (save given))
 
   -- ---- by what a code carries
   abbrev Runs : ℕ → Decoded → Type 0

@@ -7,6 +7,7 @@ use mathlib.Core.List.{List, [], ◌∷◌}
 use native.Mathlib.Omega.{arith}
 use lib.IntN.{ℤ}
 use lib.ListN.{length}
+use Rattle.memory.specs.Memory.{Store}
 use Rattle.laws.proofs.Cases.{cases}
 use Rattle.modes.specs.declared.Mode.{Mode}
 use Rattle.modes.specs.declared.Limits.{Limits}
@@ -22,7 +23,6 @@ use Rattle.watchdog.specs.Watchdog as dog
 use Rattle.watchdog.specs.declared.Event.{Event}
 use Rattle.watchdog.specs.declared.Event.TheVariants.{NoEvent, PeripheralReset, WatchdogReset}
 use Rattle.memory.specs.Limits.{timeout_of, limits_of}
-use Rattle.memory.specs.declared.Store.{Store}
 use Rattle.change.specs.Change.{is_dark, from_nominal_to_safety, entering_of}
 use Rattle.state.specs.Parts.{word_count}
 use Rattle.state.specs.Start.{fresh_of, watchdog_reset_of, keeps_the_rules, start_of}

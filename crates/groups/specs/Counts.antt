@@ -2,10 +2,10 @@
 -- channel then says how often step 3 turned it off since the machine was last reset, as far as 65,535 reaches. A tick
 -- refused with 9 did not happen and counts nothing, nor does a read of the text line. `m` is the machine before the
 -- call, `bit` of true is 1 and of false 0. Assumes nothing: these are definitions.
+use Rattle.memory.specs.Memory.{Store}
 use Rattle.std.specs.Prelude.{ℕ, ◌+◌, ◌<◌, min, List, [], ◌∷◌, get_or}
 use mathlib.Core.{Path.◌≡◌, Bool.Bool, Bool.true, Bool.false, Bool.not, Bool.◌&&◌, Bool.◌||◌}
 use Rattle.channels.specs.Sets.{has, bit}
-use Rattle.memory.specs.declared.Store.{Store}
 use Rattle.state.specs.{Parts.word_count, Start.keeps_the_rules, declared.parts.Profile.Profile}
 use Rattle.unit.specs.{Machine.begun_of, declared.Machine.Machine}
 use Rattle.unit.specs.Runs.{Sample, Call, tick, line, after_call, after, happens, after_step2}

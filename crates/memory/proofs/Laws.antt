@@ -2,6 +2,7 @@
 -- settings in range stay in range. Assumes nothing.
 use mathlib.Core.Path.{◌≡◌, refl, sym, ap, ◌∙◌, subst}
 use mathlib.Core.Bool.{Bool, true, false, ◌||◌}
+use Rattle.std.specs.Prelude.{Some, None, Result, Ok, Err, IfSome, IsSomeAnd}
 use mathlib.Core.Logic.{◌⊎◌, inl, inr}
 use Prim.Native.Nat.{ℕ, ◌+◌, ◌≤◌, ◌<◌}
 use native.Mathlib.Omega.{arith}
@@ -13,7 +14,6 @@ use mir.Syntax.{w32}
 use mir.Val.{to_z}
 use mir.ValLaws.{to_z_pos}
 use Rattle.kinds.specs.declared.Kind.{Kind}
-use Rattle.kinds.specs.declared.Kind.TheVariants.{Distribution}
 use Rattle.value.specs.declared.ParamValue.{ParamValue}
 use Rattle.settings.specs.declared.Settings.{Settings}
 use Rattle.settings.specs.Values.{setting_of, defaults_of, in_range_of}
@@ -23,11 +23,12 @@ use Rattle.settings.proofs.Laws as of-settings
 use Rattle.image.specs.Image.{settings_checksum}
 use Rattle.modes.specs.declared.Limits.{Limits}
 use Rattle.watchdog.specs.Watchdog.{seconds_in_ticks}
-use Rattle.memory.specs.declared.Store.{Store}
+use Rattle.memory.specs.declared.Stored.{Stored}
 use Rattle.memory.specs.declared.Memory.{Memory}
-use Rattle.memory.specs.declared.Saved.{Saved}
+use Rattle.memory.specs.declared.SaveRefusal.{SaveRefusal}
+use Rattle.memory.specs.declared.SaveRefusal.TheVariants.{WrongChecksum}
 use Rattle.memory.specs.Limits.{safety_low, safety_high, emergency_low, emergency_high, emergency_period, linger, limits_of}
-use Rattle.memory.specs.Memory.{one_more, empty_store, showing, showing_nothing, with_defaults, with_stored, loaded_from, load_of, defaulted_of, set_in, reset_in, is_right, stored_count, storing, saved_of}
+use Rattle.memory.specs.Memory.{Store, one_more, empty_store, showing, showing_nothing, with_defaults, with_stored, loaded_from, load_of, defaulted_of, set_in, reset_in, is_right, stored_count, storing, saved_of, after_save}
 
 -- ---- what the mode table and the watchdog read
 -- the value of a 16-bit id
@@ -68,24 +69,18 @@ unfolding one_more stored_count empty_store
 count_starts = refl
 
 -- ---- a load
-pub load_of_nothing : (kind : Kind) (store : Store) → store.held ≡ false → loaded_from kind store ≡ with_defaults kind store
+pub load_of_nothing : (kind : Kind) → loaded_from kind None ≡ with_defaults kind None
 unfolding loaded_from
-load_of_nothing kind store e = rw e
+load_of_nothing kind = refl
 
-pub load_of_stored : (kind : Kind) (store : Store) → store.held ≡ true → loaded_from kind store ≡ with_stored store
+pub load_of_stored : (kind : Kind) (s : Stored) → loaded_from kind (Some s) ≡ with_stored s
 unfolding loaded_from
-load_of_stored kind store e = rw e
-
--- what holds of the defaults and of what is stored holds of what is loaded
-loaded_by : (kind : Kind) (P : Memory → Type 0) (store : Store) → (store.held ≡ true → P (with_stored store)) → (store.held ≡ false → P (with_defaults kind store)) → P (loaded_from kind store)
-loaded_by kind P store s d = go store.held refl
-  where
-    go : (b : Bool) → store.held ≡ b → P (loaded_from kind store)
-    go true e = subst P (sym (load_of_stored kind store e)) (s e)
-    go false e = subst P (sym (load_of_nothing kind store e)) (d e)
+load_of_stored kind s = refl
 
 pub load_leaves_store : (kind : Kind) (store : Store) → (loaded_from kind store).store ≡ store
-load_leaves_store kind store = loaded_by kind (λ m. m.store ≡ store) store (λ e. refl) (λ e. refl)
+unfolding loaded_from
+load_leaves_store kind None = refl
+load_leaves_store kind (Some s) = refl
 
 -- a second load changes nothing more
 pub load_twice : (kind : Kind) (m : Memory) → load_of kind (load_of kind m) ≡ load_of kind m
@@ -148,38 +143,43 @@ module _ (given : ℕ) (m : Memory) where
 
   -- ---- a save
   -- a right checksum stores the settings in force, with a count one above the stored one
-  pub right_stores : is_right given m ≡ true → saved_of given m ≡ record { memory = storing (one_more (stored_count m.store)) m.current; right = true }
+  pub right_stores : is_right given m ≡ true → saved_of given m ≡ Ok (storing (one_more (stored_count m.store)) m.current)
   unfolding saved_of
   right_stores h = rw h
 
-  -- a wrong one leaves the memory as it was
-  pub wrong_leaves : is_right given m ≡ false → saved_of given m ≡ record { memory = m; right = false }
+  -- a wrong one is refused, and leaves the memory as it was
+  pub wrong_refused : is_right given m ≡ false → saved_of given m ≡ Err WrongChecksum
   unfolding saved_of
-  wrong_leaves h = rw h
+  wrong_refused h = rw h
+
+  pub wrong_leaves : is_right given m ≡ false → after_save (saved_of given m) m ≡ m
+  wrong_leaves h = rw (wrong_refused h)
 
   -- what holds of the memory and of one that stores its settings holds after a save
-  saved_by : (P : Memory → Type 0) → P (storing (one_more (stored_count m.store)) m.current) → P m → P (saved_of given m).memory
+  saved_by : (P : Memory → Type 0) → P (storing (one_more (stored_count m.store)) m.current) → P m → P (after_save (saved_of given m) m)
   saved_by P s k = go (is_right given m) refl
     where
-      go : (b : Bool) → is_right given m ≡ b → P (saved_of given m).memory
-      go true e = subst (λ (r : Saved). P r.memory) (sym (right_stores e)) s
-      go false e = subst (λ (r : Saved). P r.memory) (sym (wrong_leaves e)) k
+      go : (b : Bool) → is_right given m ≡ b → P (after_save (saved_of given m) m)
+      go true e = subst (λ (r : Result Memory SaveRefusal). P (after_save r m)) (sym (right_stores e)) s
+      go false e = subst (λ (r : Result Memory SaveRefusal). P (after_save r m)) (sym (wrong_refused e)) k
 
   -- the settings in force stay, whatever the checksum
-  pub save_leaves_current : (saved_of given m).memory.current ≡ m.current
+  pub save_leaves_current : (after_save (saved_of given m) m).current ≡ m.current
   save_leaves_current = saved_by (λ k. k.current ≡ m.current) refl refl
 
   -- what a save stores, a load brings back: the settings, the store and what is shown
-  pub save_comes_back : (kind : Kind) → is_right given m ≡ true → load_of kind (saved_of given m).memory ≡ (saved_of given m).memory
+  pub save_comes_back : (kind : Kind) → is_right given m ≡ true → load_of kind (after_save (saved_of given m) m) ≡ after_save (saved_of given m) m
   unfolding load_of loaded_from
   save_comes_back kind h = rw (right_stores h)
 
 -- ---- what is shown is 0 and 0, or the count and the checksum of what is stored
 abbrev pub Shows : Memory → Type 0
-Shows m = (m.shown ≡ showing_nothing) ⊎ ((m.store.held ≡ true) × (m.shown ≡ showing m.store.save_count m.store.settings))
+Shows m = (m.shown ≡ showing_nothing) ⊎ IsSomeAnd m.store (λ s. m.shown ≡ showing s.save_count s.settings)
 
 pub loaded_shows : (kind : Kind) (store : Store) → Shows (loaded_from kind store)
-loaded_shows kind store = loaded_by kind Shows store (λ e. inr (e, refl)) (λ e. inl refl)
+unfolding loaded_from
+loaded_shows kind None = inl refl
+loaded_shows kind (Some s) = inr refl
 
 pub load_shows : (kind : Kind) (m : Memory) → Shows (load_of kind m)
 unfolding load_of
@@ -196,8 +196,8 @@ pub reset_shows : (kind : Kind) (m : Memory) (id : ℕ) → Shows m → Shows (r
 unfolding reset_in
 reset_shows kind m id h = h
 
-pub save_shows : (given : ℕ) (m : Memory) → Shows m → Shows (saved_of given m).memory
-save_shows given m h = saved_by given m Shows (inr (refl, refl)) h
+pub save_shows : (given : ℕ) (m : Memory) → Shows m → Shows (after_save (saved_of given m) m)
+save_shows given m h = saved_by given m Shows (inr refl) h
 
 -- ---- settings in range stay in range
 -- every array has its length and every value lies in its range
@@ -210,7 +210,7 @@ defaults_ranged kind = record { sized = of-settings.defaults_sized kind; in_rang
 
 -- of a store that holds something, and of a memory
 abbrev pub StoreRanged : Store → Type 0
-StoreRanged store = store.held ≡ true → Ranged store.settings
+StoreRanged store = IfSome store (λ s. Ranged s.settings)
 
 pub record MemoryRanged (m : Memory) : Type 0 where
   pub of_current : Ranged m.current
@@ -218,11 +218,12 @@ pub record MemoryRanged (m : Memory) : Type 0 where
 
 pub empty_ranged : StoreRanged empty_store
 unfolding empty_store
-empty_ranged e = defaults_ranged Distribution
+empty_ranged = tt
 
 pub loaded_ranged : (kind : Kind) (store : Store) → StoreRanged store → MemoryRanged (loaded_from kind store)
-loaded_ranged kind store h =
-    loaded_by kind MemoryRanged store (λ e. record { of_current = h e; of_store = h }) (λ e. record { of_current = defaults_ranged kind; of_store = h })
+unfolding loaded_from
+loaded_ranged kind None h = record { of_current = defaults_ranged kind; of_store = h }
+loaded_ranged kind (Some s) h = record { of_current = h; of_store = h }
 
 module _ (m : Memory) (h : MemoryRanged m) where
   pub load_ranged : (kind : Kind) → MemoryRanged (load_of kind m)
@@ -253,5 +254,5 @@ module _ (m : Memory) (h : MemoryRanged m) where
         of_store = h.of_store;
       }
 
-  pub save_ranged : (given : ℕ) → MemoryRanged (saved_of given m).memory
-  save_ranged given = saved_by given m MemoryRanged (record { of_current = h.of_current; of_store = λ e. h.of_current }) h
+  pub save_ranged : (given : ℕ) → MemoryRanged (after_save (saved_of given m) m)
+  save_ranged given = saved_by given m MemoryRanged (record { of_current = h.of_current; of_store = h.of_current }) h

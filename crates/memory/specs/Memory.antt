@@ -1,21 +1,25 @@
 -- What a board keeps of its settings: those in force, what it shows of the last save or load, and its store.
 -- `cond b x y` is x where b holds, else y; a record with each field given is a whole value. Assumes nothing: these are
 -- definitions.
-use Rattle.std.specs.Prelude.{ℕ, ◌+◌, min, Bool, true, false, cond, ◌||◌, eqb}
+use Rattle.std.specs.Prelude.{ℕ, ◌+◌, min, Bool, cond, ◌||◌, eqb, Option, Some, None, Result, Ok, Err}
 use Rattle.kinds.specs.declared.Kind.{Kind}
-use Rattle.kinds.specs.declared.Kind.TheVariants.{Distribution}
 use Rattle.value.specs.declared.ParamValue.{ParamValue}
 use Rattle.settings.specs.{declared.Settings.Settings, Values.defaults_of, Values.set_of, Values.reset_of}
 use Rattle.image.specs.Image.{settings_checksum}
-use Rattle.memory.specs.{declared.Shown.Shown, declared.Store.Store, declared.Memory.Memory, declared.Saved.Saved}
+use Rattle.memory.specs.{declared.Shown.Shown, declared.Stored.Stored, declared.Memory.Memory, declared.SaveRefusal.SaveRefusal}
+use Rattle.memory.specs.declared.SaveRefusal.TheVariants.{WrongChecksum}
 
 -- a count of 16 bits, one higher; it stays at its top
 unfoldable pub one_more : ℕ → ℕ
 one_more count = min (count + 1) 65535
 
--- nothing is stored; what stands in the other two fields is not looked at
+-- a store: nothing, or settings with their save count
+abbrev pub Store : Type 0
+Store = Option Stored
+
+-- nothing is stored
 unfoldable pub empty_store : Store
-empty_store = record { settings = defaults_of Distribution; save_count = 0; held = false }
+empty_store = None
 
 -- ---- the settings of the store, or the defaults of the kind of board
 
@@ -30,12 +34,13 @@ showing_nothing = record { save_count = 0; checksum = 0 }
 abbrev pub with_defaults : Kind → Store → Memory
 with_defaults kind store = record { current = defaults_of kind; store = store; shown = showing_nothing }
 
-abbrev pub with_stored : Store → Memory
-with_stored store = record { current = store.settings; store = store; shown = showing store.save_count store.settings }
+abbrev pub with_stored : Stored → Memory
+with_stored s = record { current = s.settings; store = Some s; shown = showing s.save_count s.settings }
 
 -- what is stored; where nothing is, the defaults
 unfoldable pub loaded_from : Kind → Store → Memory
-loaded_from kind store = cond store.held (with_stored store) (with_defaults kind store)
+loaded_from kind (Some s) = with_stored s
+loaded_from kind None = with_defaults kind None
 
 -- ---- the commands on settings
 
@@ -64,15 +69,18 @@ is_right given m = eqb given 0 || eqb given (settings_checksum m.current)
 
 -- the save count of the store, and 0 where there is none
 unfoldable pub stored_count : Store → ℕ
-stored_count store = cond store.held store.save_count 0
+stored_count (Some s) = s.save_count
+stored_count None = 0
 
 -- some settings in force, in the store and shown, with one save count
 abbrev pub storing : ℕ → Settings → Memory
-storing count s = record { current = s; store = record { settings = s; save_count = count; held = true }; shown = showing count s }
+storing count s = record { current = s; store = Some (record { settings = s; save_count = count }); shown = showing count s }
 
--- a right checksum stores the settings in force, their count one above the store's; a wrong one leaves all as it was
-unfoldable pub saved_of : ℕ → Memory → Saved
-saved_of given m =
-    cond (is_right given m)
-    (record { memory = storing (one_more (stored_count m.store)) m.current; right = true })
-    (record { memory = m; right = false })
+-- a right checksum stores the settings in force, their count one above the store's; a wrong one is refused
+unfoldable pub saved_of : ℕ → Memory → Result Memory SaveRefusal
+saved_of given m = cond (is_right given m) (Ok (storing (one_more (stored_count m.store)) m.current)) (Err WrongChecksum)
+
+-- the memory after a save: a refused one leaves all as it was
+abbrev pub after_save : Result Memory SaveRefusal → Memory → Memory
+after_save (Ok saved) m = saved
+after_save (Err r) m = m

@@ -1,6 +1,6 @@
 // A run: the board is brought out of startup, ticks, and is looked at after each tick and at the end.
 use channels::Channels;
-use memory::{Memory, Store};
+use memory::Memory;
 use state::{Measured, Resets};
 use unit::Machine;
 
@@ -8,7 +8,7 @@ use unit::Machine;
 // argued: an instrument; its digest is compared with the second program's
 fn started() -> Machine {
     let profile = state::naming_raw(state::distribution(1, 0xFFFFFFFF, 0x0000000F));
-    let begun = unit::start(unit::unstarted(), profile, Store::empty());
+    let begun = unit::start(unit::unstarted(), profile, None);
     begun.machine
 }
 

@@ -10,6 +10,9 @@ use lib.Dec.{T, eqb, leb}
 use lib.ListN.{length}
 use lib.Signed.{le_z, le_z_yes}
 use borrow.Author.Tests.{leb-true, le-leb, lt-leb, eqb-true, eq-eqb, ne_eqb}
+use Rattle.settings.specs.declared.Settings.{Settings}
+use Rattle.std.specs.Prelude.{Some, None, IfSome}
+use Rattle.memory.specs.Memory.{Store}
 use Rattle.laws.proofs.Cases.{cases, both}
 use Rattle.laws.proofs.Lists.{lt_or_le}
 use Rattle.kinds.specs.Kinds.{board_of, is_served}
@@ -20,7 +23,6 @@ use Rattle.settings.specs.declared.Parameter.{Parameter}
 use Rattle.settings.proofs.Laws.{in_range_each, each_in_range}
 use Rattle.channels.specs.Sets.{has, all_below, is_within}
 use Rattle.channels.proofs.Sets.{is_none, has_none, within_each, each_within}
-use Rattle.memory.specs.declared.Store.{Store}
 use Rattle.state.specs.Start.{stored_in_range, bid_in_range, any_fitted, channels_in_place, keeps_the_rules}
 use Rattle.state.specs.declared.parts.Profile.{Profile}
 use Rattle.grammar.specs.Grammar.{Read, fails, reads, times, end}
@@ -57,24 +59,32 @@ to_test : (b : Bool) → T b → b ≡ true
 to_test true t = refl
 to_test false t = absurd t
 
-each_row : (store : Store) → in_range_of store.settings ≡ true → InRange store
+each_row : (settings : Settings) → in_range_of settings ≡ true → InRange settings
 unfolding parameter_of inside_of low_of high_of
-each_row store h id type range default row =
-    let z = setting_of store.settings id in
-    let ends = both (le_z (low_end type range) z) (le_z z (high_end type range)) (rw row at (in_range_each store.settings h id type (rw row))) in
+each_row settings h id type range default row =
+    let z = setting_of settings id in
+    let ends = both (le_z (low_end type range) z) (le_z z (high_end type range)) (rw row at (in_range_each settings h id type (rw row))) in
     (le_z_yes (from_test (le_z (low_end type range) z) ends.0), le_z_yes (from_test (le_z z (high_end type range)) ends.1))
 
-rows_each : (store : Store) → InRange store → in_range_of store.settings ≡ true
+rows_each : (settings : Settings) → InRange settings → in_range_of settings ≡ true
 unfolding parameter_of inside_of low_of high_of
-rows_each store h = each_in_range store.settings (λ id type p. go id type (row_of id) refl p)
+rows_each settings h = each_in_range settings (λ id type p. go id type (row_of id) refl p)
   where
-    go : (id : ℕ) (type : ValueType) (entry : Entry) → row_of id ≡ entry → parameter_in entry ≡ Parameter.ReadWrite type → inside_of id (setting_of store.settings id) ≡ true
+    go : (id : ℕ) (type : ValueType) (entry : Entry) → row_of id ≡ entry → parameter_in entry ≡ Parameter.ReadWrite type → inside_of id (setting_of settings id) ≡ true
     go id type (read_write t range default) row p =
-        let z = setting_of store.settings id in
+        let z = setting_of settings id in
         let ends = h id t range default row in
         rw (row, to_test (le_z (low_end t range) z) ends.0.le) (to_test (le_z z (high_end t range)) ends.1.le)
     go id type (read_only t) row p = let z : ◌≡◌ {A = ℕ} 0 1 = cc in absurd (omega arith)
     go id type missing row p = let z : ◌≡◌ {A = ℕ} 0 1 = cc in absurd (omega arith)
+
+all_stored : (store : Store) → IfSome store (λ s. InRange s.settings) → stored_in_range store ≡ true
+all_stored (Some s) h = rows_each s.settings h
+all_stored None h = refl
+
+each_stored : (store : Store) → stored_in_range store ≡ true → IfSome store (λ s. InRange s.settings)
+each_stored (Some s) h = each_row s.settings h
+each_stored None h = tt
 
 -- ---- at least one is fitted where the board has a place for any, as two tests and as channels
 any_fitted_lem : (places fitted : ℕ) → ((place : ℕ) → has places place ≡ true → (c : ℕ) × (has fitted c ≡ true)) → any_fitted places fitted ≡ true
@@ -105,11 +115,7 @@ rules_kept p store k =
       each_within p.fitted places k.fitted_in_place,
       each_within p.forced p.fitted k.forced_fitted,
     )
-    (stored store.held refl)
-  where
-    stored : (b : Bool) → store.held ≡ b → cond b (in_range_of store.settings) true ≡ true
-    stored true e = rows_each store (k.stored_in_range e)
-    stored false e = refl
+    (all_stored store k.stored_in_range)
 
 pub kept_rules : (p : Profile) (store : Store) → keeps_the_rules p store ≡ true → KeepsAllRules p store
 unfolding keeps_the_rules bid_in_range channels_in_place
@@ -131,7 +137,7 @@ kept_rules p store e =
       one_fitted = fitted_any places p.fitted fitted.0;
       fitted_in_place = within_each p.fitted places fitted.1;
       forced_fitted = within_each p.forced p.fitted channels.1;
-      stored_in_range = λ held. each_row store (rw held at d.1);
+      stored_in_range = each_stored store d.1;
     }
 
 -- ---- the form

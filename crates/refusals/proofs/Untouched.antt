@@ -10,8 +10,7 @@ use lib.Dec.{eqb}
 use lib.ListN.{length}
 use borrow.Author.Tests.{eq-eqb, ne_eqb}
 use Rattle.laws.proofs.Cases.{cases}
-use Rattle.memory.specs.Memory.{empty_store}
-use Rattle.memory.specs.declared.Store.{Store}
+use Rattle.memory.specs.Memory.{Store, empty_store}
 use Rattle.state.specs.Parts.{word_count}
 use Rattle.state.specs.Start.{keeps_the_rules, start_of}
 use Rattle.state.specs.declared.parts.Profile.{Profile}

@@ -2,7 +2,7 @@
 -- that can be started; what a session sheet is made of, in the parts of the grammar of `sheet`: refusals 8 and 14 are
 -- told by these; and that the distribution board is document 01's board and the battery board that of document 02's K7.
 -- `(c : ℕ) × B` is some number c of which B holds. Assumes nothing: these are definitions and the statement of a claim.
-use Rattle.std.specs.Prelude.{ℕ, ◌+◌, ◌-◌, ◌^◌, ◌≤◌, ◌<◌}
+use Rattle.std.specs.Prelude.{ℕ, ◌+◌, ◌-◌, ◌^◌, ◌≤◌, ◌<◌, IfSome}
 use mathlib.Core.{Path.◌≡◌, Bool.Bool, Bool.true, List.List, List.[], List.◌∷◌, List.◌++◌}
 use lib.{ListN.length, Signed.◌≤ℤ◌}
 use Rattle.kinds.specs.Kinds.{board_of, is_served}
@@ -10,8 +10,8 @@ use Rattle.kinds.specs.declared.Kind.{Kind}
 use Rattle.kinds.specs.declared.Kind.TheVariants.{Distribution, Battery}
 use Rattle.value.specs.declared.ValueType.{ValueType}
 use Rattle.settings.specs.{Table.Range, Table.read_write, Table.row_of, Table.low_end, Table.high_end, Values.setting_of, Values.defaults_of, declared.Settings.Settings}
+use Rattle.memory.specs.Memory.{Store}
 use Rattle.channels.specs.Sets.{has}
-use Rattle.memory.specs.declared.Store.{Store}
 use Rattle.state.specs.declared.parts.Profile.{Profile}
 use Rattle.grammar.specs.Grammar.{reads, times}
 use Rattle.sheet.specs.Form.{Top, head, Tick, tick_line}
@@ -19,10 +19,10 @@ use Rattle.sheet.specs.Form.{Top, head, Tick, tick_line}
 -- ---- a profile, with the settings that may come with it
 -- a stored value lies in the range that its row of Table 3-25 gives; where the row gives no end, in that of its type.
 -- No row has a type that has a NaN
-abbrev pub InRange : Store → Type 0
-InRange store =
+abbrev pub InRange : Settings → Type 0
+InRange settings =
     (id : ℕ) (type : ValueType) (range : Range) (default : Kind → ℕ) → row_of id ≡ read_write type range default
-    → (low_end type range ≤ℤ setting_of store.settings id) × (setting_of store.settings id ≤ℤ high_end type range)
+    → (low_end type range ≤ℤ setting_of settings id) × (setting_of settings id ≤ℤ high_end type range)
 
 -- a kind that can be started; BID 1 to the last of its kind; the fitted channels, at least one where such a board has a
 -- place for any, and each in a place; the force-enabled ones, all fitted; stored values in range, where any are stored.
@@ -34,7 +34,7 @@ pub record KeepsAllRules (p : Profile) (store : Store) : Type 0 where
   pub one_fitted : (place : ℕ) → has (board_of p.kind).places place ≡ true → (c : ℕ) × (has p.fitted c ≡ true)
   pub fitted_in_place : (c : ℕ) → c < 32 → has p.fitted c ≡ true → has (board_of p.kind).places c ≡ true
   pub forced_fitted : (c : ℕ) → c < 32 → has p.forced c ≡ true → has p.fitted c ≡ true
-  pub stored_in_range : store.held ≡ true → InRange store
+  pub stored_in_range : IfSome store (λ s. InRange s.settings)
 
 -- ---- a sheet
 -- at most 65,536 bytes: from the first on `board`, `fitted`, `forced` and `ticks` with what each says, then as many

@@ -7,7 +7,7 @@ use Rattle.std.specs.Prelude.{ℕ, ◌<◌, length}
 use mathlib.Core.{Path.◌≡◌, Logic.◌⊎◌, List.List, Option.some}
 use Rattle.hexadecimal.specs.Hex.{laid}
 use Rattle.watchdog.specs.declared.Event.TheVariants.{NoEvent}
-use Rattle.memory.specs.{Memory.empty_store, declared.Store.Store}
+use Rattle.memory.specs.{Memory.empty_store, Memory.Store}
 use Rattle.wire.specs.declared.forms.Form.{Form}
 use Rattle.state.specs.{Parts.word_count, Parts.with_form, Start.start_number, declared.parts.Profile.Profile}
 use Rattle.reading.specs.{Answers.line_number, Given.GivenWhen, Lines.line_held, declared.Line.Line}

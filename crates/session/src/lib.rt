@@ -6,7 +6,6 @@ ghost use Rattle.std.specs.Prelude.{◌≡◌, ◌<◌, ◌≤◌};
 ghost use Rattle.transcript.specs.Transcript.{opened_number};
 ghost use Rattle.session.specs.Sessions.{no_session, ended_step, opened, stepped, started_of, opened_of, stepped_of, ticked_of, sheet_refusal};
 
-use memory::Store;
 use sheet::{Head, TickLine};
 use state::{Profile, StartAnswer, distribution, naming_raw};
 use transcript::{Answer, tick_line, ticks_line};
@@ -52,7 +51,7 @@ fn none() -> Session
 fn started(profile: Profile, ticks: u32, first: usize, out: &mut [u8]) -> Opened
     ensures { opened result out.new ≡ started_of out.old profile ticks first }
 {
-    let begun = unit::start(unit::unstarted(), profile, Store::empty());
+    let begun = unit::start(unit::unstarted(), profile, None);
     let answer = begun.answer;
     let machine = begun.machine;
     match answer {

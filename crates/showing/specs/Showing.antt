@@ -1,10 +1,10 @@
 -- The two long lines: what a tick prints, and the state. Characters are their ASCII codes: 32 is a space, 45 is `-`, 10
 -- ends a line. Assumes nothing: these are definitions.
-use Rattle.std.specs.Prelude.{ℕ, take}
+use Rattle.std.specs.Prelude.{ℕ, take, Some, None}
 use mathlib.Core.{Bool.Bool, Bool.cond, List.List, List.[], List.◌∷◌, List.◌++◌}
 use Rattle.wire.specs.declared.reply.Reply.{Reply}
 use Rattle.image.specs.Image.{image_of}
-use Rattle.memory.specs.{declared.Store.Store, declared.Memory.Memory}
+use Rattle.memory.specs.{Memory.Store, declared.Memory.Memory}
 use Rattle.modes.specs.declared.ModeAge.{ModeAge}
 use Rattle.channels.specs.declared.Channels.{Channels}
 use Rattle.watchdog.specs.declared.Event.{Event}
@@ -56,7 +56,8 @@ resets_text r = field_of 2 (cause_number r.cause) ++ field_of 4 r.power ++ field
 
 -- the stored save count, or `-`
 unfoldable pub stored_text : Store → List ℕ
-stored_text s = cond s.held (field_of 4 s.save_count) (letter_of 45)
+stored_text (Some s) = field_of 4 s.save_count
+stored_text None = letter_of 45
 
 unfoldable pub memory_text : Memory → List ℕ
 memory_text m = field_of 4 m.shown.save_count ++ field_of 4 m.shown.checksum ++ stored_text m.store ++ 32 ∷ hex_of (image_of m.current)

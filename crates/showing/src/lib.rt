@@ -8,7 +8,7 @@ ghost use Rattle.showing.specs.Showing.{letter_of, reply_text, made_text, front_
 
 use answers::Outcome;
 use channels::Channels;
-use memory::{Memory, Store};
+use memory::{Memory, Stored};
 use modes::ModeAge;
 use script::printing::{field, put, string, text, words};
 use state::{Board, Measured, Resets};
@@ -88,13 +88,13 @@ fn resets(out: &mut [u8], start: usize, r: Resets) -> usize
 }
 
 // The stored save count, where something is stored.
-fn stored(out: &mut [u8], at: usize, s: Store) -> usize
+fn stored(out: &mut [u8], at: usize, s: Option<Stored>) -> usize
     ensures { page out.new result ≡ typed (page out.old at) (stored_text s) }
 {
-    if s.held {
-        return field(out, at, s.save_count as u64, 4);
+    match s {
+        Some(s) => field(out, at, s.save_count as u64, 4),
+        None => letter(out, at, b'-'),
     }
-    letter(out, at, b'-')
 }
 
 // What the memory shows and holds.

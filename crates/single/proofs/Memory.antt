@@ -1,7 +1,6 @@
 -- What a board keeps of its settings. Assumes nothing.
 use mathlib.Core.Path.{sym, ◌∙◌}
 use Rattle.single.specs.Single.{Single}
-use Rattle.memory.proofs.Store.empty.Reads as store_empty
 use Rattle.memory.proofs.one_more.Reads as one_more
 use Rattle.memory.proofs.Memory.loaded.Reads as memory_loaded
 use Rattle.memory.proofs.Memory.load.Reads as memory_load
@@ -13,9 +12,6 @@ use Rattle.memory.proofs.Memory.safety_low.Reads as memory_safety_low
 use Rattle.memory.proofs.Memory.safety_high.Reads as memory_safety_high
 use Rattle.memory.proofs.Memory.timeout.Reads as memory_timeout
 use Rattle.memory.proofs.Memory.limits.Reads as memory_limits
-
-pub single_store_empty : Single store_empty.Post (λ κ r s. r)
-single_store_empty κ a r r' s s' p q = p ∙ sym q
 
 pub single_one_more : Single one_more.Post (λ κ r s. r)
 single_one_more κ a r r' s s' p q = p ∙ sym q

@@ -1,9 +1,9 @@
 -- What a line may ask before a machine is there, what a start is given, and what comes of it. Characters are their
 -- ASCII codes: 10 ends a line. Assumes nothing: these are definitions.
-use Rattle.std.specs.Prelude.{ℕ}
+use Rattle.std.specs.Prelude.{ℕ, Some}
 use mathlib.Core.{Bool.Bool, Bool.true, Bool.false, Bool.cond, List.List, List.[], List.◌∷◌}
 use Rattle.image.specs.Image.{settings_of}
-use Rattle.memory.specs.{Memory.empty_store, declared.Store.Store}
+use Rattle.memory.specs.{Memory.empty_store, Memory.Store}
 use Rattle.state.specs.declared.starting.StartAnswer.{StartAnswer}
 use Rattle.lines.specs.declared.Asked.{Asked}
 
@@ -19,7 +19,7 @@ allowed_of false Asked.Bad = Asked.Bad
 
 -- settings stored under a save count, or nothing
 unfoldable pub store_of : Bool → List ℕ → ℕ → Store
-store_of stored image count = cond stored (record { settings = settings_of image; save_count = count; held = true }) empty_store
+store_of stored image count = cond stored (Some (record { settings = settings_of image; save_count = count })) empty_store
 
 -- an accepted machine is on the bench; where it is refused, the start tells the one that was there
 abbrev pub is_there : StartAnswer → Bool → Bool

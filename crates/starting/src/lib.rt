@@ -6,7 +6,7 @@ ghost use Rattle.script.specs.Printing.{page, typed};
 ghost use Rattle.starting.specs.Starts.{is_there, start_text, store_of, allowed_of};
 
 use lines::Asked;
-use memory::Store;
+use memory::Stored;
 use script::printing::text;
 use state::StartAnswer;
 
@@ -33,17 +33,16 @@ pub fn allowed(started: bool, asked: Asked) -> Asked
 }
 
 // What is stored: settings under a save count, or nothing.
-pub fn store_of(stored: bool, image: &[u8], save_count: u16) -> Store
+pub fn store_of(stored: bool, image: &[u8], save_count: u16) -> Option<Stored>
     ensures { result ≡ store_of stored image.now save_count }
 {
     if stored {
-        return Store {
+        return Some(Stored {
             settings: image::read(image),
             save_count,
-            held: true,
-        };
+        });
     }
-    Store::empty()
+    None
 }
 
 // Whether a machine is there after a start.

@@ -1,7 +1,7 @@
 -- The number of a start, and that a profile which names raw is held to its own rules. Assumes nothing.
 use mathlib.Core.Bool.{Bool, true, false, cond}
 use mathlib.Core.Path.{◌≡◌, refl}
-use Rattle.memory.specs.declared.Store.{Store}
+use Rattle.memory.specs.Memory.{Store}
 use Rattle.state.specs.Parts.{naming_raw}
 use Rattle.state.specs.Start.{bid_in_range, channels_in_place, keeps_the_rules, start_of, start_number}
 use Rattle.state.specs.declared.parts.Board.{Board}

@@ -1,5 +1,5 @@
 -- A profile's start, and a reset: what each part of the board then is. Assumes nothing: these are definitions.
-use Rattle.std.specs.Prelude.{ℕ}
+use Rattle.std.specs.Prelude.{ℕ, Some, None}
 use mathlib.Core.{Bool.Bool, Bool.true, Bool.false, Bool.cond, Bool.not, Bool.◌&&◌, Bool.◌||◌, List.[]}
 use lib.{Dec.eqb, Dec.leb}
 use Rattle.kinds.specs.Kinds.{board_of, is_served}
@@ -9,7 +9,7 @@ use Rattle.modes.specs.Table.{entered}
 use Rattle.modes.specs.declared.Mode.TheVariants.{Startup}
 use Rattle.channels.specs.{Sets.is_within, Operations.cleared}
 use Rattle.settings.specs.Values.{in_range_of}
-use Rattle.memory.specs.{Memory.one_more, Memory.empty_store, Memory.loaded_from, declared.Store.Store}
+use Rattle.memory.specs.{Memory.one_more, Memory.empty_store, Memory.loaded_from, Memory.Store}
 use Rattle.state.specs.{Parts.distribution_board, declared.parts.Board.Board, declared.parts.Fresh.Fresh, declared.parts.Measured.Measured, declared.parts.Profile.Profile}
 use Rattle.state.specs.{declared.parts.Resets.Resets, declared.starting.StartAnswer.StartAnswer, declared.starting.Started.Started}
 use Rattle.state.specs.declared.parts.Cause.TheVariants.{PowerOn, Watchdog, Commanded}
@@ -58,7 +58,8 @@ never_reset = record { power = 0; watchdog = 0; command = 0; cause = PowerOn }
 
 -- the values that are stored, if any are, lie in range; none can be a NaN, as no parameter is a float
 abbrev pub stored_in_range : Store → Bool
-stored_in_range store = cond store.held (in_range_of store.settings) true
+stored_in_range (Some s) = in_range_of s.settings
+stored_in_range None = true
 
 -- BID 1 to the last of its kind
 unfoldable pub bid_in_range : Profile → Bool

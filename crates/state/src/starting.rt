@@ -4,7 +4,7 @@ ghost use Rattle.state.specs.Start.{never_reset, fresh_of, bid_in_range, any_fit
 
 use crate::parts::{Board, Cause, Fresh, Measured, Profile, Resets, distribution};
 use channels::Channels;
-use memory::{Memory, Store};
+use memory::{Memory, Stored};
 use modes::ModeAge;
 use wire::Reply;
 
@@ -35,7 +35,7 @@ fn never_reset() -> Resets
 }
 
 // A board in startup, which holds nothing from before but its profile, its store and its resets.
-fn fresh(profile: Profile, store: Store, resets: Resets) -> Board
+fn fresh(profile: Profile, store: Option<Stored>, resets: Resets) -> Board
     ensures { result ≡ fresh_of profile store resets }
 {
     let phase = ModeAge::start();
@@ -102,17 +102,17 @@ fn channels_in_place(profile: Profile) -> bool
 }
 
 // Whether the values that are stored, if any are, lie in range.
-fn stored_in_range(store: Store) -> bool
+fn stored_in_range(store: Option<Stored>) -> bool
     ensures { result ≡ stored_in_range store }
 {
-    if store.held {
-        return settings::in_range(store.settings);
+    match store {
+        Some(stored) => settings::in_range(stored.settings),
+        None => true,
     }
-    true
 }
 
 // Whether a profile, with what is stored, keeps the rules of a profile.
-fn keeps_the_rules(profile: Profile, store: Store) -> bool
+fn keeps_the_rules(profile: Profile, store: Option<Stored>) -> bool
     ensures { result ≡ keeps_the_rules profile store }
 {
     let kind = profile.kind;
@@ -132,11 +132,11 @@ fn keeps_the_rules(profile: Profile, store: Store) -> bool
 pub fn unstarted() -> Board
     ensures { result ≡ unstarted_board }
 {
-    fresh(distribution(0, 0, 0), Store::empty(), never_reset())
+    fresh(distribution(0, 0, 0), None, never_reset())
 }
 
 // A board from a profile and what is stored; where the profile breaks a rule, the board that was there stays.
-pub fn start(there: Board, profile: Profile, store: Store) -> Started
+pub fn start(there: Board, profile: Profile, store: Option<Stored>) -> Started
     ensures value { result ≡ start_of there profile store }
     ensures number { start_number result.answer ≡ cond (keeps_the_rules profile store) 0 8 }
 {

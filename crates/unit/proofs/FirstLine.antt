@@ -3,10 +3,10 @@ use Prim.Native.Nat.{ℕ}
 use mathlib.Core.Path.{◌≡◌, refl, ap, ◌∙◌}
 use mathlib.Core.Bool.{Bool, true}
 use mathlib.Core.List.{List, [], ◌∷◌}
+use Rattle.memory.specs.Memory.{Store}
 use Rattle.wire.specs.declared.forms.Form.{Form}
 use Rattle.wire.specs.declared.forms.Form.TheVariants.{Raw, Ascii}
 use Rattle.hexadecimal.specs.Hex.{between, pair_of, payload_of}
-use Rattle.memory.specs.declared.Store.{Store}
 use Rattle.state.specs.Parts.{distribution_board, battery_board, naming_raw}
 use Rattle.state.specs.Start.{keeps_the_rules}
 use Rattle.state.specs.declared.parts.Profile.{Profile}

@@ -7,6 +7,7 @@ use mathlib.Core.List.{List}
 use native.Mathlib.Omega.{arith}
 use lib.IntN.{ℤ}
 use lib.ListN.{length}
+use Rattle.memory.specs.Memory.{Store}
 use Rattle.std.specs.Prelude.{Ok}
 use Rattle.laws.proofs.Cases.{cases}
 use Rattle.wire.specs.Replies.{shown}
@@ -19,7 +20,6 @@ use Rattle.watchdog.specs.declared.Event.TheVariants.{NoEvent, PeripheralReset, 
 use Rattle.modes.specs.declared.Limits.{Limits}
 use Rattle.command.specs.Decode.{fewer_than_four, decode_of}
 use Rattle.command.specs.declared.Command.TheVariants.{SystemReset}
-use Rattle.memory.specs.declared.Store.{Store}
 use Rattle.memory.specs.Limits.{timeout_of, limits_of}
 use Rattle.state.specs.Parts.{mode_of, word_count, with_form, with_reply}
 use Rattle.state.specs.declared.parts.Board.{Board}

@@ -1,10 +1,10 @@
 -- A machine: a board, and what its text line has to say. What each call of a bench answers, and the machine it leaves.
 -- `rail` is in millivolts with its sign, `named` the set of channels that reported overcurrent, `words` the words lent,
 -- `sent` whether there is a transfer and `s` its bytes. Assumes nothing: these are definitions.
+use Rattle.memory.specs.Memory.{Store}
 use Rattle.std.specs.Prelude.{ℕ, ℤ}
 use mathlib.Core.{Bool.Bool, Bool.true, Bool.false, Bool.cond, List.List}
 use Rattle.wire.specs.Replies.{shown}
-use Rattle.memory.specs.declared.Store.{Store}
 use Rattle.state.specs.{Parts.with_form, Start.unstarted_board, Start.start_of, declared.parts.Profile.Profile}
 use Rattle.state.specs.{declared.starting.StartAnswer.StartAnswer, declared.starting.Started.Started}
 use Rattle.state.specs.declared.starting.StartAnswer.TheVariants.{Accepted, ProfileBreaksARule}

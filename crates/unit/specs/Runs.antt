@@ -4,7 +4,7 @@
 use mathlib.Core.{Path.◌≡◌, Bool.Bool, Bool.true, List.List, List.[], List.◌∷◌}
 use Rattle.std.specs.Prelude.{ℕ}
 use lib.{IntN.ℤ, ListN.length}
-use Rattle.memory.specs.{Limits.limits_of, declared.Store.Store}
+use Rattle.memory.specs.{Limits.limits_of, Memory.Store}
 use Rattle.state.specs.{Start.keeps_the_rules, declared.parts.Board.Board, declared.parts.Profile.Profile}
 use Rattle.commands.specs.Step.{commanded_of}
 use Rattle.board.specs.Tick.{risen_of, changed_of, tripped_of, allowed_count}

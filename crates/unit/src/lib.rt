@@ -17,7 +17,7 @@ ghost use Rattle.unit.specs.Machine.{no_machine, begun_of, due_by, tells_it_happ
 
 use answers::Outcome;
 use framing::{Due, Framed};
-use memory::Store;
+use memory::Stored;
 use reading::Line;
 use state::{Board, Profile, StartAnswer};
 use watchdog::Event;
@@ -67,7 +67,7 @@ pub fn unstarted() -> Machine
 
 // Starts a machine from a profile and what is stored; where the profile breaks a rule, the machine that was there
 // stays.
-pub fn start(there: Machine, profile: Profile, store: Store) -> Begun
+pub fn start(there: Machine, profile: Profile, store: Option<Stored>) -> Begun
     ensures value { result ≡ begun_of there profile store }
     ensures number { start_number result.answer ≡ cond (keeps_the_rules profile store) 0 8 }
 {

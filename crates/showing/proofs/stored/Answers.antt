@@ -2,10 +2,10 @@
 use Rattle.showing.specs.Showing.{stored_text}
 use Rattle.showing.proofs.stored.Goals as goal
 
-pub returns-then-s : goal.returns-then-s
+pub returns-in-Some : goal.returns-in-Some
 unfolding stored_text
-returns-then-s c = rw c.if-s.true c.field.ensures
+returns-in-Some c = rw c.in-Some.is c.field.ensures
 
-pub returns : goal.returns
+pub returns-in-None : goal.returns-in-None
 unfolding stored_text
-returns c = rw c.if-s.false c.letter.ensures
+returns-in-None c = rw c.in-None.is c.letter.ensures

@@ -5,8 +5,8 @@ use Rattle.memory.proofs.Memory.limits.Goals as goal
 
 pub returns : goal.returns
 returns c =
-    let low = c.safety_low-low in
-    let high = c.safety_high-high in
+    let low = c.safety_low in
+    let high = c.safety_high in
     let wait = c.seconds_in_ticks.ensures in
     let period = c.seconds_in_ticks-2.ensures in
     limits_are

@@ -1,5 +1,5 @@
--- What is not held is not looked at.
+-- By whether something is stored.
 use Rattle.state.proofs.starting.stored_in_range.Goals as goal
 
-pub returns-then-store : goal.returns-then-store
-returns-then-store c = rw (c.if-store.true, c.in_range.ensures)
+pub returns-in-Some : goal.returns-in-Some
+returns-in-Some c = rw (c.in-Some.is, c.in_range.ensures)
