@@ -3,6 +3,7 @@
 #![tactic(auto)]
 
 ghost use Rattle.std.specs.Prelude.{◌≡◌};
+ghost use Rattle.asking.specs.Sent.{is_sent, bytes_sent};
 ghost use Rattle.asking.specs.Checks.{is_startup};
 ghost use Rattle.asking.specs.Asked.{refused_by, asked_number, asked_of, number_asked};
 
@@ -51,15 +52,15 @@ fn refused_by(r: Refusal) -> Asked
 }
 
 // What a transfer asks of a board of a kind and a BID in a mode; where none was sent, nothing.
-pub fn asked_of(kind: Kind, bid: u8, mode: Mode, sent: bool, transfer: &[u8]) -> Asked
-    ensures value { result ≡ asked_of kind bid mode sent transfer.now }
-    ensures number { asked_number result ≡ number_asked kind bid mode sent transfer.now }
+pub fn asked_of(kind: Kind, bid: u8, mode: Mode, transfer: Option<&[u8]>) -> Asked
+    ensures value { result ≡ asked_of kind bid mode (is_sent transfer.entry) (bytes_sent transfer.entry) }
+    ensures number { asked_number result ≡ number_asked kind bid mode (is_sent transfer.entry) (bytes_sent transfer.entry) }
 {
-    if !sent {
+    let Some(bytes) = transfer else {
         return Asked::Silence(Outcome::NoTransfer);
-    }
+    };
     let in_startup = is_startup(mode);
-    match command::decode(kind, bid, in_startup, transfer) {
+    match command::decode(kind, bid, in_startup, bytes) {
         Ok(c) => Asked::Run(c),
         Err(r) => refused_by(r),
     }

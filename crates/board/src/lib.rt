@@ -6,6 +6,7 @@ ghost use Rattle.kinds.specs.Kinds.{board_of};
 ghost use Rattle.watchdog.specs.Watchdog.{watched_of};
 ghost use Rattle.watchdog.specs.declared.Event.TheVariants.{NoEvent};
 ghost use Rattle.answers.specs.Answers.{told_number};
+ghost use Rattle.asking.specs.Sent.{is_sent, bytes_sent};
 ghost use Rattle.answers.specs.declared.Outcome.TheVariants.{NoTransfer, WrongWordCount};
 ghost use Rattle.channels.specs.Operations.{overcurrent_at};
 ghost use Rattle.change.specs.Change.{entering_of};
@@ -111,10 +112,10 @@ fn untold(happens: bool) -> Outcome
 }
 
 // Whether a transfer is looked at: one that is there, in a tick that happens.
-fn is_heard(happens: bool, sent: bool) -> bool
-    ensures { result ≡ (happens && sent) }
+fn is_heard(happens: bool, transfer: Option<&[u8]>) -> bool
+    ensures { result ≡ (happens && is_sent transfer.entry) }
 {
-    if happens { sent } else { false }
+    happens && transfer.is_some()
 }
 
 // What the watchdog does at the end of a tick that happens; in one that does not, it does nothing.
@@ -157,7 +158,7 @@ fn is_allowed(number: usize, count: usize) -> bool
 }
 
 // One tick: the rail in millivolts, the channels that reported overcurrent, the words lent, and no transfer or one.
-// With no transfer its slice is not looked at. Any number of words but 0 and the board's own is refused, and every part
+// Any number of words but 0 and the board's own is refused, and every part
 // of the board stays as it was. A refused tick has no way out of its own, and the board is changed in place and leaves
 // at one place only: it is large, and the compiler copies it wherever two ways meet.
 pub fn tick(
@@ -165,11 +166,10 @@ pub fn tick(
     rail: i16,
     overcurrent: u32,
     words: &[u16],
-    sent: bool,
-    transfer: &[u8],
+    transfer: Option<&[u8]>,
 ) -> Ticked
-    ensures value { result ≡ tick_of rail overcurrent words.now sent transfer.now b }
-    ensures number { told_number result.outcome ≡ tick_number rail overcurrent words.now sent transfer.now b }
+    ensures value { result ≡ tick_of rail overcurrent words.now (is_sent transfer.entry) (bytes_sent transfer.entry) b }
+    ensures number { told_number result.outcome ≡ tick_number rail overcurrent words.now (is_sent transfer.entry) (bytes_sent transfer.entry) b }
 {
     let number = words_of(b.profile);
     let happens = is_allowed(number, words.len());
@@ -188,8 +188,8 @@ pub fn tick(
     }
     let mut outcome = untold(happens);
     let mut replied = false;
-    if is_heard(happens, sent) {
-        let c = commands::commanded(b, rail, limits, sent, transfer);
+    if is_heard(happens, transfer) {
+        let c = commands::commanded(b, rail, limits, transfer);
         b = c.board;
         outcome = c.outcome;
         replied = c.replied;

@@ -4,6 +4,7 @@
 
 ghost use Rattle.std.specs.Prelude.{◌≡◌};
 ghost use Rattle.answers.specs.Answers.{told_number, silent_of};
+ghost use Rattle.asking.specs.Sent.{is_sent, bytes_sent};
 ghost use Rattle.effects.specs.Parts.{any_code, obeyed_in};
 ghost use Rattle.commands.specs.Step.{commanded_of, number_of};
 ghost use Rattle.commands.specs.Parts.{timer_answered, refused_with, asked_in, layout_asked, memory_change_asked};
@@ -92,16 +93,26 @@ fn memory_change(asked: Asked) -> MemoryChange
     }
 }
 
-// Step 4: no transfer, or one of any length and content. Where none was sent, the slice is not looked at.
+// The bytes that were sent; where none was sent there are none.
+fn bytes_sent<'a>(transfer: Option<&'a [u8]>) -> &'a [u8]
+    ensures { result.now ≡ bytes_sent transfer.entry }
+{
+    match transfer {
+        Some(bytes) => bytes,
+        None => &[],
+    }
+}
+
+// Step 4: no transfer, or one of any length and content.
 // What is put into the board is found from the board as it came, but for the reply, which a changed memory shows in; so
 // the board is handed to nobody who changes it.
-pub fn commanded(mut b: Board, rail: i16, limits: Limits, sent: bool, transfer: &[u8]) -> Commanded
-    ensures value { result ≡ commanded_of rail limits sent transfer.now b }
-    ensures number { told_number result.outcome ≡ number_of rail limits sent transfer.now b }
+pub fn commanded(mut b: Board, rail: i16, limits: Limits, transfer: Option<&[u8]>) -> Commanded
+    ensures value { result ≡ commanded_of rail limits (is_sent transfer.entry) (bytes_sent transfer.entry) b }
+    ensures number { told_number result.outcome ≡ number_of rail limits (is_sent transfer.entry) (bytes_sent transfer.entry) b }
 {
     let profile = b.profile;
     let kind = profile.kind;
-    let asked = asked_of(kind, profile.bid, b.phase.mode(), sent, transfer);
+    let asked = asked_of(kind, profile.bid, b.phase.mode(), transfer);
     let told = obeyed(b, rail, limits, asked);
     let change = memory_change(asked);
     let outcome = told.outcome;
@@ -111,7 +122,7 @@ pub fn commanded(mut b: Board, rail: i16, limits: Limits, sent: bool, transfer: 
         b.memory = memory;
     }
     if replied {
-        let reply = reply_to(b, start_of(transfer), outcome, layout(asked));
+        let reply = reply_to(b, start_of(bytes_sent(transfer)), outcome, layout(asked));
         b.reply = reply;
     }
     let phase = told.phase;

@@ -12,6 +12,7 @@ ghost use Rattle.framing.specs.Framing.{framed_of};
 ghost use Rattle.framing.specs.Answers.{framed_number};
 ghost use Rattle.state.specs.Start.{keeps_the_rules, start_number};
 ghost use Rattle.answers.specs.Answers.{told_number};
+ghost use Rattle.asking.specs.Sent.{is_sent, bytes_sent};
 ghost use Rattle.board.specs.Tick.{tick_number};
 ghost use Rattle.unit.specs.Machine.{no_machine, begun_of, due_by, tells_it_happened, due_after, told_of, after_line, heard_of, due_of};
 
@@ -121,20 +122,19 @@ fn due_after(outcome: Outcome, replied: bool, due: Due) -> Due
 }
 
 // One tick: the rail in millivolts, the channels that reported overcurrent, the words lent, and no transfer or one.
-// With no transfer its slice is not looked at. Words that are neither none nor as many as the board has are refused,
+// Words that are neither none nor as many as the board has are refused,
 // and the machine stays as it was.
 pub fn tick(
     m: Machine,
     rail: i16,
     overcurrent: u32,
     words: &[u16],
-    sent: bool,
-    transfer: &[u8],
+    transfer: Option<&[u8]>,
 ) -> Told
-    ensures value { result ≡ told_of rail overcurrent words.now sent transfer.now m }
-    ensures number { told_number result.outcome ≡ tick_number rail overcurrent words.now sent transfer.now m.board }
+    ensures value { result ≡ told_of rail overcurrent words.now (is_sent transfer.entry) (bytes_sent transfer.entry) m }
+    ensures number { told_number result.outcome ≡ tick_number rail overcurrent words.now (is_sent transfer.entry) (bytes_sent transfer.entry) m.board }
 {
-    let t = board::tick(m.board, rail, overcurrent, words, sent, transfer);
+    let t = board::tick(m.board, rail, overcurrent, words, transfer);
     let board = t.board;
     let outcome = t.outcome;
     let event = t.event;

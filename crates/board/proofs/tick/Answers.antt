@@ -10,6 +10,7 @@ use Rattle.memory.specs.Limits.{limits_of}
 use Rattle.state.specs.Parts.{word_count}
 use Rattle.state.specs.declared.parts.Board.{Board}
 use Rattle.answers.specs.declared.Commanded.{Commanded}
+use Rattle.asking.specs.Sent.{is_sent, bytes_sent}
 use Rattle.board.specs.Tick.{brought_by, allowed_count}
 use Rattle.board.proofs.InPlace.{placed, found, found_apart, one_sent, obeyed_where, heard, unheard, kept, lost}
 use Rattle.board.proofs.Happened.{with_number}
@@ -40,7 +41,7 @@ made_at c = record { board = c.if-is_heard.b; outcome = c.if-is_heard.outcome; r
 allowed : (c : Joined-is_heard) → let a = c.args in allowed_count (word_count a.b) (length a.words.now) ≡ c.is_allowed-happens.result
 allowed c = rw (sym c.words_of-number.ensures) (sym c.is_allowed-happens.ensures)
 
-obeyed : (c : Joined-is_heard) → let a = c.args in made_at c ≡ obeyed_where a.rail (limits_of a.b.memory) a.sent a.transfer.now a.b (found_at c) c.is_allowed-happens.result
+obeyed : (c : Joined-is_heard) → let a = c.args in made_at c ≡ obeyed_where a.rail (limits_of a.b.memory) (is_sent a.transfer) (bytes_sent a.transfer) a.b (found_at c) c.is_allowed-happens.result
 obeyed c =
     let a = c.args in
     let k = c.if-is_heard in
@@ -51,8 +52,8 @@ obeyed c =
     let f = placed_at c ∙ found_apart a.rail limits a.overcurrent a.words.now a.b happens (allowed c) c.settle_where-settled.result (brought_by (word_count a.b) a.words.now a.b.measured) r l c.settle_where-settled.ensures refl in
     let h = c.is_heard.ensures in
     elim k.branch [
-      | then-is_heard w ↦ heard a.rail limits a.sent a.transfer.now a.b (found_at c) happens (sym h ∙ w.if-is_heard.true) (made_at c) (one_sent a.sent a.transfer.now w.commanded-c.result k.b k.outcome k.replied r l f w.commanded-c.ensures.value w.b-is w.outcome-is w.replied-is)
-      | else-is_heard w ↦ unheard a.rail limits a.sent a.transfer.now a.b (found_at c) happens (sym h ∙ w.if-is_heard.false) (w.b-is ∙ f) (w.outcome-is ∙ c.untold-outcome.ensures) w.replied-is
+      | then-is_heard w ↦ heard a.rail limits (is_sent a.transfer) (bytes_sent a.transfer) a.b (found_at c) happens (sym h ∙ w.if-is_heard.true) (made_at c) (one_sent (is_sent a.transfer) (bytes_sent a.transfer) w.commanded-c.result k.b k.outcome k.replied r l f w.commanded-c.ensures.value w.b-is w.outcome-is w.replied-is)
+      | else-is_heard w ↦ unheard a.rail limits (is_sent a.transfer) (bytes_sent a.transfer) a.b (found_at c) happens (sym h ∙ w.if-is_heard.false) (w.b-is ∙ f) (w.outcome-is ∙ c.untold-outcome.ensures) w.replied-is
     ]
 
 -- ---- the two ways to the end
@@ -61,9 +62,9 @@ returns-then-is_reset c =
     let a = c.args in
     let j = (goal.at.returns-then-is_reset c).Joined-is_heard in
     let both =
-    with_number a.rail a.overcurrent a.words.now a.sent a.transfer.now a.b
+    with_number a.rail a.overcurrent a.words.now (is_sent a.transfer) (bytes_sent a.transfer) a.b
     (rw c.watchdog_reset-b.ensures
-    (lost a.rail a.overcurrent a.words.now a.sent a.transfer.now a.b c.is_allowed-happens.result (allowed j) (made_at j) (obeyed j)
+    (lost a.rail a.overcurrent a.words.now (is_sent a.transfer) (bytes_sent a.transfer) a.b c.is_allowed-happens.result (allowed j) (made_at j) (obeyed j)
     c.watch-event.result
     (c.watch-event.ensures ∙ rw (c.seconds_in_ticks-timeout.ensures, c.timeout.ensures))
     (sym c.is_reset.ensures ∙ c.if-is_reset.true)))
@@ -75,8 +76,8 @@ returns-else-is_reset c =
     let a = c.args in
     let j = (goal.at.returns-else-is_reset c).Joined-is_heard in
     let both =
-    with_number a.rail a.overcurrent a.words.now a.sent a.transfer.now a.b
-    (kept a.rail a.overcurrent a.words.now a.sent a.transfer.now a.b c.is_allowed-happens.result (allowed j) (made_at j) (obeyed j)
+    with_number a.rail a.overcurrent a.words.now (is_sent a.transfer) (bytes_sent a.transfer) a.b
+    (kept a.rail a.overcurrent a.words.now (is_sent a.transfer) (bytes_sent a.transfer) a.b c.is_allowed-happens.result (allowed j) (made_at j) (obeyed j)
     c.watch-event.result
     (c.watch-event.ensures ∙ rw (c.seconds_in_ticks-timeout.ensures, c.timeout.ensures))
     (sym c.is_reset.ensures ∙ c.if-is_reset.false))

@@ -4,6 +4,7 @@ use mir.Syntax.{w16}
 use mir.ValLaws.{to_z-of_z}
 use Rattle.command.specs.Decode.{code_of}
 use Rattle.answers.specs.Answers.{received_in}
+use Rattle.asking.specs.Sent.{is_sent, bytes_sent}
 use Rattle.commands.specs.Parts.{layout_asked}
 use Rattle.commands.proofs.Told.{with_number}
 use Rattle.commands.proofs.Whole.{Obeying, altered, replied, goes_on, begins_again}
@@ -18,15 +19,15 @@ remembered c =
       | else-is_altering w ↦ w.b-is ∙ rw (sym c.is_altering.ensures ∙ w.if-is_altering.false)
     ]
 
-answered : (c : Joined-replied) → c.if-replied.b ≡ replied (code_of c.args.transfer.now) c.obeyed-told.result (layout_asked c.asked_of-asked.result) c.if-is_altering.b
+answered : (c : Joined-replied) → c.if-replied.b ≡ replied (code_of (bytes_sent c.args.transfer)) c.obeyed-told.result (layout_asked c.asked_of-asked.result) c.if-is_altering.b
 unfolding received_in
 answered c =
     elim c.if-replied.branch [
-      | then-replied w ↦ w.b-is ∙ rw (w.if-replied.true, w.reply_to-reply.ensures, w.layout.ensures, w.start_of.ensures)
+      | then-replied w ↦ w.b-is ∙ rw (w.if-replied.true, w.reply_to-reply.ensures, w.layout.ensures, w.start_of.ensures, w.bytes_sent.ensures)
       | else-replied w ↦ w.b-is ∙ rw w.if-replied.false
     ]
 
-obeying : (c : Joined-replied) → Obeying c.args.rail c.args.limits c.args.sent c.args.transfer.now c.args.b c.asked_of-asked.result c.obeyed-told.result c.memory_change-change.result c.if-is_altering.b c.if-replied.b
+obeying : (c : Joined-replied) → Obeying c.args.rail c.args.limits (is_sent c.args.transfer) (bytes_sent c.args.transfer) c.args.b c.asked_of-asked.result c.obeyed-told.result c.memory_change-change.result c.if-is_altering.b c.if-replied.b
 obeying c =
     record {
       asks = rw (c.asked_of-asked.ensures.value, c.mode.ensures);
