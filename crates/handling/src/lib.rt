@@ -3,6 +3,7 @@
 
 ghost use Rattle.std.specs.Prelude.{◌≡◌, take};
 ghost use Rattle.wire.specs.Numbers.{signed};
+ghost use Rattle.asking.specs.Sent.{is_sent, bytes_sent};
 ghost use Rattle.unit.specs.Machine.{begun_of, told_of};
 ghost use Rattle.script.specs.Reading.{words_of};
 ghost use Rattle.speaking.specs.Speaking.{blank};
@@ -87,11 +88,10 @@ pub fn ticked(
     mut bench: Bench,
     rail: u16,
     overcurrent: u32,
-    sent: bool,
-    transfer: &[u8],
+    transfer: Option<&[u8]>,
     out: &mut [u8],
 ) -> Ran
-    ensures { left result out.new ≡ ticked_of out.old bench (told_of (signed 2 rail) overcurrent (take bench.lent_count bench.lent) sent transfer.now bench.machine) }
+    ensures { left result out.new ≡ ticked_of out.old bench (told_of (signed 2 rail) overcurrent (take bench.lent_count bench.lent) (is_sent transfer.entry) (bytes_sent transfer.entry) bench.machine) }
 {
     let ws = bench.lent;
     let n = bench.lent_count;
@@ -100,7 +100,6 @@ pub fn ticked(
         wire::twos16(rail),
         overcurrent,
         lent_part(&ws, n),
-        sent,
         transfer,
     );
     let next = t.machine;

@@ -103,10 +103,14 @@ pub fn digest_of(run: u8, count: u64) -> u32 {
         let mut told = 0;
         if b.kind != b'z' {
             let bytes = b.bytes;
-            let sent = wire::first(&bytes, b.length);
+            let sent = if b.length > 0 {
+                Some(wire::first(&bytes, b.length))
+            } else {
+                None
+            };
             pattern::change(&mut words, b.kind, b.drawn);
             let lent = pattern::lent(&words, b.kind);
-            let t = unit::tick(m, b.rail, b.named, lent, b.length > 0, sent);
+            let t = unit::tick(m, b.rail, b.named, lent, sent);
             let outcome = t.outcome;
             let event = t.event;
             m = t.machine;

@@ -2,7 +2,8 @@
 // transcript.
 #![tactic(auto)]
 
-ghost use Rattle.std.specs.Prelude.{◌≡◌, ◌<◌, ◌≤◌};
+ghost use Rattle.std.specs.Prelude.{cond, [], ◌≡◌, ◌<◌, ◌≤◌};
+ghost use Rattle.asking.specs.Sent.{is_sent, bytes_sent};
 ghost use Rattle.transcript.specs.Transcript.{opened_number};
 ghost use Rattle.session.specs.Sessions.{no_session, ended_step, opened, stepped, started_of, opened_of, stepped_of, ticked_of, sheet_refusal};
 
@@ -98,22 +99,29 @@ pub fn open(s: &[u8], out: &mut [u8]) -> Opened
     started(profile, ticks, first, out)
 }
 
+// The bytes that were sent, where some were.
+fn sent_of<'a>(sent: bool, bytes: &'a [u8]) -> Option<&'a [u8]>
+    ensures is { is_sent result ≡ sent }
+    ensures bytes { bytes_sent result ≡ cond sent bytes.now [] }
+{
+    if sent { Some(bytes) } else { None }
+}
+
 // Runs one tick of a session, and prints its line.
 // argued: called where a tick is left, and no more than there are
 fn ticked(
     session: Session,
     rail: i16,
     overcurrent: u32,
-    sent: bool,
-    transfer: &[u8],
+    transfer: Option<&[u8]>,
     next: usize,
     out: &mut [u8],
 ) -> Stepped
     requires { (0 < session.left) × (session.left ≤ session.count) }
-    ensures { stepped result out.new ≡ ticked_of out.old session rail overcurrent sent transfer.now next }
+    ensures { stepped result out.new ≡ ticked_of out.old session rail overcurrent (is_sent transfer.entry) (bytes_sent transfer.entry) next }
 {
     let words: [u16; 0] = [];
-    let told = unit::tick(session.machine, rail, overcurrent, &words, sent, transfer);
+    let told = unit::tick(session.machine, rail, overcurrent, &words, transfer);
     let machine = told.machine;
     let left = session.left - 1;
     let number = session.count - left;
@@ -150,15 +158,8 @@ pub fn step(session: Session, s: &[u8], out: &mut [u8]) -> Stepped
             if session.count < session.left {
                 return ended();
             }
-            ticked(
-                session,
-                rail,
-                overcurrent,
-                sent,
-                wire::first(&transfer, count),
-                next,
-                out,
-            )
+            let transfer = sent_of(sent, wire::first(&transfer, count));
+            ticked(session, rail, overcurrent, transfer, next, out)
         }
         TickLine::Not => ended(),
         TickLine::TransferTooLong => ended(),

@@ -22,14 +22,10 @@ pub fn run(bench: Bench, asked: Asked, held: &[u8], out: &mut [u8]) -> Ran
             overcurrent,
             sent,
             count,
-        } => handling::ticked(
-            bench,
-            rail,
-            overcurrent,
-            sent,
-            wire::first(held, count),
-            out,
-        ),
+        } => {
+            let transfer = if sent { Some(wire::first(held, count)) } else { None };
+            handling::ticked(bench, rail, overcurrent, transfer, out)
+        }
         Asked::Receive { room, count } => handling::received(
             bench,
             wire::first(held, count),
