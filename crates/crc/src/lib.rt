@@ -36,28 +36,20 @@ fn divide_byte(left: u16, b: u16) -> u16
     divide_bit(left, b % 2)
 }
 
-// A byte as a wider number, so that its bits are taken off where nothing is lost.
-fn wide(b: u8) -> u16
-    ensures { result ≡ b }
-{
-    b as u16
-}
-
 // The checksum of some bytes and of those behind them, from the checksum of the first: so a list can be walked in
 // parts.
 pub fn continued(from: u16, bytes: &[u8]) -> u16
     ensures { result ≡ continued_of from bytes.now }
 {
     let mut left = from;
-    let mut i = 0;
-    while i < bytes.len() {
-        left = divide_byte(left, wide(bytes[i]));
-        i += 1;
+    for b in bytes {
+        left = divide_byte(left, u16::from(*b));
     }
     left
 }
 
 // The checksum of bytes.
+#[tactic(auto, unfolding(crate::specs::Division::checksum_of))]
 pub fn checksum(bytes: &[u8]) -> u16
     ensures { result ≡ checksum_of bytes.now }
 {

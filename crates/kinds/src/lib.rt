@@ -2,13 +2,12 @@
 // code asks for, and which kinds can be started.
 #![tactic(auto)]
 
-ghost use Rattle.std.specs.Prelude.{◌≡◌, false};
+ghost use Rattle.std.specs.Prelude.{◌≡◌};
 ghost use Rattle.kinds.specs.Kinds.{board_of, is_in, is_served};
-ghost use Rattle.kinds.specs.declared.Kind.TheVariants.{Distribution, Battery, Integrated};
 
 // A kind of board: the battery board with whether its ABF is placed, the integrated board with whether it has a
 // daughterboard.
-#[derive(Clone, Copy)]
+#[derive(Clone, Copy, PartialEq, Eq)]
 pub enum Kind {
     Distribution,
     Battery { abf: bool },
@@ -21,8 +20,8 @@ pub fn stid(kind: Kind) -> u8
 {
     match kind {
         Kind::Distribution => 0x11,
-        Kind::Battery { abf: _ } => 0x12,
-        Kind::Integrated { daughterboard: _ } => 0x1A,
+        Kind::Battery { .. } => 0x12,
+        Kind::Integrated { .. } => 0x1A,
     }
 }
 
@@ -32,8 +31,8 @@ pub fn last_bid(kind: Kind) -> u8
 {
     match kind {
         Kind::Distribution => 8,
-        Kind::Battery { abf: _ } => 4,
-        Kind::Integrated { daughterboard: _ } => 1,
+        Kind::Battery { .. } => 4,
+        Kind::Integrated { .. } => 1,
     }
 }
 
@@ -43,7 +42,7 @@ pub fn word_count(kind: Kind) -> usize
 {
     match kind {
         Kind::Distribution => 122,
-        Kind::Battery { abf: _ } => 39,
+        Kind::Battery { .. } => 39,
         Kind::Integrated { daughterboard } => if daughterboard { 130 } else { 53 },
     }
 }
@@ -54,92 +53,47 @@ pub fn places(kind: Kind) -> u32
 {
     match kind {
         Kind::Distribution => 0xFFFFFFFF,
-        Kind::Battery { abf: _ } => 0,
+        Kind::Battery { .. } => 0,
         Kind::Integrated { daughterboard } => if daughterboard { 0xFFFFFFFF } else { 0x1FF },
     }
 }
 
-// Whether a code is in a list of codes.
-fn is_among(codes: &[u8], code: u8) -> bool
-    ensures { result ≡ is_in code codes.now }
+// The codes that a kind of board has in its list.
+fn codes(kind: Kind) -> &'static [u8]
+    ensures { result.now ≡ (board_of kind).codes }
 {
-    let mut i = 0;
-    while i < codes.len() {
-        if codes[i] == code {
-            return true;
-        }
-        i += 1;
-    }
-    false
-}
-
-// Whether the distribution board has a code in its list.
-fn distribution_lists(code: u8) -> bool
-    ensures { result ≡ is_in code (board_of Distribution).codes }
-{
-    is_among(
-        &[
+    match kind {
+        Kind::Distribution => &[
             0xAA, 0x02, 0x04, 0x06, 0x10, 0x12, 0x14, 0x16, 0x18, 0x30, 0x32, 0x42, 0x50, 0x82,
             0x84, 0x86, 0x90, 0x92, 0x94, 0x52,
         ],
-        code,
-    )
-}
-
-// Whether the battery board has a code in its list.
-fn battery_lists(code: u8) -> bool
-    ensures { result ≡ is_in code (board_of (Battery false)).codes }
-{
-    is_among(
-        &[
+        Kind::Battery { .. } => &[
             0xAA, 0x02, 0x06, 0x30, 0x32, 0x82, 0x84, 0x86, 0x90, 0x92, 0x94, 0x44, 0x60, 0x62,
         ],
-        code,
-    )
-}
-
-// Whether the integrated board has a code in its list.
-fn integrated_lists(code: u8) -> bool
-    ensures { result ≡ is_in code (board_of (Integrated false)).codes }
-{
-    is_among(
-        &[
+        Kind::Integrated { .. } => &[
             0xAA, 0x02, 0x04, 0x06, 0x10, 0x12, 0x14, 0x16, 0x18, 0x30, 0x32, 0x42, 0x82, 0x84,
             0x86, 0x90, 0x92, 0x94,
         ],
-        code,
-    )
+    }
 }
 
 // Whether a kind of board has a code in its list.
 pub fn lists(kind: Kind, code: u8) -> bool
     ensures { result ≡ is_in code (board_of kind).codes }
 {
-    match kind {
-        Kind::Distribution => distribution_lists(code),
-        Kind::Battery { abf: _ } => battery_lists(code),
-        Kind::Integrated { daughterboard: _ } => integrated_lists(code),
-    }
+    codes(kind).contains(&code)
 }
 
 // Whether the ABF of a kind of board is placed; a board that has none has none placed.
 pub fn abf_placed(kind: Kind) -> bool
     ensures { result ≡ (board_of kind).abf_placed }
 {
-    match kind {
-        Kind::Distribution => false,
-        Kind::Battery { abf } => abf,
-        Kind::Integrated { daughterboard: _ } => false,
-    }
+    matches!(kind, Kind::Battery { abf: true })
 }
 
 // Whether a profile of a kind of board can be started.
 pub fn is_served(kind: Kind) -> bool
     ensures { result ≡ is_served kind }
 {
-    match kind {
-        Kind::Distribution => true,
-        Kind::Battery { abf: _ } => true,
-        Kind::Integrated { daughterboard: _ } => false,
-    }
+    matches!(kind, Kind::Distribution | Kind::Battery { .. })
 }

@@ -6,7 +6,7 @@ ghost use Rattle.watchdog.specs.Watchdog.{risen_of, watched_of, seconds_in_ticks
 ghost use Rattle.watchdog.specs.Report.{ReportAt};
 
 // What the watchdog does in a tick.
-#[derive(Clone, Copy)]
+#[derive(Clone, Copy, PartialEq, Eq)]
 pub enum Event {
     NoEvent,
     PeripheralReset,
@@ -14,20 +14,18 @@ pub enum Event {
 }
 
 // The timer, one tick later; it stops at the top.
+#[tactic(auto, unfolding(crate::specs::Watchdog::risen_of))]
 pub fn risen(timer: u64) -> u64
     ensures { result ≡ risen_of timer }
 {
-    if timer < 18446744073709551615 {
-        return timer + 1;
-    }
-    timer
+    timer.saturating_add(1)
 }
 
 // A time in seconds as ticks.
 pub fn seconds_in_ticks(seconds: u16) -> u64
     ensures { result ≡ seconds_in_ticks seconds }
 {
-    seconds as u64 * 100
+    u64::from(seconds) * 100
 }
 
 // The one timer value at which 65 hundredths of the timeout are reached. Taken as the timeout less 35 hundredths of it,

@@ -1,11 +1,6 @@
--- Each kind has the list that the table gives it.
+-- The list that is searched is the kind's.
+use Rattle.kinds.proofs.Listing.{listed}
 use Rattle.kinds.proofs.lists.Goals as goal
 
-pub returns-in-Distribution : goal.returns-in-Distribution
-returns-in-Distribution c = rw (c.in-Distribution.is, c.distribution_lists.ensures)
-
-pub returns-in-Battery : goal.returns-in-Battery
-returns-in-Battery c = rw (c.in-Battery.is, c.battery_lists.ensures)
-
-pub returns-in-Integrated : goal.returns-in-Integrated
-returns-in-Integrated c = rw (c.in-Integrated.is, c.integrated_lists.ensures)
+pub returns : goal.returns
+returns c = rw (c.contains.ensures.value, c.codes.ensures) (listed c.args.code _)
