@@ -5,16 +5,6 @@
 ghost use Rattle.std.specs.Prelude.{◌≡◌, ◌<◌, nat_abs};
 ghost use Rattle.rounding.specs.Rounding.{up, nearest, held};
 
-// A number without its sign.
-fn magnitude(n: i64) -> u64
-    ensures { result ≡ nat_abs n }
-{
-    if 0 <= n {
-        return n as u64;
-    }
-    (-1 - n) as u64 + 1
-}
-
 // The whole units of a fraction that is not negative, and one more from half a unit on.
 // argued: only `nearest` calls it, with a divisor above 0 that had 32 bits
 fn rounded(n: u64, d: u64) -> u64
@@ -35,22 +25,13 @@ pub fn nearest(n: i64, d: u32) -> i64
     requires { (0 < d) × (nat_abs n < 9223372036854775808) }
     ensures { result ≡ nearest n d }
 {
-    let units = rounded(magnitude(n), d as u64) as i64;
-    if 0 <= n {
-        return units;
-    }
-    0 - units
+    let units = rounded(n.unsigned_abs(), u64::from(d)) as i64;
+    if n < 0 { -units } else { units }
 }
 
 // A number, or the end of int16 that it passes.
 pub fn held(z: i64) -> i16
     ensures { result ≡ held z }
 {
-    if 32767 < z {
-        return 32767;
-    }
-    if z < -32768 {
-        return -32768;
-    }
-    z as i16
+    z.clamp(i64::from(i16::MIN), i64::from(i16::MAX)) as i16
 }
