@@ -22,8 +22,5 @@ fn entry(i: usize) -> i16
 pub fn temperature(code: u16) -> i16
     ensures { result ≡ temperature_of code }
 {
-    if code < 4096 {
-        return entry(code as usize);
-    }
-    entry(4095)
+    entry(usize::from(code.min(4095)))
 }
