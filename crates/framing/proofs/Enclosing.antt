@@ -12,8 +12,9 @@ use borrow.Author.Tests.{le-leb, lt-leb}
 use borrow.Rule.Slice.PartMut.{mid_of, put_mid, mid_len, put_same, same_len_mid}
 use Rattle.laws.proofs.Lists.{lt_or_le, sets_front}
 use Rattle.hexadecimal.specs.Hex.{laid, written_of}
-use Rattle.hexadecimal.specs.declared.Written.{Written as Digits}
-use Rattle.hexadecimal.specs.declared.Written.TheVariants.{Length, NoRoom}
+use Rattle.std.specs.Prelude.{Result, Ok, Err}
+use Rattle.hexadecimal.specs.declared.WriteRefusal.{WriteRefusal}
+use Rattle.hexadecimal.specs.declared.WriteRefusal.TheVariants.{NoRoom}
 use Rattle.framing.specs.Framing.{reply_tag, reply_end, reply_frame, framed_of, Fits, enclosed_of, enclosed_held}
 use Rattle.framing.specs.declared.Framed.{Framed}
 use Rattle.framing.specs.declared.Framed.TheVariants.{Written, OutputTooShort}
@@ -33,14 +34,14 @@ module _ (text : List ℕ) where
   laid_short held h = rw (lt-leb (length text) (length held) h)
 
 -- what the writing of digits answers, in framing's words
-abbrev pub framed : Digits → Framed
-framed (Length n) = Written n
-framed NoRoom = OutputTooShort
+abbrev pub framed : Result ℕ WriteRefusal → Framed
+framed (Ok n) = Written n
+framed (Err NoRoom) = OutputTooShort
 
 pub framed_digits : (text : List ℕ) (room : ℕ) → framed (written_of text room) ≡ framed_of text room
 framed_digits text room = go (leb (length text) room)
   where
-    go : (b : Bool) → framed (cond b (Length (length text)) NoRoom) ≡ cond b (Written (length text)) OutputTooShort
+    go : (b : Bool) → framed (cond b (Ok (length text)) (Err NoRoom)) ≡ cond b (Written (length text)) OutputTooShort
     go true = refl
     go false = refl
 

@@ -3,7 +3,7 @@
 use Prim.Native.Nat.{ℕ, ◌-◌, ◌≤◌, ◌<◌}
 use mathlib.Core.Path.{◌≡◌, refl, ap, sym, ◌∙◌}
 use mathlib.Core.Logic.{⊎_elim}
-use mathlib.Core.Option.{some}
+use Rattle.std.specs.Prelude.{Some}
 use mathlib.Core.List.{List, [], ◌∷◌}
 use native.Mathlib.Omega.{arith}
 use lib.ListN.{length, take, drop, get_or}
@@ -31,7 +31,7 @@ between_the_tags text = take_at text reply_end (length (reply_frame text) - 8 - 
 pub raw_framing_is_the_reply : (reply : List ℕ) → unframed (due_text Reply Raw reply) ≡ reply
 raw_framing_is_the_reply reply = between_the_tags reply
 
-pub framing_reads_back : (b : ℕ) (bytes : List ℕ) → ((k : ℕ) → get_or (b ∷ bytes) k 0 < 256) → payload_of (unframed (due_text Reply Ascii (b ∷ bytes))) ≡ some (b ∷ bytes)
+pub framing_reads_back : (b : ℕ) (bytes : List ℕ) → ((k : ℕ) → get_or (b ∷ bytes) k 0 < 256) → payload_of (unframed (due_text Reply Ascii (b ∷ bytes))) ≡ Some (b ∷ bytes)
 framing_reads_back b bytes h = ap payload_of (between_the_tags (text_of (b ∷ bytes))) ∙ reads_back b bytes h
 
 -- an echo is the text of the switch, in whichever form

@@ -10,7 +10,7 @@ ghost use Rattle.reading.specs.Lines.{switch_text};
 ghost use Rattle.framing.specs.Framing.{reply_frame, written, due_text, framed_of, Fits, enclosed_of, enclosed_held};
 ghost use Rattle.framing.specs.Answers.{framed_number};
 
-use hexadecimal::Written;
+use hexadecimal::WriteRefusal;
 use wire::Form;
 
 // What the text line has to say: nothing, the reply, or the echo of a switch to a form.
@@ -63,8 +63,8 @@ fn in_form(form: Form, reply: &[u8], out: &mut [u8]) -> Framed
     match form {
         Form::Raw => copy(reply, out),
         Form::Ascii => match hexadecimal::write(reply, out) {
-            Written::Length(n) => Framed::Written(n),
-            Written::NoRoom => Framed::OutputTooShort,
+            Ok(n) => Framed::Written(n),
+            Err(WriteRefusal::NoRoom) => Framed::OutputTooShort,
         },
     }
 }

@@ -1,9 +1,8 @@
 -- The numbers of a text: decimal ones, with and without a sign, and hex ones. Assumes nothing: these are definitions.
-use Rattle.std.specs.Prelude.{ℕ, zero, suc, ◌+◌, ◌-◌, ◌*◌}
+use Rattle.std.specs.Prelude.{ℕ, zero, suc, ◌+◌, ◌-◌, ◌*◌, Option, Some, None}
 use mathlib.Core.{Bool.Bool, Bool.true, Bool.false, Bool.cond, Bool.not, List.List, List.[], List.◌∷◌}
 use lib.{Dec.eqb, Dec.leb, IntN.ℤ, IntN.pos, IntN.negsuc, ListN.length, ListN.drop}
-use Rattle.hexadecimal.specs.{Hex.between, Hex.digit_of, declared.Hex.Hex}
-use Rattle.hexadecimal.specs.declared.Hex.TheVariants.{Value, Bad}
+use Rattle.hexadecimal.specs.{Hex.between, Hex.digit_of}
 use Rattle.grammar.specs.Grammar.{Read, fails, reads, Parser, ◌>>=◌, ◌>>◌, pure, ◌<|>◌, peek_at, byte}
 
 -- ---- decimal
@@ -45,9 +44,9 @@ signed = (byte 45 >> number 32768 >>= negative) <|> (number 32767 >>= λ v. pure
 
 -- ---- hex
 
-abbrev pub value_at : ℕ → Hex → Read ℕ
-value_at i (Value d) = reads d (i + 1)
-value_at i Bad = fails
+abbrev pub value_at : ℕ → Option ℕ → Read ℕ
+value_at i (Some d) = reads d (i + 1)
+value_at i None = fails
 
 -- one digit of either case
 unfoldable pub hex_digit : Parser ℕ

@@ -182,7 +182,7 @@ pub fn read_word(s: &[u8], at: usize) -> Word
         if 255 < x {
             return Word::Not;
         }
-        let hexadecimal::Hex::Value(d) = hexadecimal::digit(x as u8) else {
+        let Some(d) = hexadecimal::digit(x as u8) else {
             return Word::Not;
         };
         v = v * 16 + (d as u64);

@@ -1,8 +1,9 @@
 -- The equations of the form's recursion, one for each way that a turn of a loop can go. Assumes nothing.
+use Rattle.std.specs.Prelude.{Option, Some, None, Ok, Err}
+use Rattle.hexadecimal.specs.declared.PayloadRefusal.TheVariants.{NotOfForm, TooShort}
 use Prim.Native.Nat.{ℕ, ◌+◌, ◌≤◌, ◌<◌}
 use mathlib.Core.Path.{◌≡◌, refl, ap, ap₂, sym, ◌∙◌}
 use mathlib.Core.Bool.{Bool, true, false, cond}
-use mathlib.Core.Option.{Option, none, some}
 use mathlib.Core.List.{List, [], ◌∷◌}
 use native.Mathlib.Omega.{arith}
 use mathlib.Core.Logic.{◌⊎◌, inl, inr, ⊎_elim}
@@ -13,60 +14,56 @@ use lib.Seq.{sets}
 use borrow.Author.Tests.{eq-eqb, ne_eqb, le-leb, lt-leb}
 use Rattle.hexadecimal.specs.Hex.{pair_of, led, payload_of, read_of, held_after}
 use Rattle.hexadecimal.specs.Passes.{form_of, values, worth}
-use Rattle.hexadecimal.specs.declared.Hex.{Hex}
-use Rattle.hexadecimal.specs.declared.Hex.TheVariants.{Value, Bad}
-use Rattle.hexadecimal.specs.declared.Payload.TheVariants.{Bytes, NotOfForm, TooShort}
-use Rattle.hexadecimal.specs.declared.Form.TheVariants.{Pairs, Not}
 
-pub hex_short : (l : List ℕ) → length l < 2 → payload_of l ≡ none
+pub hex_short : (l : List ℕ) → length l < 2 → payload_of l ≡ None
 unfolding payload_of
 hex_short [] h = refl
 hex_short (a ∷ []) h = refl
 hex_short (a ∷ b ∷ l) h = absurd (omega arith)
 
-pub hex_bad : (a b : ℕ) (l : List ℕ) → pair_of a b ≡ Bad → payload_of (a ∷ b ∷ l) ≡ none
+pub hex_bad : (a b : ℕ) (l : List ℕ) → pair_of a b ≡ None → payload_of (a ∷ b ∷ l) ≡ None
 unfolding payload_of
-hex_bad a b [] e = ap (λ (h : Hex). led h (some [])) e
-hex_bad a b (c ∷ l) e = ap (λ (h : Hex). led h (cond (eqb c 32) (payload_of l) none)) e
+hex_bad a b [] e = ap (λ (h : Option ℕ). led h (Some [])) e
+hex_bad a b (c ∷ l) e = ap (λ (h : Option ℕ). led h (cond (eqb c 32) (payload_of l) None)) e
 
-led_none : (h : Hex) → led h none ≡ none
-led_none (Value v) = refl
-led_none Bad = refl
+led_none : (h : Option ℕ) → led h None ≡ None
+led_none (Some v) = refl
+led_none None = refl
 
-pub hex_gap : (a b c : ℕ) (l : List ℕ) → (c ≡ 32 → ⊥) → payload_of (a ∷ b ∷ c ∷ l) ≡ none
+pub hex_gap : (a b c : ℕ) (l : List ℕ) → (c ≡ 32 → ⊥) → payload_of (a ∷ b ∷ c ∷ l) ≡ None
 unfolding payload_of
-hex_gap a b c l n = ap (λ (t : Bool). led (pair_of a b) (cond t (payload_of l) none)) (ne_eqb c 32 n) ∙ led_none (pair_of a b)
+hex_gap a b c l n = ap (λ (t : Bool). led (pair_of a b) (cond t (payload_of l) None)) (ne_eqb c 32 n) ∙ led_none (pair_of a b)
 
-led_form : (k v : ℕ) (o : Option (List ℕ)) → form_of k (led (Value v) o) ≡ form_of (k + 1) o
-led_form k v none = refl
-led_form k v (some vs) = ap Pairs (omega arith)
+led_form : (k v : ℕ) (o : Option (List ℕ)) → form_of k (led (Some v) o) ≡ form_of (k + 1) o
+led_form k v None = refl
+led_form k v (Some vs) = ap Some (omega arith)
 
-pub form_last : (k a b v : ℕ) → pair_of a b ≡ Value v → form_of k (payload_of (a ∷ b ∷ [])) ≡ Pairs (k + 1)
+pub form_last : (k a b v : ℕ) → pair_of a b ≡ Some v → form_of k (payload_of (a ∷ b ∷ [])) ≡ Some (k + 1)
 unfolding payload_of
-form_last k a b v e = ap (λ (h : Hex). form_of k (led h (some []))) e
+form_last k a b v e = ap (λ (h : Option ℕ). form_of k (led h (Some []))) e
 
-pub form_more : (k a b c v : ℕ) (l : List ℕ) → pair_of a b ≡ Value v → c ≡ 32 → form_of k (payload_of (a ∷ b ∷ c ∷ l)) ≡ form_of (k + 1) (payload_of l)
+pub form_more : (k a b c v : ℕ) (l : List ℕ) → pair_of a b ≡ Some v → c ≡ 32 → form_of k (payload_of (a ∷ b ∷ c ∷ l)) ≡ form_of (k + 1) (payload_of l)
 unfolding payload_of
 form_more k a b c v l e q =
-    ap₂ (λ (h : Hex) (t : Bool). form_of k (led h (cond t (payload_of l) none))) e (eq-eqb c 32 q) ∙ led_form k v (payload_of l)
+    ap₂ (λ (h : Option ℕ) (t : Bool). form_of k (led h (cond t (payload_of l) None))) e (eq-eqb c 32 q) ∙ led_form k v (payload_of l)
 
 -- ---- a turn of the first pass, at an index of the text
 module _ (s : List ℕ) (i k : ℕ) where
-  pub turn_short : length s < i + 2 → form_of k (payload_of (drop i s)) ≡ Not
+  pub turn_short : length s < i + 2 → form_of k (payload_of (drop i s)) ≡ None
   turn_short h = ap (form_of k) (hex_short (drop i s) (simp length-drop (omega arith)))
 
-  pub turn_bad : i + 1 < length s → pair_of (get_or s i 0) (get_or s (i + 1) 0) ≡ Bad → form_of k (payload_of (drop i s)) ≡ Not
+  pub turn_bad : i + 1 < length s → pair_of (get_or s i 0) (get_or s (i + 1) 0) ≡ None → form_of k (payload_of (drop i s)) ≡ None
   turn_bad h e = ap (form_of k) (ap payload_of (drop_two s i h) ∙ hex_bad _ _ _ e)
 
-  pub turn_last : (v : ℕ) → i + 2 ≡ length s → pair_of (get_or s i 0) (get_or s (i + 1) 0) ≡ Value v → form_of k (payload_of (drop i s)) ≡ Pairs (k + 1)
+  pub turn_last : (v : ℕ) → i + 2 ≡ length s → pair_of (get_or s i 0) (get_or s (i + 1) 0) ≡ Some v → form_of k (payload_of (drop i s)) ≡ Some (k + 1)
   turn_last v h e =
       let two : drop i s ≡ get_or s i 0 ∷ get_or s (i + 1) 0 ∷ [] = rw (← drop_end s (i + 2) (omega arith)) (drop_two s i (omega arith)) in
       ap (λ (l : List ℕ). form_of k (payload_of l)) two ∙ form_last k _ _ v e
 
-  pub turn_gap : i + 2 < length s → (get_or s (i + 2) 0 ≡ 32 → ⊥) → form_of k (payload_of (drop i s)) ≡ Not
+  pub turn_gap : i + 2 < length s → (get_or s (i + 2) 0 ≡ 32 → ⊥) → form_of k (payload_of (drop i s)) ≡ None
   turn_gap h n = ap (form_of k) (ap payload_of (drop_three s i h) ∙ hex_gap _ _ _ _ n)
 
-  pub turn_more : (v : ℕ) → i + 2 < length s → pair_of (get_or s i 0) (get_or s (i + 1) 0) ≡ Value v → get_or s (i + 2) 0 ≡ 32
+  pub turn_more : (v : ℕ) → i + 2 < length s → pair_of (get_or s i 0) (get_or s (i + 1) 0) ≡ Some v → get_or s (i + 2) 0 ≡ 32
       → form_of k (payload_of (drop i s)) ≡ form_of (k + 1) (payload_of (drop (i + 2 + 1) s))
   turn_more v h e q =
       let n : i + 2 + 1 ≡ i + 3 = omega arith in
@@ -94,53 +91,53 @@ values_turn s i h =
     (lt_or_le (i + 2) (length s))
 
 -- a text of the form spells what its pairs are worth
-pub spelt : (s : List ℕ) → (payload_of s ≡ none) ⊎ (payload_of s ≡ some (values s))
+pub spelt : (s : List ℕ) → (payload_of s ≡ None) ⊎ (payload_of s ≡ Some (values s))
 unfolding payload_of values
 spelt [] = inl refl
 spelt (a ∷ []) = inl refl
 spelt (a ∷ b ∷ []) = go (pair_of a b)
   where
-    go : (h : Hex) → (led h (some []) ≡ none) ⊎ (led h (some []) ≡ some (worth h ∷ []))
-    go (Value v) = inr refl
-    go Bad = inl refl
+    go : (h : Option ℕ) → (led h (Some []) ≡ None) ⊎ (led h (Some []) ≡ Some (worth h ∷ []))
+    go (Some v) = inr refl
+    go None = inl refl
 spelt (a ∷ b ∷ c ∷ l) = go (pair_of a b) (eqb c 32) (payload_of l) (spelt l)
   where
-    go : (h : Hex) (t : Bool) (o : Option (List ℕ)) → (o ≡ none) ⊎ (o ≡ some (values l))
-        → (led h (cond t o none) ≡ none) ⊎ (led h (cond t o none) ≡ some (worth h ∷ values l))
-    go Bad t o e = inl refl
-    go (Value v) false o e = inl refl
-    go (Value v) true o (inl e) = inl (ap (led (Value v)) e)
-    go (Value v) true o (inr e) = inr (ap (led (Value v)) e)
+    go : (h : Option ℕ) (t : Bool) (o : Option (List ℕ)) → (o ≡ None) ⊎ (o ≡ Some (values l))
+        → (led h (cond t o None) ≡ None) ⊎ (led h (cond t o None) ≡ Some (worth h ∷ values l))
+    go None t o e = inl refl
+    go (Some v) false o e = inl refl
+    go (Some v) true o (inl e) = inl (ap (led (Some v)) e)
+    go (Some v) true o (inr e) = inr (ap (led (Some v)) e)
 
 -- ---- what the first pass's answer tells
-pub known_not : (o : Option (List ℕ)) → form_of 0 o ≡ Not → o ≡ none
-known_not none e = refl
-known_not (some bs) e = let z : ◌≡◌ {A = ℕ} 0 1 = cc in absurd (omega arith)
+pub known_not : (o : Option (List ℕ)) → form_of 0 o ≡ None → o ≡ None
+known_not None e = refl
+known_not (Some bs) e = let z : ◌≡◌ {A = ℕ} 0 1 = cc in absurd (omega arith)
 
-pub known_pairs : (s : List ℕ) (n : ℕ) → form_of 0 (payload_of s) ≡ Pairs n → (payload_of s ≡ some (values s)) × (n ≡ length (values s))
+pub known_pairs : (s : List ℕ) (n : ℕ) → form_of 0 (payload_of s) ≡ Some n → (payload_of s ≡ Some (values s)) × (n ≡ length (values s))
 known_pairs s n e =
     ⊎_elim
-    (λ (q : payload_of s ≡ none). let p : Not ≡ Pairs n = sym (ap (form_of 0) q) ∙ e in let z : ◌≡◌ {A = ℕ} 0 1 = cc in absurd (omega arith))
-    (λ (q : payload_of s ≡ some (values s)).
-    let p : Pairs (0 + length (values s)) ≡ Pairs n = sym (ap (form_of 0) q) ∙ e in
+    (λ (q : payload_of s ≡ None). let p : None ≡ Some n = sym (ap (form_of 0) q) ∙ e in let z : ◌≡◌ {A = ℕ} 0 1 = cc in absurd (omega arith))
+    (λ (q : payload_of s ≡ Some (values s)).
+    let p : Some (0 + length (values s)) ≡ Some n = sym (ap (form_of 0) q) ∙ e in
     let r : 0 + length (values s) ≡ n = cc in
     (q, omega arith))
     (spelt s)
 
 -- the three answers, with what the buffer then holds
 module _ (s out : List ℕ) where
-  pub read_not : form_of 0 (payload_of s) ≡ Not → (NotOfForm ≡ read_of (payload_of s) (length out)) × (out ≡ held_after (payload_of s) out)
+  pub read_not : form_of 0 (payload_of s) ≡ None → (Err NotOfForm ≡ read_of (payload_of s) (length out)) × (out ≡ held_after (payload_of s) out)
   read_not e = rw (known_not (payload_of s) e) (refl, refl)
 
-  pub read_short : (n : ℕ) → form_of 0 (payload_of s) ≡ Pairs n → length out < n → (TooShort ≡ read_of (payload_of s) (length out)) × (out ≡ held_after (payload_of s) out)
+  pub read_short : (n : ℕ) → form_of 0 (payload_of s) ≡ Some n → length out < n → (Err TooShort ≡ read_of (payload_of s) (length out)) × (out ≡ held_after (payload_of s) out)
   read_short n e h =
       let k = known_pairs s n e in
       let t : leb (length (values s)) (length out) ≡ false = lt-leb (length (values s)) (length out) (omega arith) in
       rw (k.0, t) (refl, refl)
 
-  pub read_bytes : (n : ℕ) (held : List ℕ) → form_of 0 (payload_of s) ≡ Pairs n → n ≤ length out → held ≡ sets out 0 (values s)
-      → (Bytes n ≡ read_of (payload_of s) (length out)) × (held ≡ held_after (payload_of s) out)
+  pub read_bytes : (n : ℕ) (held : List ℕ) → form_of 0 (payload_of s) ≡ Some n → n ≤ length out → held ≡ sets out 0 (values s)
+      → (Ok n ≡ read_of (payload_of s) (length out)) × (held ≡ held_after (payload_of s) out)
   read_bytes n held e h q =
       let k = known_pairs s n e in
       let t : leb (length (values s)) (length out) ≡ true = le-leb (length (values s)) (length out) (omega arith) in
-      rw (k.0, t) (ap Bytes k.1, q ∙ sets_front out (values s) (omega arith))
+      rw (k.0, t) (ap Ok k.1, q ∙ sets_front out (values s) (omega arith))

@@ -1,4 +1,6 @@
 -- The equations of the written form. Assumes nothing.
+use Rattle.std.specs.Prelude.{Ok, Err}
+use Rattle.hexadecimal.specs.declared.WriteRefusal.TheVariants.{NoRoom}
 use Prim.Native.Nat.{ℕ, ◌+◌, ◌*◌, ◌≤◌, ◌<◌}
 use mathlib.Core.Path.{◌≡◌, refl, ap, sym, ◌∙◌}
 use mathlib.Core.Bool.{true, false}
@@ -11,7 +13,6 @@ use lib.Seq.{sets}
 use borrow.Author.Tests.{le-leb, lt-leb}
 use Rattle.laws.proofs.Lists.{drop_step, drop_end, sets_front}
 use Rattle.hexadecimal.specs.Hex.{digits_of, spaced, text_of, written_of, laid}
-use Rattle.hexadecimal.specs.declared.Written.TheVariants.{Length, NoRoom}
 
 spaced_length : (bs : List ℕ) → length (spaced bs) ≡ 3 * length bs
 unfolding spaced
@@ -44,19 +45,19 @@ module _ (bs out : List ℕ) where
   unfolding spaced
   next_pair i k h = rw (drop_step bs i h) (simp towards_suc)
 
-  pub write_none : length bs ≡ 0 → (Length 0 ≡ written_of (text_of bs) (length out)) × (out ≡ laid (text_of bs) out)
+  pub write_none : length bs ≡ 0 → (Ok 0 ≡ written_of (text_of bs) (length out)) × (out ≡ laid (text_of bs) out)
   write_none h =
       let t : leb 0 (length out) ≡ true = le-leb 0 (length out) (omega arith) in
       rw (text_none bs h, t) (refl, refl)
 
-  pub write_short : (length out + 1) < 3 * length bs → (NoRoom ≡ written_of (text_of bs) (length out)) × (out ≡ laid (text_of bs) out)
+  pub write_short : (length out + 1) < 3 * length bs → (Err NoRoom ≡ written_of (text_of bs) (length out)) × (out ≡ laid (text_of bs) out)
   write_short h =
       let t : leb (length (text_of bs)) (length out) ≡ false = lt-leb (length (text_of bs)) (length out) (omega (arith, text_length bs (omega arith))) in
       rw t (refl, refl)
 
   pub write_whole : (k : ℕ) (held : List ℕ) → 0 < length bs → k + 1 ≡ 3 * length bs → k ≤ length out → held ≡ sets out 0 (text_of bs)
-      → (Length k ≡ written_of (text_of bs) (length out)) × (held ≡ laid (text_of bs) out)
+      → (Ok k ≡ written_of (text_of bs) (length out)) × (held ≡ laid (text_of bs) out)
   write_whole k held p e h q =
       let n : k ≡ length (text_of bs) = omega (arith, text_length bs p) in
       let t : leb (length (text_of bs)) (length out) ≡ true = le-leb (length (text_of bs)) (length out) (omega arith) in
-      rw t (ap Length n, q ∙ sets_front out (text_of bs) (omega arith))
+      rw t (ap Ok n, q ∙ sets_front out (text_of bs) (omega arith))

@@ -1,77 +1,46 @@
 // Bytes as text: pairs of hex digits, read in either case and written in capitals.
 #![tactic(auto)]
 
-ghost use Rattle.std.specs.Prelude.{◌≡◌, cond, ◌&&◌, ◌+◌, ◌*◌, ◌/◌, ◌%◌, ◌^◌, ◌<◌, ◌≤◌, length};
+ghost use Rattle.std.specs.Prelude.{◌≡◌, cond, is_some, ◌&&◌, ◌+◌, ◌*◌, ◌/◌, ◌%◌, ◌^◌, ◌<◌, ◌≤◌, length};
 ghost use Rattle.std.proofs.lemmas.List.Edits.{sets};
 ghost use Rattle.hexadecimal.specs.Hex.{digit_of, pair_of, payload_of, read_of, held_after, laid, capital_of, digits_of, text_of, written_of, four_pairs, word_of, word_text};
 ghost use Rattle.hexadecimal.specs.Passes.{form_of, worth, values};
-ghost use Rattle.hexadecimal.specs.Answers.{read_number, write_number, word_number, short_number, payload_number, is_good, is_eight_digits};
-
-// What a digit or a pair of digits is worth.
-#[derive(Clone, Copy)]
-pub enum Hex {
-    Value(u8),
-    Bad,
-}
+ghost use Rattle.hexadecimal.specs.Answers.{read_number, write_number, word_number, short_number, payload_number, is_eight_digits};
 
 // What one digit is worth, of either case.
-pub fn digit(x: u8) -> Hex
+#[tactic(auto, unfolding(crate::specs::Hex::between))]
+pub fn digit(x: u8) -> Option<u8>
     ensures is { result ≡ digit_of x }
     ensures small { worth result < 16 }
 {
-    if x < 48 {
-        return Hex::Bad;
+    match x {
+        b'0'..=b'9' => Some(x - 48),
+        b'A'..=b'F' => Some(x - 55),
+        b'a'..=b'f' => Some(x - 87),
+        _ => None,
     }
-    if x <= 57 {
-        return Hex::Value(x - 48);
-    }
-    if x < 65 {
-        return Hex::Bad;
-    }
-    if x <= 70 {
-        return Hex::Value(x - 55);
-    }
-    if x < 97 {
-        return Hex::Bad;
-    }
-    if x <= 102 {
-        return Hex::Value(x - 87);
-    }
-    Hex::Bad
 }
 
 // The byte that a pair of digits spells, the upper digit first.
-pub fn pair(a: u8, b: u8) -> Hex
+#[tactic(auto, unfolding(crate::specs::Hex::pair_of))]
+pub fn pair(a: u8, b: u8) -> Option<u8>
     ensures { result ≡ pair_of a b }
 {
-    match digit(a) {
-        Hex::Value(h) => match digit(b) {
-            Hex::Value(l) => Hex::Value(h * 16 + l),
-            Hex::Bad => Hex::Bad,
-        },
-        Hex::Bad => Hex::Bad,
-    }
+    let upper = digit(a)?;
+    let lower = digit(b)?;
+    Some(upper * 16 + lower)
 }
 
 // The byte that a pair spells, and 0 where one of its digits is bad.
 fn value(a: u8, b: u8) -> u8
     ensures { result ≡ worth (pair_of a b) }
 {
-    match pair(a, b) {
-        Hex::Value(v) => v,
-        Hex::Bad => 0,
-    }
+    pair(a, b).unwrap_or(0)
 }
 
-// Whether a text is of the form, and how many pairs it then has.
-#[derive(Clone, Copy)]
-enum Form {
-    Pairs(usize),
-    Not,
-}
-
-// The first pass touches no buffer, so that a refusal leaves every buffer as it was.
-fn count(text: &[u8]) -> Form
+// How many pairs a text has, where it is of the form. This first pass touches no buffer, so that a refusal leaves every
+// buffer as it was.
+fn count(text: &[u8]) -> Option<usize>
     ensures { result ≡ form_of 0 (payload_of text.now) }
 {
     let n = text.len();
@@ -79,19 +48,17 @@ fn count(text: &[u8]) -> Form
     let mut k = 0;
     loop {
         if n - i < 2 {
-            return Form::Not;
+            return None;
         }
-        let Hex::Value(_) = pair(text[i], text[i + 1]) else {
-            return Form::Not;
-        };
+        pair(text[i], text[i + 1])?;
         k += 1;
         i += 2;
         let rest = n - i;
         if rest == 0 {
-            return Form::Pairs(k);
+            return Some(k);
         }
         if text[i] != 32 {
-            return Form::Not;
+            return None;
         }
         i += 1;
     }
@@ -112,29 +79,27 @@ fn fill(text: &[u8], out: &mut [u8])
     }
 }
 
-// What reading a payload answers: how many bytes it spells, or why nothing was written.
+// Why no byte of a payload was read: it has another form, or the buffer cannot hold its bytes.
 #[derive(Clone, Copy)]
-pub enum Payload {
-    Bytes(usize),
+pub enum PayloadRefusal {
     NotOfForm,
     TooShort,
 }
 
-// The bytes that a payload spells, into the front of a lent buffer. Where a payload has another form, or the buffer
-// cannot hold its bytes, the buffer keeps what it held.
-pub fn read(text: &[u8], out: &mut [u8]) -> Payload
+// The bytes that a payload spells, into the front of a lent buffer, and how many they are. Where a payload is refused,
+// the buffer keeps what it held.
+#[tactic(auto, using(crate::proofs::Numbers::payload_number_lem, crate::proofs::Reading::known_pairs, crate::proofs::Reading::known_not))]
+pub fn read(text: &[u8], out: &mut [u8]) -> Result<usize, PayloadRefusal>
     ensures answer { result ≡ read_of (payload_of text.now) (length out.old) }
     ensures held { out.new ≡ held_after (payload_of text.now) out.old }
     ensures number { read_number result ≡ payload_number text.now (length out.old) }
 {
-    let Form::Pairs(n) = count(text) else {
-        return Payload::NotOfForm;
-    };
+    let n = count(text).ok_or(PayloadRefusal::NotOfForm)?;
     if out.len() < n {
-        return Payload::TooShort;
+        return Err(PayloadRefusal::TooShort);
     }
     fill(text, out);
-    Payload::Bytes(n)
+    Ok(n)
 }
 
 // The capital digit of a number below 16.
@@ -154,26 +119,25 @@ fn put(out: &mut [u8], at: usize, b: u8)
     out[at + 1] = capital(b % 16);
 }
 
-// What writing answers: how many characters were written, or that the buffer has no room for them.
+// Why nothing was written: the buffer has no room for the characters.
 #[derive(Clone, Copy)]
-pub enum Written {
-    Length(usize),
+pub enum WriteRefusal {
     NoRoom,
 }
 
-// The bytes as pairs of capital digits with one space between, into the front of a lent buffer, which keeps what it
-// held where it is too short.
-pub fn write(bytes: &[u8], out: &mut [u8]) -> Written
+// The bytes as pairs of capital digits with one space between, into the front of a lent buffer, and how many characters
+// they are. A buffer that is too short keeps what it held.
+pub fn write(bytes: &[u8], out: &mut [u8]) -> Result<usize, WriteRefusal>
     ensures answer { result ≡ written_of (text_of bytes.now) (length out.old) }
     ensures held { out.new ≡ laid (text_of bytes.now) out.old }
     ensures number { write_number result ≡ short_number (length (text_of bytes.now)) (length out.old) }
 {
     let n = bytes.len();
     if n == 0 {
-        return Written::Length(0);
+        return Ok(0);
     }
     if (out.len() + 1) / 3 < n {
-        return Written::NoRoom;
+        return Err(WriteRefusal::NoRoom);
     }
     put(out, 0, bytes[0]);
     let mut k = 2;
@@ -184,14 +148,7 @@ pub fn write(bytes: &[u8], out: &mut [u8]) -> Written
         k += 3;
         i += 1;
     }
-    Written::Length(k)
-}
-
-// What reading eight digits answers.
-#[derive(Clone, Copy)]
-pub enum Word {
-    Number(u32),
-    NotEight,
+    Ok(k)
 }
 
 // A number of four bytes, the uppermost first.
@@ -202,32 +159,21 @@ fn join(a: u8, b: u8, c: u8, d: u8) -> u32
 }
 
 // The number of four pairs, the uppermost first, where none of them is bad.
-fn four_pairs(upper: Hex, second: Hex, third: Hex, lowest: Hex) -> Word
+fn four_pairs(upper: Option<u8>, second: Option<u8>, third: Option<u8>, lowest: Option<u8>) -> Option<u32>
     ensures value { result ≡ four_pairs upper second third lowest }
-    ensures number { word_number result ≡ cond (is_good upper && is_good second && is_good third && is_good lowest) 0 14 }
+    ensures number { word_number result ≡ cond (is_some upper && is_some second && is_some third && is_some lowest) 0 14 }
 {
-    let Hex::Value(a) = upper else {
-        return Word::NotEight;
-    };
-    let Hex::Value(b) = second else {
-        return Word::NotEight;
-    };
-    let Hex::Value(c) = third else {
-        return Word::NotEight;
-    };
-    let Hex::Value(d) = lowest else {
-        return Word::NotEight;
-    };
-    Word::Number(join(a, b, c, d))
+    Some(join(upper?, second?, third?, lowest?))
 }
 
 // The 32-bit number that a text of exactly eight hex digits spells; any other text is not one.
-pub fn read_word(text: &[u8]) -> Word
+#[tactic(auto, using(crate::proofs::Numbers::word_number_lem), unfolding(crate::specs::Hex::word_of))]
+pub fn read_word(text: &[u8]) -> Option<u32>
     ensures value { result ≡ word_of text.now }
     ensures number { word_number result ≡ cond (is_eight_digits text.now) 0 14 }
 {
     if text.len() != 8 {
-        return Word::NotEight;
+        return None;
     }
     let upper = pair(text[0], text[1]);
     let second = pair(text[2], text[3]);

@@ -1,8 +1,8 @@
 -- A read gives each answer exactly when `GivenWhen` says, and a switch is exactly its text. Assumes nothing.
+use Rattle.std.specs.Prelude.{Option, Some, None, Ok, Err}
 use Prim.Native.Nat.{ℕ, ◌≤◌, ◌<◌}
 use mathlib.Core.Path.{◌≡◌, refl, ap, sym, ◌∙◌}
 use mathlib.Core.Bool.{Bool, true, false, cond, ◌&&◌}
-use mathlib.Core.Option.{Option, none, some}
 use mathlib.Core.List.{List, [], ◌∷◌}
 use native.Mathlib.Omega.{arith}
 use lib.Dec.{eqb, leb, ltb}
@@ -11,7 +11,7 @@ use borrow.Author.Tests.{eqb-true, leb-true, leb-false, ltb-true, ltb-false, lt-
 use Rattle.wire.specs.declared.forms.Form.{Form}
 use Rattle.wire.specs.declared.forms.Form.TheVariants.{Raw, Ascii}
 use Rattle.hexadecimal.specs.Hex.{payload_of, read_of}
-use Rattle.hexadecimal.specs.declared.Payload.{Payload}
+use Rattle.hexadecimal.specs.declared.PayloadRefusal.{PayloadRefusal}
 use Rattle.frames.specs.Frames.{starts_with, frame_of}
 use Rattle.frames.specs.First.{FrameAt}
 use Rattle.frames.specs.declared.Frame.{Frame}
@@ -82,10 +82,10 @@ long_no_switch payload l form q = absurd (omega (arith, text_short form, ap leng
 -- ---- each answer holds when it is given
 module _ (s : List ℕ) (room start end behind : ℕ) where
   given_spelt : Plain s start end behind → (o : Option (List ℕ)) → payload_of (part start end s) ≡ o → GivenWhen Ascii s room (spelt behind (read_of o room))
-  given_spelt p none q = (start, end, p, record { in_ascii = refl; spells_none = q })
-  given_spelt p (some bytes) q = go (leb (length bytes) room) refl
+  given_spelt p None q = (start, end, p, record { in_ascii = refl; spells_none = q })
+  given_spelt p (Some bytes) q = go (leb (length bytes) room) refl
     where
-      go : (t : Bool) → leb (length bytes) room ≡ t → GivenWhen Ascii s room (spelt behind (cond t (Payload.Bytes (length bytes)) Payload.TooShort))
+      go : (t : Bool) → leb (length bytes) room ≡ t → GivenWhen Ascii s room (spelt behind (cond t (Ok (length bytes)) (Err PayloadRefusal.TooShort)))
       go true e = (start, end, p, (bytes, q, leb-true (length bytes) room e, refl, refl))
       go false e = (start, end, p, bytes, record { in_ascii = refl; spells = q }, leb-false (length bytes) room e)
 

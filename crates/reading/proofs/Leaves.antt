@@ -1,9 +1,10 @@
 -- What a read leaves: the scratch buffer as it was, but for a command in ASCII form, whose bytes then stand at its
 -- front and are the payload handed on; and the numbers and places that it tells. Assumes nothing.
+use Rattle.std.specs.Prelude.{Option, Some, None, Result, Ok, Err}
 use Prim.Native.Nat.{ℕ, ◌+◌, ◌-◌, ◌≤◌}
 use mathlib.Core.Path.{◌≡◌, refl, ap, sym, subst}
 use mathlib.Core.Bool.{Bool, true, false, cond}
-use mathlib.Core.Option.{Option, none, some}
+use mathlib.Core.Option.{some}
 use mathlib.Core.List.{List, ◌++◌}
 use native.Mathlib.Omega.{arith}
 use lib.Dec.{eqb, leb, ltb}
@@ -13,7 +14,7 @@ use borrow.Author.Tests.{le-ltb, le-leb}
 use Rattle.wire.specs.declared.forms.Form.{Form}
 use Rattle.wire.specs.declared.forms.Form.TheVariants.{Raw, Ascii}
 use Rattle.hexadecimal.specs.Hex.{payload_of, read_of, held_after}
-use Rattle.hexadecimal.specs.declared.Payload.{Payload}
+use Rattle.hexadecimal.specs.declared.PayloadRefusal.{PayloadRefusal}
 use Rattle.frames.specs.Frames.{opening_tag, closing_tag, frame_of}
 use Rattle.frames.specs.First.{StandsAt, FrameAt, Complete}
 use Rattle.frames.specs.declared.Frame.{Frame}
@@ -42,10 +43,10 @@ Left (ScratchTooShort behind) form held after = after ≡ held
 
 module _ (held : List ℕ) where
   left_spelt : (o : Option (List ℕ)) (behind : ℕ) → Left (spelt behind (read_of o (length held))) Ascii held (held_after o held)
-  left_spelt none behind = refl
-  left_spelt (some bytes) behind = go (leb (length bytes) (length held))
+  left_spelt None behind = refl
+  left_spelt (Some bytes) behind = go (leb (length bytes) (length held))
     where
-      go : (t : Bool) → Left (spelt behind (cond t (Payload.Bytes (length bytes)) Payload.TooShort)) Ascii held (cond t (bytes ++ drop (length bytes) held) held)
+      go : (t : Bool) → Left (spelt behind (cond t (Ok (length bytes)) (Err PayloadRefusal.TooShort))) Ascii held (cond t (bytes ++ drop (length bytes) held) held)
       go true = tt
       go false = refl
 
@@ -100,7 +101,7 @@ module _ (held : List ℕ) where
       go (ScratchTooShort behind) l = l
 
   -- a command in ASCII form: its bytes at the front, and those past them as they were
-  pub ascii_holds : (s : List ℕ) (start end behind : ℕ) → Plain s start end behind → (bytes : List ℕ) → payload_of (part start end s) ≡ some bytes → length bytes ≤ length held
+  pub ascii_holds : (s : List ℕ) (start end behind : ℕ) → Plain s start end behind → (bytes : List ℕ) → payload_of (part start end s) ≡ Some bytes → length bytes ≤ length held
       → line_held Ascii s held ≡ bytes ++ drop (length bytes) held
   unfolding line_held command_held
   ascii_holds s start end behind p bytes q l =
@@ -113,7 +114,7 @@ module _ (held : List ℕ) where
       )
 
 -- what is handed on in ASCII form is what the payload spells
-pub payload_spelt : (s held : List ℕ) (start end behind : ℕ) → Plain s start end behind → (bytes : List ℕ) → payload_of (part start end s) ≡ some bytes → length bytes ≤ length held
+pub payload_spelt : (s held : List ℕ) (start end behind : ℕ) → Plain s start end behind → (bytes : List ℕ) → payload_of (part start end s) ≡ Some bytes → length bytes ≤ length held
     → payload_in Ascii s (line_held Ascii s held) 0 (length bytes) ≡ bytes
 unfolding part
 payload_spelt s held start end behind p bytes q l =
@@ -164,10 +165,10 @@ pub place_told : (form : Form) (s : List ℕ) (room start end behind : ℕ) → 
 unfolding line_of command_line ascii_line
 place_told form s room start end behind f = rw (frame_found s start end behind f) (go (switch_of (part start end s)))
   where
-    spelling : (o : Payload) → line_tells (spelt behind o) ≡ some behind
-    spelling (Payload.Bytes n) = refl
-    spelling Payload.NotOfForm = refl
-    spelling Payload.TooShort = refl
+    spelling : (o : Result ℕ PayloadRefusal) → line_tells (spelt behind o) ≡ some behind
+    spelling (Ok n) = refl
+    spelling (Err PayloadRefusal.NotOfForm) = refl
+    spelling (Err PayloadRefusal.TooShort) = refl
 
     forming : (form : Form) → line_tells (in_form form (part start end s) start end behind room) ≡ some behind
     forming Raw = refl

@@ -1,4 +1,5 @@
 -- Which number is told when, and with which place: a read's answers in document 01's conditions. Assumes nothing.
+use Rattle.std.specs.Prelude.{Result, Ok, Err}
 use Prim.Native.Nat.{ℕ}
 use mathlib.Core.Path.{◌≡◌, refl, ap, ◌∙◌}
 use mathlib.Core.Bool.{cond, not, ◌&&◌}
@@ -12,7 +13,7 @@ use Rattle.wire.specs.declared.forms.Form.{Form}
 use Rattle.wire.specs.declared.forms.Form.TheVariants.{Raw, Ascii}
 use Rattle.hexadecimal.specs.Hex.{payload_of, read_of}
 use Rattle.hexadecimal.specs.Answers as hex
-use Rattle.hexadecimal.specs.declared.Payload.{Payload}
+use Rattle.hexadecimal.specs.declared.PayloadRefusal.{PayloadRefusal}
 use Rattle.hexadecimal.proofs.Numbers.{payload_number_lem}
 use Rattle.frames.specs.Frames.{frame_of}
 use Rattle.frames.specs.Answers.{frame_number, has_frame, scan_number}
@@ -28,15 +29,15 @@ use Rattle.reading.specs.declared.Switched.TheVariants.{To, No}
 -- ---- 11 to 13, and the place
 
 module _ (behind : ℕ) (payload : List ℕ) (room : ℕ) where
-  spelt_number_lem : (o : Payload) → line_number (spelt behind o) ≡ hex.read_number o
-  spelt_number_lem (Payload.Bytes n) = refl
-  spelt_number_lem Payload.NotOfForm = refl
-  spelt_number_lem Payload.TooShort = refl
+  spelt_number_lem : (o : Result ℕ PayloadRefusal) → line_number (spelt behind o) ≡ hex.read_number o
+  spelt_number_lem (Ok n) = refl
+  spelt_number_lem (Err PayloadRefusal.NotOfForm) = refl
+  spelt_number_lem (Err PayloadRefusal.TooShort) = refl
 
-  spelt_place : (o : Payload) → line_tells (spelt behind o) ≡ some behind
-  spelt_place (Payload.Bytes n) = refl
-  spelt_place Payload.NotOfForm = refl
-  spelt_place Payload.TooShort = refl
+  spelt_place : (o : Result ℕ PayloadRefusal) → line_tells (spelt behind o) ≡ some behind
+  spelt_place (Ok n) = refl
+  spelt_place (Err PayloadRefusal.NotOfForm) = refl
+  spelt_place (Err PayloadRefusal.TooShort) = refl
 
   pub ascii_number : line_number (ascii_line behind payload room) ≡ hex.payload_number payload room
   unfolding ascii_line

@@ -1,7 +1,7 @@
 -- When each answer of a read is given, said of every answer: `Given` of the laws proves that a read gives the answer of
 -- which this holds, and no other. Assumes nothing: these are definitions.
-use Rattle.std.specs.Prelude.{ℕ, ◌≤◌, ◌<◌, length}
-use mathlib.Core.{Path.◌≡◌, Option.none, Option.some, List.List}
+use Rattle.std.specs.Prelude.{ℕ, ◌≤◌, ◌<◌, length, Some, None}
+use mathlib.Core.{Path.◌≡◌, List.List}
 use Rattle.wire.specs.declared.forms.Form.{Form}
 use Rattle.wire.specs.declared.forms.Form.TheVariants.{Raw, Ascii}
 use Rattle.hexadecimal.specs.Hex.{payload_of}
@@ -18,17 +18,17 @@ pub record Plain (s : List ℕ) (start end behind : ℕ) : Type 0 where
 -- a payload in ASCII form that spells bytes
 pub record Spelt (payload bytes : List ℕ) (form : Form) : Type 0 where
   pub in_ascii : form ≡ Ascii
-  pub spells : payload_of payload ≡ some bytes
+  pub spells : payload_of payload ≡ Some bytes
 
 -- a payload in ASCII form that spells none
 pub record Unspelt (payload : List ℕ) (form : Form) : Type 0 where
   pub in_ascii : form ≡ Ascii
-  pub spells_none : payload_of payload ≡ none
+  pub spells_none : payload_of payload ≡ None
 
 -- where the payload handed on lies: among the received bytes, or at the front of a scratch buffer with so much room
 abbrev pub Handed : Form → List ℕ → ℕ → ℕ → ℕ → ℕ → ℕ → Type 0
 Handed Raw payload room start end from to = (from ≡ start) × (to ≡ end)
-Handed Ascii payload room start end from to = (bytes : List ℕ) × (payload_of payload ≡ some bytes) × (length bytes ≤ room) × (from ≡ 0) × (to ≡ length bytes)
+Handed Ascii payload room start end from to = (bytes : List ℕ) × (payload_of payload ≡ Some bytes) × (length bytes ≤ room) × (from ≡ 0) × (to ≡ length bytes)
 
 abbrev pub GivenWhen : Form → List ℕ → ℕ → Line → Type 0
 GivenWhen form s room NoFrame = Complete s → ⊥  -- 10

@@ -1,11 +1,11 @@
 -- What a read of the text line answers, what the scratch buffer then holds, and the payload handed on. Assumes nothing:
 -- these are definitions.
-use Rattle.std.specs.Prelude.{ℕ, ◌-◌}
+use Rattle.std.specs.Prelude.{ℕ, ◌-◌, Result, Ok, Err}
 use mathlib.Core.{Bool.Bool, Bool.cond, Bool.◌&&◌, List.List, List.[], List.◌∷◌}
 use lib.{Dec.eqb, Dec.ltb, ListN.length, ListN.take, ListN.drop}
 use Rattle.wire.specs.declared.forms.Form.{Form}
 use Rattle.wire.specs.declared.forms.Form.TheVariants.{Raw, Ascii}
-use Rattle.hexadecimal.specs.{Hex.payload_of, Hex.read_of, Hex.held_after, declared.Payload.Payload}
+use Rattle.hexadecimal.specs.{Hex.payload_of, Hex.read_of, Hex.held_after, declared.PayloadRefusal.PayloadRefusal}
 use Rattle.frames.specs.{Frames.starts_with, Frames.frame_of, declared.Frame.Frame}
 use Rattle.frames.specs.declared.Frame.TheVariants.{Found, NotThere}
 use Rattle.reading.specs.{declared.Line.Line, declared.Switched.Switched}
@@ -35,10 +35,10 @@ switch_of payload = cond (same payload (switch_text Raw)) (To Raw) (cond (same p
 
 -- in ASCII form: the bytes that the pairs spell, from the front of the scratch buffer on; 12 where they are not of the
 -- form, 13 where there is no room
-abbrev pub spelt : ℕ → Payload → Line
-spelt behind (Payload.Bytes n) = Command 0 n behind
-spelt behind Payload.NotOfForm = NotOfForm behind
-spelt behind Payload.TooShort = ScratchTooShort behind
+abbrev pub spelt : ℕ → Result ℕ PayloadRefusal → Line
+spelt behind (Ok n) = Command 0 n behind
+spelt behind (Err PayloadRefusal.NotOfForm) = NotOfForm behind
+spelt behind (Err PayloadRefusal.TooShort) = ScratchTooShort behind
 
 unfoldable pub ascii_line : ℕ → List ℕ → ℕ → Line
 ascii_line behind payload room = spelt behind (read_of (payload_of payload) room)

@@ -11,7 +11,7 @@ ghost use Rattle.reading.specs.Lines.{same, switch_of, part, ascii_line, command
 ghost use Rattle.reading.specs.Answers.{line_number, line_tells, place_behind, command_number, reading_number};
 
 use frames::{Frame, scan};
-use hexadecimal::Payload;
+use hexadecimal::PayloadRefusal;
 use wire::Form;
 
 // The most received bytes that a payload may have, in either form.
@@ -81,6 +81,7 @@ fn switch_of(payload: &[u8]) -> Switched
 }
 
 // A payload in ASCII form, decoded into the scratch buffer.
+#[tactic(auto, unfolding(crate::specs::Lines::ascii_line))]
 fn ascii_line(payload: &[u8], behind: usize, scratch: &mut [u8]) -> Line
     ensures answer { result ≡ ascii_line behind payload.now (length scratch.old) }
     ensures held { scratch.new ≡ held_after (payload_of payload.now) scratch.old }
@@ -88,13 +89,13 @@ fn ascii_line(payload: &[u8], behind: usize, scratch: &mut [u8]) -> Line
     ensures place { line_tells result ≡ some behind }
 {
     match hexadecimal::read(payload, scratch) {
-        Payload::Bytes(n) => Line::Command {
+        Ok(n) => Line::Command {
             start: 0,
             end: n,
             behind,
         },
-        Payload::NotOfForm => Line::NotOfForm { behind },
-        Payload::TooShort => Line::ScratchTooShort { behind },
+        Err(PayloadRefusal::NotOfForm) => Line::NotOfForm { behind },
+        Err(PayloadRefusal::TooShort) => Line::ScratchTooShort { behind },
     }
 }
 

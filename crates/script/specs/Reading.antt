@@ -1,16 +1,15 @@
 -- The fields of a script line. Characters are their ASCII codes; a place past the end of a text counts as the character
 -- 0, which is no digit. Assumes nothing: these are definitions.
-use Rattle.std.specs.Prelude.{ℕ, zero, suc, ◌+◌, ◌*◌, ◌%◌}
+use Rattle.std.specs.Prelude.{ℕ, zero, suc, ◌+◌, ◌*◌, ◌%◌, Option, Some, None}
 use mathlib.Core.{Bool.cond, List.List, List.[], List.◌∷◌}
 use lib.{Dec.ltb, ListN.get_or, ListN.drop}
-use Rattle.hexadecimal.specs.{Hex.digit_of, Hex.pair_of, Passes.worth, declared.Hex.Hex}
-use Rattle.hexadecimal.specs.declared.Hex.TheVariants.{Value, Bad}
+use Rattle.hexadecimal.specs.{Hex.digit_of, Hex.pair_of, Passes.worth}
 use Rattle.script.specs.{declared.reading.Field.Field, declared.reading.Count.Count}
 
 -- what holds where a digit is one
-abbrev pub where_one : {A : Type 0} → Hex → A → A → A
-where_one (Value d) a bad = a
-where_one Bad a bad = bad
+abbrev pub where_one : {A : Type 0} → Option ℕ → A → A → A
+where_one (Some d) a bad = a
+where_one None a bad = bad
 
 -- the number of k digits in front of a text, behind the digits of n; of more than eight digits the lowest eight count
 unfoldable pub field_of : ℕ → ℕ → List ℕ → Field

@@ -3,8 +3,6 @@ ghost use Rattle.std.specs.Prelude.{◌≡◌, [], cond, eqb, length, get_or, ta
 ghost use Rattle.std.proofs.lemmas.List.Edits.{sets};
 ghost use Rattle.script.specs.Reading.{field_of, count_of, sound, words_of};
 
-use hexadecimal::Hex;
-
 // What a field is.
 #[derive(Clone, Copy)]
 pub enum Field {
@@ -45,7 +43,7 @@ pub fn number(line: &[u8], at: usize, digits: usize) -> Field
     let mut left = digits;
     let mut i = 0;
     while 0 < left {
-        let Hex::Value(d) = hexadecimal::digit(wire::byte(text, i)) else {
+        let Some(d) = hexadecimal::digit(wire::byte(text, i)) else {
             return Field::Bad;
         };
         n = n % 268435456 * 16 + d as u32;
@@ -63,7 +61,7 @@ pub fn pairs(text: &[u8], out: &mut [u8]) -> Count
     let n = text.len() / 2;
     let mut k = 0;
     while k < n {
-        let Hex::Value(b) = hexadecimal::pair(text[2 * k], text[2 * k + 1]) else {
+        let Some(b) = hexadecimal::pair(text[2 * k], text[2 * k + 1]) else {
             return Count::Bad;
         };
         if out.len() <= k {

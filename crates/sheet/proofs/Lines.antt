@@ -2,14 +2,14 @@
 use Prim.Native.Nat.{ℕ, ◌+◌}
 use mathlib.Core.Path.{◌≡◌, refl, ap, ◌∙◌}
 use mathlib.Core.Bool.{Bool, true, false, cond}
-use mathlib.Core.Option.{Option, none, some}
 use mathlib.Core.List.{List, [], ◌∷◌}
 use lib.Dec.{leb, leb-zero}
 use lib.IntN.{ℤ}
 use lib.ListN.{length}
 use Rattle.hexadecimal.specs.Hex.{payload_of, read_of, laid, held_after}
-use Rattle.hexadecimal.specs.declared.Payload.{Payload}
-use Rattle.hexadecimal.specs.declared.Payload.TheVariants.{Bytes, NotOfForm, TooShort}
+use Rattle.std.specs.Prelude.{Result, Ok, Err, Option, Some, None}
+use Rattle.hexadecimal.specs.declared.PayloadRefusal.{PayloadRefusal}
+use Rattle.hexadecimal.specs.declared.PayloadRefusal.TheVariants.{NotOfForm, TooShort}
 use Rattle.grammar.specs.Grammar.{Read, fails, reads, on, text, up_to}
 use Rattle.grammar.proofs.Bytes.{up_to_byte}
 use Rattle.sheet.specs.Form.{where_true, Transfer, silence, bytes_of, spells, command, Tick, any_tick_line, within, tick_line}
@@ -18,22 +18,22 @@ use Rattle.sheet.specs.declared.ticks.TickLine.{TickLine}
 use Rattle.sheet.specs.declared.ticks.Command.{Command}
 
 -- ---- what a command spells, by what the read of its text answered
-abbrev pub command_by : ℕ → Payload → Command
-command_by next (Bytes count) = Command.Is true count next
-command_by next NotOfForm = Command.Not
-command_by next TooShort = Command.TooLong
+abbrev pub command_by : ℕ → Result ℕ PayloadRefusal → Command
+command_by next (Ok count) = Command.Is true count next
+command_by next (Err NotOfForm) = Command.Not
+command_by next (Err TooShort) = Command.TooLong
 
 pub spells_told : (o : Option (List ℕ)) (room next : ℕ) → command_by next (read_of o room) ≡ command_of room (spells o next)
-spells_told none room next = refl
-spells_told (some bs) room next = go (leb (length bs) room)
+spells_told None room next = refl
+spells_told (Some bs) room next = go (leb (length bs) room)
   where
-    go : (t : Bool) → command_by next (cond t (Bytes (length bs)) TooShort) ≡ cond t (Command.Is true (length bs) next) Command.TooLong
+    go : (t : Bool) → command_by next (cond t (Ok (length bs)) (Err TooShort)) ≡ cond t (Command.Is true (length bs) next) Command.TooLong
     go true = refl
     go false = refl
 
 pub spells_held : (o : Option (List ℕ)) (next : ℕ) (held : List ℕ) → held_after o held ≡ command_held (spells o next) held
-spells_held none next held = refl
-spells_held (some bs) next held = refl
+spells_held None next held = refl
+spells_held (Some bs) next held = refl
 
 -- no bytes change nothing
 pub laid_none : (held : List ℕ) → held ≡ laid [] held

@@ -1,8 +1,8 @@
 -- The session sheet's form, as document 01 gives it: each part reads a text from a place on, and goes on behind what it
 -- read. Characters are their ASCII codes: 10 ends a line, 32 is a space, 45 is `-`. Assumes nothing: these are
 -- definitions.
-use Rattle.std.specs.Prelude.{ℕ, zero, suc, ◌+◌}
-use mathlib.Core.{Bool.Bool, Bool.cond, List.List, List.[], List.◌∷◌, Option.Option, Option.none, Option.some}
+use Rattle.std.specs.Prelude.{ℕ, zero, suc, ◌+◌, Option, Some, None}
+use mathlib.Core.{Bool.Bool, Bool.cond, List.List, List.[], List.◌∷◌}
 use lib.{Dec.leb, IntN.ℤ, ListN.length}
 use Rattle.hexadecimal.specs.Hex.{payload_of}
 use Rattle.channels.specs.Sets.{with_channel}
@@ -95,8 +95,8 @@ bytes_of (bytes bs) = bs
 
 -- the bytes that a command spells, where it ends before a place
 abbrev pub spells : Option (List ℕ) → ℕ → Read Transfer
-spells none i = fails
-spells (some bs) i = reads (bytes bs) i
+spells None i = fails
+spells (Some bs) i = reads (bytes bs) i
 
 -- `-`, or pairs of hex digits as on the text line; then the line's end
 unfoldable pub command : Parser Transfer

@@ -5,7 +5,7 @@ ghost use Rattle.sheet.specs.Form.{spells, command, any_tick_line};
 ghost use Rattle.sheet.specs.Answers.{command_of, command_held, tick_of, tick_held, tick_number, tick_refusal};
 
 use grammar::{Next, Place, Signed, Word, find_byte, literal, read_signed, read_word};
-use hexadecimal::Payload;
+use hexadecimal::PayloadRefusal;
 
 // What a tick line says, with how many bytes of a transfer it spells and the place behind it.
 #[derive(Clone, Copy)]
@@ -39,13 +39,13 @@ fn spelt(text: &[u8], next: usize, transfer: &mut [u8]) -> Command
     ensures held { transfer.new ≡ command_held (spells (payload_of text.now) next) transfer.old }
 {
     match hexadecimal::read(text, transfer) {
-        Payload::Bytes(count) => Command::Is {
+        Ok(count) => Command::Is {
             sent: true,
             count,
             next,
         },
-        Payload::NotOfForm => Command::Not,
-        Payload::TooShort => Command::TooLong,
+        Err(PayloadRefusal::NotOfForm) => Command::Not,
+        Err(PayloadRefusal::TooShort) => Command::TooLong,
     }
 }
 

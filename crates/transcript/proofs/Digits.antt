@@ -11,7 +11,8 @@ use lib.Seq.{take_at}
 use borrow.Author.Tests.{le-leb}
 use Rattle.laws.proofs.Lists.{lt_or_le}
 use Rattle.hexadecimal.specs.Hex.{text_of, laid, written_of}
-use Rattle.hexadecimal.specs.declared.Written.TheVariants.{Length, NoRoom}
+use Rattle.std.specs.Prelude.{Ok, IsOk}
+use borrow.Author.Rules.{rules}
 use Rattle.hexadecimal.proofs.Writing.{text_length, text_none}
 use Rattle.transcript.specs.Transcript.{digit_for, digits_for}
 
@@ -50,14 +51,11 @@ module _ (bytes held : List ℕ) (h : length bytes ≤ 274) (room : length held 
   fits : leb (length (text_of bytes)) (length held) ≡ true
   fits = le-leb (length (text_of bytes)) (length held) (omega (arith, text_fits_reply bytes h))
 
-  pub digits_written : (n : ℕ) → written_of (text_of bytes) (length held) ≡ Length n → take n (laid (text_of bytes) held) ≡ text_of bytes
+  pub digits_written : (n : ℕ) → written_of (text_of bytes) (length held) ≡ Ok n → take n (laid (text_of bytes) held) ≡ text_of bytes
   digits_written n e =
-      let w : Length (length (text_of bytes)) ≡ Length n = rw fits at e in
+      let w : Ok (length (text_of bytes)) ≡ Ok n = rw fits at e in
       let m : length (text_of bytes) ≡ n = cc in
       rw fits (take_at (text_of bytes) (drop (length (text_of bytes)) held) n m)
 
-  pub digits_fit : written_of (text_of bytes) (length held) ≡ NoRoom → ⊥
-  digits_fit e =
-      let w : Length (length (text_of bytes)) ≡ NoRoom = rw fits at e in
-      let z : ◌≡◌ {A = ℕ} 0 1 = cc in
-      absurd (omega arith)
+  pub digits_fit : IsOk (written_of (text_of bytes) (length held))
+  digits_fit = rw fits (search rules)

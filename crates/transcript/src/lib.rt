@@ -8,7 +8,6 @@ ghost use Rattle.wire.specs.Replies.{shown};
 ghost use Rattle.script.specs.Printing.{page, typed};
 ghost use Rattle.transcript.specs.Transcript.{digit_for, decimal, made_text, ticks_text, tick_text, refusal_text};
 
-use hexadecimal::Written;
 use script::printing::{put, text};
 use state::Board;
 use wire::Reply;
@@ -64,10 +63,8 @@ fn reply(out: &mut [u8], at: usize, r: Reply) -> usize
     let bytes = r.bytes;
     let len = r.len;
     let mut digits = [0u8; 1024];
-    match hexadecimal::write(wire::first(&bytes, len), &mut digits) {
-        Written::Length(n) => text(out, at, wire::first(&digits, n)),
-        Written::NoRoom => at,
-    }
+    let n = hexadecimal::write(wire::first(&bytes, len), &mut digits).unwrap();
+    text(out, at, wire::first(&digits, n))
 }
 
 // A space, and the reply made in a tick and still waiting, or `-`.

@@ -26,7 +26,7 @@ pub overflow_mul-v : goal.overflow_mul-v
 overflow_mul-v c = omega (arith, small c.loop-left.left)
 
 pub overflow_add-v : goal.overflow_add-v
-overflow_add-v c = omega (arith, small c.loop-left.left, ap worth c.in-Value.is)
+overflow_add-v c = omega (arith, small c.loop-left.left, ap worth c.in-Some.is)
 
 pub overflow_add-i : goal.overflow_add-i
 overflow_add-i c = omega (arith, c.peek-x.ensures.inside (omega arith))
@@ -37,9 +37,9 @@ loop-left-preserved c =
     let s = c.args.s.now in
     record {
       upto = omega arith;
-      fits = grows l.left l.v _ (omega arith) (omega arith) l.invariant.fits (omega (arith, ap worth c.in-Value.is));
+      fits = grows l.left l.v _ (omega arith) (omega arith) l.invariant.fits (omega (arith, ap worth c.in-Some.is));
       same =
-          sym (word_more l.left l.v _ s l.i (omega arith) (sym (ap digit_of c.peek-x.ensures.is) ∙ sym c.digit.ensures.is ∙ c.in-Value.is))
+          sym (word_more l.left l.v _ s l.i (omega arith) (sym (ap digit_of c.peek-x.ensures.is) ∙ sym c.digit.ensures.is ∙ c.in-Some.is))
           ∙ l.invariant.same;
     }
 

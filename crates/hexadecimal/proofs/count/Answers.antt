@@ -13,15 +13,15 @@ returns-then-n-i-lt2 c =
     let l = c.loop-i in
     sym (turn_short c.args.text.now l.i l.k (omega arith)) ∙ l.invariant.3
 
-pub returns-in_default : goal.returns-in_default
-returns-in_default c =
+pub returns-in_err-pair : goal.returns-in_err-pair
+returns-in_err-pair c =
     let l = c.loop-i in
-    sym (turn_bad c.args.text.now l.i l.k (omega arith) (sym c.pair.ensures ∙ c.in_default.is)) ∙ l.invariant.3
+    c.from_residual.ensures ∙ sym (turn_bad c.args.text.now l.i l.k (omega arith) (sym c.pair.ensures ∙ c.in_err-pair.was)) ∙ l.invariant.3
 
 pub returns-then-rest-eq0 : goal.returns-then-rest-eq0
 returns-then-rest-eq0 c =
     let l = c.loop-i in
-    sym (turn_last c.args.text.now l.i l.k _ (omega arith) (sym c.pair.ensures ∙ c.in-Value.is)) ∙ l.invariant.3
+    sym (turn_last c.args.text.now l.i l.k _ (omega arith) (sym c.pair.ensures ∙ c.in_ok-pair.was)) ∙ l.invariant.3
 
 pub returns-then-text-i-ne32 : goal.returns-then-text-i-ne32
 returns-then-text-i-ne32 c =
@@ -34,5 +34,5 @@ loop-i-preserved c =
       search rules,
       search rules,
       search rules,
-      sym (turn_more c.args.text.now l.i l.k _ (omega arith) (sym c.pair.ensures ∙ c.in-Value.is) (omega arith)) ∙ l.invariant.3,
+      sym (turn_more c.args.text.now l.i l.k _ (omega arith) (sym c.pair.ensures ∙ c.in_ok-pair.was) (omega arith)) ∙ l.invariant.3,
     )

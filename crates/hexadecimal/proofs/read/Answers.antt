@@ -1,28 +1,23 @@
--- The answer of the first pass says which case of `read_of` and of `held_after` it is. Assumes nothing.
-use native.Mathlib.Omega.{arith}
-use mathlib.Core.Path.{sym, ◌∙◌}
-use lib.ListN.{length}
-use Rattle.hexadecimal.proofs.Reading.{known_pairs, read_not, read_short, read_bytes}
-use Rattle.hexadecimal.proofs.Numbers.{with_read_number}
+-- The number is that of the answer. Assumes nothing.
+use Rattle.std.proofs.Common.{rules, length, arith}
+use Rattle.std.proofs.Common.{◌∙◌}
+use borrow.Author.Tests.{le-leb}
+use Rattle.laws.proofs.Lists.{sets_front}
+use Rattle.hexadecimal.specs.Passes.{values}
+use Rattle.hexadecimal.proofs.Reading.{known_pairs}
+use Rattle.hexadecimal.proofs.Numbers.{payload_number_lem}
 use Rattle.hexadecimal.proofs.read.Goals as goal
 
-pub returns-in_default : goal.returns-in_default
-returns-in_default c =
-    let a = c.args in
-    let p = with_read_number a.text.now (length a.out.now) (read_not a.text.now a.out.now (sym c.count.ensures ∙ c.in_default.is)) in
-    record { answer = p.0; held = p.1.0; number = p.1.1 }
+pub returns-in_err-n-clause-number : goal.returns-in_err-n-clause-number
+returns-in_err-n-clause-number c = rw (← payload_number_lem c.args.text.now (length c.args.out.now)) (search rules)
 
-pub returns-then-out-n : goal.returns-then-out-n
-returns-then-out-n c =
-    let a = c.args in
-    let p = with_read_number a.text.now (length a.out.now) (read_short a.text.now a.out.now _ (sym c.count.ensures ∙ c.in-Pairs.is) (omega arith)) in
-    record { answer = p.0; held = p.1.0; number = p.1.1 }
+pub returns-then-out-n-clause-number : goal.returns-then-out-n-clause-number
+returns-then-out-n-clause-number c = rw (← payload_number_lem c.args.text.now (length c.args.out.now)) (search rules)
 
-pub fill-requires : goal.fill-requires
-fill-requires c = omega (arith, (known_pairs c.args.text.now _ (sym c.count.ensures ∙ c.in-Pairs.is)).1)
+pub returns-clause-held : goal.returns-clause-held
+returns-clause-held c =
+    let k = known_pairs c.args.text.now c.in_ok-n.n (search rules) in
+    rw (k.0, le-leb (length (values c.args.text.now)) (length c.args.out.now) (omega arith)) (c.fill.ensures ∙ sets_front c.args.out.now (values c.args.text.now) (omega arith))
 
-pub returns : goal.returns
-returns c =
-    let a = c.args in
-    let p = with_read_number a.text.now (length a.out.now) (read_bytes a.text.now a.out.now _ _ (sym c.count.ensures ∙ c.in-Pairs.is) (omega arith) c.fill.ensures) in
-    record { answer = p.0; held = p.1.0; number = p.1.1 }
+pub returns-clause-number : goal.returns-clause-number
+returns-clause-number c = rw (← payload_number_lem c.args.text.now (length c.args.out.now)) (search rules)

@@ -19,13 +19,13 @@ returns-in_default c =
     sym (number_bad l.n l.left c.rest-text.result.now l.i (omega arith) w) ∙ l.invariant.1 ∙ ap (field_of 0 c.args.digits) c.rest-text.ensures
 
 pub overflow_add-n : goal.overflow_add-n
-overflow_add-n c = omega (arith, ap worth c.in-Value.is)
+overflow_add-n c = omega (arith, ap worth c.in-Some.is)
 
 pub loop-left-preserved : goal.loop-left-preserved
 loop-left-preserved c =
     let l = c.loop-left in
-    let w = ap digit_of (sym c.byte.ensures) ∙ sym c.digit.ensures.is ∙ c.in-Value.is in
-    (omega arith, sym (number_good l.n l.left c.rest-text.result.now l.i (omega arith) c.in-Value.d w) ∙ l.invariant.1)
+    let w = ap digit_of (sym c.byte.ensures) ∙ sym c.digit.ensures.is ∙ c.in-Some.is in
+    (omega arith, sym (number_good l.n l.left c.rest-text.result.now l.i (omega arith) c.in-Some.d w) ∙ l.invariant.1)
 
 pub returns : goal.returns
 returns c =

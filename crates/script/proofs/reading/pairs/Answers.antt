@@ -35,15 +35,15 @@ returns-then-out-k-clause-answer c =
     let l = c.loop-k in
     let s = c.args.text.now in
     let room = length c.args.out.now in
-    let w = sym c.pair.ensures ∙ c.in-Value.is in
-    sym (count_full s (2 * l.k) (omega arith) l.k room c.in-Value.b w (omega arith)) ∙ l.invariant.3
+    let w = sym c.pair.ensures ∙ c.in-Some.is in
+    sym (count_full s (2 * l.k) (omega arith) l.k room c.in-Some.b w (omega arith)) ∙ l.invariant.3
 
 pub returns-then-out-k-clause-held : goal.returns-then-out-k-clause-held
 returns-then-out-k-clause-held c =
     let l = c.loop-k in
     let s = c.args.text.now in
     let room = length c.args.out.now in
-    let w = sym c.pair.ensures ∙ c.in-Value.is in
+    let w = sym c.pair.ensures ∙ c.in-Some.is in
     sym (sets_out l.out l.k (sound (drop (2 * l.k) s)) (omega arith)) ∙ l.invariant.4
 
 pub loop-k-preserved : goal.loop-k-preserved
@@ -51,13 +51,13 @@ loop-k-preserved c =
     let l = c.loop-k in
     let s = c.args.text.now in
     let room = length c.args.out.now in
-    let w = sym c.pair.ensures ∙ c.in-Value.is in
+    let w = sym c.pair.ensures ∙ c.in-Some.is in
     let e : 2 * (l.k + 1) ≡ 2 * l.k + 2 = omega arith in (
       refl,
       omega arith,
       simp length-set l.invariant.2,
-      rw e (sym (count_good s (2 * l.k) (omega arith) l.k room c.in-Value.b w (omega arith)) ∙ l.invariant.3),
-      rw e (sets_turn l.out l.k (sound_good s (2 * l.k) (omega arith) c.in-Value.b w) refl ∙ l.invariant.4),
+      rw e (sym (count_good s (2 * l.k) (omega arith) l.k room c.in-Some.b w (omega arith)) ∙ l.invariant.3),
+      rw e (sets_turn l.out l.k (sound_good s (2 * l.k) (omega arith) c.in-Some.b w) refl ∙ l.invariant.4),
     )
 
 pub returns-then-n-text-clause-answer : goal.returns-then-n-text-clause-answer
