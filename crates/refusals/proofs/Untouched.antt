@@ -9,13 +9,12 @@ use native.Mathlib.Omega.{arith}
 use lib.Dec.{eqb}
 use lib.ListN.{length}
 use borrow.Author.Tests.{eq-eqb, ne_eqb}
+use Rattle.std.specs.Prelude.{Ok, Err}
 use Rattle.laws.proofs.Cases.{cases}
 use Rattle.memory.specs.Memory.{Store, empty_store}
 use Rattle.state.specs.Parts.{word_count}
-use Rattle.state.specs.Start.{keeps_the_rules, start_of}
+use Rattle.state.specs.Start.{StartAnswer, keeps_the_rules, start_of}
 use Rattle.state.specs.declared.parts.Profile.{Profile}
-use Rattle.state.specs.declared.starting.StartAnswer.{StartAnswer}
-use Rattle.state.specs.declared.starting.StartAnswer.TheVariants.{Accepted, ProfileBreaksARule as BreaksARule}
 use Rattle.state.specs.declared.starting.Started.{Started}
 use Rattle.state.proofs.Laws as state
 use Rattle.board.specs.Tick.{allowed_count, tick_of}
@@ -43,8 +42,8 @@ use Rattle.refusals.specs.Untouched.{start_told, Eight, NeitherNoneNorAll, Nine,
 use Rattle.refusals.proofs.Rules.{rules_kept, kept_rules, form_read, read_form}
 
 begun_answer : (a : StartAnswer) (s : Started) (there : Machine) → (begun_by a s there).answer ≡ a
-begun_answer Accepted s there = refl
-begun_answer BreaksARule s there = refl
+begun_answer (Ok done) s there = refl
+begun_answer (Err r) s there = refl
 
 -- the number of a start, by the rules
 start_number_lem : (there : Machine) (p : Profile) (store : Store) → start_told there p store ≡ cond (keeps_the_rules p store) 0 8

@@ -8,8 +8,10 @@ use mathlib.Core.List.{List, [], ◌++◌}
 use native.Mathlib.Omega.{arith}
 use lib.ListN.{length}
 use borrow.Author.Tests.{ne_eqb, lt-ltb, le-ltb, le-leb, lt-leb}
+use Rattle.std.specs.Prelude.{Ok, Err}
 use Rattle.laws.proofs.Lists.{lt_or_le}
-use Rattle.state.specs.declared.starting.StartAnswer as start
+use Rattle.state.specs.Start.{StartAnswer}
+use Rattle.state.specs.declared.starting.StartRefusal.{StartRefusal}
 use Rattle.state.specs.Start.{keeps_the_rules, start_of}
 use Rattle.memory.specs.Memory.{empty_store}
 use Rattle.unit.specs.Machine.{begun_of}
@@ -32,9 +34,9 @@ pub open_is : (held s : List ℕ) → opened_of held s ≡ opens (session_from (
 unfolding opened_of started_of typed
 open_is held s = go (sheet_in s)
   where
-    begun : (a : start.StartAnswer) (m : Machine) (count first : ℕ) → started_by a m count first held ≡ opens (session_by a m count first) (answer_by a) (typed (page held 0) (first_by a count))
-    begun start.StartAnswer.Accepted m count first = refl
-    begun start.StartAnswer.ProfileBreaksARule m count first = refl
+    begun : (a : StartAnswer) (m : Machine) (count first : ℕ) → started_by a m count first held ≡ opens (session_by a m count first) (answer_by a) (typed (page held 0) (first_by a count))
+    begun (Ok done) m count first = refl
+    begun (Err StartRefusal.ProfileBreaksARule) m count first = refl
 
     go : (r : Read Sheet) → opened_by r held ≡ opens (session_from r) (answer_from r) (typed (page held 0) (first_from r))
     go fails = refl
@@ -78,12 +80,12 @@ pub transcript : (s : List ℕ) → first_from (sheet_in s) ++ (refusal_text (an
 unfolding transcript_of steps_from
 transcript s = go (sheet_in s) refl
   where
-    begun : (a : start.StartAnswer) (m : Machine) (count first : ℕ) (ticks : List Tick) → times count (tick_line 256) s first ≡ reads ticks (length s)
+    begun : (a : StartAnswer) (m : Machine) (count first : ℕ) (ticks : List Tick) → times count (tick_line 256) s first ≡ reads ticks (length s)
         → first_by a count ++ (refusal_text (answer_by a) ++ steps_from (session_by a m count first).left s (session_by a m count first)) ≡ begun_text a m count ticks
-    begun start.StartAnswer.Accepted m count first ticks e =
+    begun (Ok done) m count first ticks e =
         let one : count - count + 1 ≡ 1 = omega arith in
         ap (λ (rest : List ℕ). ticks_text count ++ rest) (steps_lines count count first m s ticks (length s) e (omega arith) ∙ ap (λ (k : ℕ). lines_from k m ticks) one)
-    begun start.StartAnswer.ProfileBreaksARule m count first ticks e = refl
+    begun (Err StartRefusal.ProfileBreaksARule) m count first ticks e = refl
 
     go : (r : Read Sheet) → sheet_in s ≡ r → first_from r ++ (refusal_text (answer_from r) ++ steps_from (session_from r).left s (session_from r)) ≡ sheet_text r
     go fails q = refl
@@ -106,9 +108,9 @@ number_14 s e = rw e
 pub only_14 : (s : List ℕ) → opened_number (answer_from (sheet_in s)) ≡ 14 → sheet_in s ≡ fails
 only_14 s e = go (sheet_in s) e
   where
-    begun : (a : start.StartAnswer) → opened_number (answer_by a) ≡ 14 → ⊥
-    begun start.StartAnswer.Accepted e = absurd (omega arith)
-    begun start.StartAnswer.ProfileBreaksARule e = absurd (omega arith)
+    begun : (a : StartAnswer) → opened_number (answer_by a) ≡ 14 → ⊥
+    begun (Ok done) e = absurd (omega arith)
+    begun (Err StartRefusal.ProfileBreaksARule) e = absurd (omega arith)
 
     go : (r : Read Sheet) → opened_number (answer_from r) ≡ 14 → r ≡ fails
     go fails e = refl

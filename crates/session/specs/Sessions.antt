@@ -1,11 +1,12 @@
 -- The whole output for a sheet as one text, and the same by steps: opening it, and then a tick at a time. Assumes
 -- nothing: these are definitions.
-use Rattle.std.specs.Prelude.{ℕ, zero, suc, ◌+◌, ◌-◌}
+use Rattle.std.specs.Prelude.{Ok, Err, ℕ, zero, suc, ◌+◌, ◌-◌}
 use mathlib.Core.{Bool.Bool, Bool.cond, Bool.◌||◌, List.List, List.[], List.◌∷◌, List.◌++◌}
 use lib.{Dec.eqb, Dec.ltb, IntN.ℤ, ListN.length}
 use Rattle.memory.specs.Memory.{empty_store}
 use Rattle.state.specs.{Parts.distribution_board, Parts.naming_raw, Start.keeps_the_rules, declared.parts.Profile.Profile}
-use Rattle.state.specs.declared.starting.StartAnswer as start
+use Rattle.state.specs.Start.{StartAnswer}
+use Rattle.state.specs.declared.starting.StartRefusal.{StartRefusal}
 use Rattle.unit.specs.{Machine.no_machine, Machine.begun_of, Machine.told_of, declared.Machine.Machine, declared.Begun.Begun}
 use Rattle.unit.specs.declared.Told.{Told}
 use Rattle.grammar.specs.Grammar.{Read, fails, reads}
@@ -36,9 +37,9 @@ profile_in top = naming_raw (distribution_board top.bid top.fitted top.forced)
 abbrev pub beginning : Profile → Begun
 beginning profile = begun_of no_machine profile empty_store
 
-abbrev pub begun_text : start.StartAnswer → Machine → ℕ → List Tick → List ℕ
-begun_text start.StartAnswer.Accepted m count ticks = ticks_text count ++ lines_from 1 m ticks
-begun_text start.StartAnswer.ProfileBreaksARule m count ticks = refused8
+abbrev pub begun_text : StartAnswer → Machine → ℕ → List Tick → List ℕ
+begun_text (Ok done) m count ticks = ticks_text count ++ lines_from 1 m ticks
+begun_text (Err StartRefusal.ProfileBreaksARule) m count ticks = refused8
 
 abbrev pub sheet_text : Read Sheet → List ℕ
 sheet_text fails = refused14
@@ -73,9 +74,9 @@ ended_step = record { session = no_session; printed = 0 }
 abbrev pub session_at : Machine → ℕ → ℕ → Session
 session_at m count first = record { machine = m; count = count; left = count; at = first }
 
-abbrev pub started_by : start.StartAnswer → Machine → ℕ → ℕ → List ℕ → Open
-started_by start.StartAnswer.Accepted m count first held = opens (session_at m count first) Running (typed (page held 0) (ticks_text count))
-started_by start.StartAnswer.ProfileBreaksARule m count first held = opens no_session ProfileBreaksARule (page held 0)
+abbrev pub started_by : StartAnswer → Machine → ℕ → ℕ → List ℕ → Open
+started_by (Ok done) m count first held = opens (session_at m count first) Running (typed (page held 0) (ticks_text count))
+started_by (Err StartRefusal.ProfileBreaksARule) m count first held = opens no_session ProfileBreaksARule (page held 0)
 
 unfoldable pub started_of : List ℕ → Profile → ℕ → ℕ → Open
 started_of held profile count first = started_by (beginning profile).answer (beginning profile).machine count first held
@@ -116,17 +117,17 @@ stepped_of held s session = stepped_by (tick_line 256 s session.at) held session
 -- ---- the steps one after another: what each prints, and the session that it leaves
 
 -- opening: a refused sheet prints nothing
-abbrev pub session_by : start.StartAnswer → Machine → ℕ → ℕ → Session
-session_by start.StartAnswer.Accepted m count first = session_at m count first
-session_by start.StartAnswer.ProfileBreaksARule m count first = no_session
+abbrev pub session_by : StartAnswer → Machine → ℕ → ℕ → Session
+session_by (Ok done) m count first = session_at m count first
+session_by (Err StartRefusal.ProfileBreaksARule) m count first = no_session
 
-abbrev pub first_by : start.StartAnswer → ℕ → List ℕ
-first_by start.StartAnswer.Accepted count = ticks_text count
-first_by start.StartAnswer.ProfileBreaksARule count = []
+abbrev pub first_by : StartAnswer → ℕ → List ℕ
+first_by (Ok done) count = ticks_text count
+first_by (Err StartRefusal.ProfileBreaksARule) count = []
 
-abbrev pub answer_by : start.StartAnswer → Answer
-answer_by start.StartAnswer.Accepted = Running
-answer_by start.StartAnswer.ProfileBreaksARule = ProfileBreaksARule
+abbrev pub answer_by : StartAnswer → Answer
+answer_by (Ok done) = Running
+answer_by (Err StartRefusal.ProfileBreaksARule) = ProfileBreaksARule
 
 abbrev pub session_from : Read Sheet → Session
 session_from fails = no_session

@@ -8,7 +8,7 @@ ghost use Rattle.transcript.specs.Transcript.{opened_number};
 ghost use Rattle.session.specs.Sessions.{no_session, ended_step, opened, stepped, started_of, opened_of, stepped_of, ticked_of, sheet_refusal};
 
 use sheet::{Head, TickLine};
-use state::{Profile, StartAnswer, distribution, naming_raw};
+use state::{Profile, StartRefusal, distribution, naming_raw};
 use transcript::{Answer, tick_line, ticks_line};
 use unit::Machine;
 
@@ -56,7 +56,7 @@ fn started(profile: Profile, ticks: u32, first: usize, out: &mut [u8]) -> Opened
     let answer = begun.answer;
     let machine = begun.machine;
     match answer {
-        StartAnswer::Accepted => Opened {
+        Ok(()) => Opened {
             session: Session {
                 machine,
                 count: ticks,
@@ -66,7 +66,7 @@ fn started(profile: Profile, ticks: u32, first: usize, out: &mut [u8]) -> Opened
             answer: Answer::Running,
             printed: ticks_line(out, ticks),
         },
-        StartAnswer::ProfileBreaksARule => Opened {
+        Err(StartRefusal::ProfileBreaksARule) => Opened {
             session: none(),
             answer: Answer::ProfileBreaksARule,
             printed: 0,

@@ -1,10 +1,11 @@
 -- What a line may ask before a machine is there, what a start is given, and what comes of it. Characters are their
 -- ASCII codes: 10 ends a line. Assumes nothing: these are definitions.
-use Rattle.std.specs.Prelude.{ℕ, Some}
+use Rattle.std.specs.Prelude.{Ok, Err, ℕ, Some}
 use mathlib.Core.{Bool.Bool, Bool.true, Bool.false, Bool.cond, List.List, List.[], List.◌∷◌}
 use Rattle.image.specs.Image.{settings_of}
 use Rattle.memory.specs.{Memory.empty_store, Memory.Store}
-use Rattle.state.specs.declared.starting.StartAnswer.{StartAnswer}
+use Rattle.state.specs.Start.{StartAnswer}
+use Rattle.state.specs.declared.starting.StartRefusal.{StartRefusal}
 use Rattle.lines.specs.declared.Asked.{Asked}
 
 -- before a machine was started only a start is of a form
@@ -23,8 +24,8 @@ store_of stored image count = cond stored (Some (record { settings = settings_of
 
 -- an accepted machine is on the bench; where it is refused, the start tells the one that was there
 abbrev pub is_there : StartAnswer → Bool → Bool
-is_there StartAnswer.Accepted before = true
-is_there StartAnswer.ProfileBreaksARule before = before
+is_there (Ok done) before = true
+is_there (Err StartRefusal.ProfileBreaksARule) before = before
 
 -- ok; refused 8
 abbrev pub ok_text : List ℕ
@@ -34,5 +35,5 @@ abbrev pub refused_text : List ℕ
 refused_text = 114 ∷ 101 ∷ 102 ∷ 117 ∷ 115 ∷ 101 ∷ 100 ∷ 32 ∷ 56 ∷ 10 ∷ []
 
 abbrev pub start_text : StartAnswer → List ℕ
-start_text StartAnswer.Accepted = ok_text
-start_text StartAnswer.ProfileBreaksARule = refused_text
+start_text (Ok done) = ok_text
+start_text (Err StartRefusal.ProfileBreaksARule) = refused_text

@@ -8,7 +8,7 @@ ghost use Rattle.starting.specs.Starts.{is_there, start_text, store_of, allowed_
 use lines::Asked;
 use memory::Stored;
 use script::printing::text;
-use state::StartAnswer;
+use state::StartRefusal;
 
 // What is asked where no machine was started: only a start is.
 pub fn allowed(started: bool, asked: Asked) -> Asked
@@ -46,21 +46,21 @@ pub fn store_of(stored: bool, image: &[u8], save_count: u16) -> Option<Stored>
 }
 
 // Whether a machine is there after a start.
-pub fn is_there(answer: StartAnswer, before: bool) -> bool
+pub fn is_there(answer: Result<(), StartRefusal>, before: bool) -> bool
     ensures { result ≡ is_there answer before }
 {
     match answer {
-        StartAnswer::Accepted => true,
-        StartAnswer::ProfileBreaksARule => before,
+        Ok(()) => true,
+        Err(StartRefusal::ProfileBreaksARule) => before,
     }
 }
 
 // What a start prints.
-pub fn start_line(answer: StartAnswer, out: &mut [u8]) -> usize
+pub fn start_line(answer: Result<(), StartRefusal>, out: &mut [u8]) -> usize
     ensures { page out.new result ≡ typed (page out.old 0) (start_text answer) }
 {
     match answer {
-        StartAnswer::Accepted => text(out, 0, b"ok\n"),
-        StartAnswer::ProfileBreaksARule => text(out, 0, b"refused 8\n"),
+        Ok(()) => text(out, 0, b"ok\n"),
+        Err(StartRefusal::ProfileBreaksARule) => text(out, 0, b"refused 8\n"),
     }
 }

@@ -1,5 +1,5 @@
 -- A profile's start, and a reset: what each part of the board then is. Assumes nothing: these are definitions.
-use Rattle.std.specs.Prelude.{ℕ, Some, None}
+use Rattle.std.specs.Prelude.{ℕ, Some, None, Result, Ok, Err, ⊤}
 use mathlib.Core.{Bool.Bool, Bool.true, Bool.false, Bool.cond, Bool.not, Bool.◌&&◌, Bool.◌||◌, List.[]}
 use lib.{Dec.eqb, Dec.leb}
 use Rattle.kinds.specs.Kinds.{board_of, is_served}
@@ -11,9 +11,9 @@ use Rattle.channels.specs.{Sets.is_within, Operations.cleared}
 use Rattle.settings.specs.Values.{in_range_of}
 use Rattle.memory.specs.{Memory.one_more, Memory.empty_store, Memory.loaded_from, Memory.Store}
 use Rattle.state.specs.{Parts.distribution_board, declared.parts.Board.Board, declared.parts.Fresh.Fresh, declared.parts.Measured.Measured, declared.parts.Profile.Profile}
-use Rattle.state.specs.{declared.parts.Resets.Resets, declared.starting.StartAnswer.StartAnswer, declared.starting.Started.Started}
+use Rattle.state.specs.{declared.parts.Resets.Resets, declared.starting.StartRefusal.StartRefusal, declared.starting.Started.Started}
 use Rattle.state.specs.declared.parts.Cause.TheVariants.{PowerOn, Watchdog, Commanded}
-use Rattle.state.specs.declared.starting.StartAnswer.TheVariants.{Accepted, ProfileBreaksARule}
+use Rattle.state.specs.declared.starting.StartRefusal.TheVariants.{ProfileBreaksARule}
 
 -- ---- what a start and a reset have in common
 -- measured words 0, in the room of the board that has the most, and none of them new
@@ -84,12 +84,16 @@ keeps_the_rules p store = is_served p.kind && bid_in_range p && channels_in_plac
 unfoldable pub start_of : Board → Profile → Store → Started
 start_of there p store =
     cond (keeps_the_rules p store)
-    (record { board = fresh_of p store never_reset; answer = Accepted })
-    (record { board = there; answer = ProfileBreaksARule })
+    (record { board = fresh_of p store never_reset; answer = Ok tt })
+    (record { board = there; answer = Err ProfileBreaksARule })
+
+-- what a start answers: that it is accepted, or why it is refused
+abbrev pub StartAnswer : Type 0
+StartAnswer = Result ⊤ StartRefusal
 
 abbrev pub start_number : StartAnswer → ℕ
-start_number Accepted = 0
-start_number ProfileBreaksARule = 8
+start_number (Ok done) = 0
+start_number (Err ProfileBreaksARule) = 8
 
 -- what stands in for a board before the first start: no channel is fitted
 unfoldable pub unstarted_board : Board

@@ -8,4 +8,4 @@ pub use parts::{
     Board, Cause, Fresh, Measured, Profile, Resets, battery, distribution, naming_raw, read,
     with_form,
 };
-pub use starting::{StartAnswer, Started, command_reset, start, unstarted, watchdog_reset};
+pub use starting::{StartRefusal, Started, command_reset, start, unstarted, watchdog_reset};

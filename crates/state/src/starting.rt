@@ -8,18 +8,17 @@ use memory::{Memory, Stored};
 use modes::ModeAge;
 use wire::Reply;
 
-// What a start answers.
+// Why a start is refused.
 #[derive(Clone, Copy)]
-pub enum StartAnswer {
-    Accepted,
+pub enum StartRefusal {
     ProfileBreaksARule,
 }
 
-// The board after a start, and the answer.
+// The board after a start, and what the start answers. A refused start leaves the board that was there.
 #[derive(Clone, Copy)]
 pub struct Started {
     pub board: Board,
-    pub answer: StartAnswer,
+    pub answer: Result<(), StartRefusal>,
 }
 
 // The counts and the cause of a board that was just started.
@@ -144,12 +143,12 @@ pub fn start(there: Board, profile: Profile, store: Option<Stored>) -> Started
         let board = fresh(profile, store, never_reset());
         return Started {
             board,
-            answer: StartAnswer::Accepted,
+            answer: Ok(()),
         };
     }
     Started {
         board: there,
-        answer: StartAnswer::ProfileBreaksARule,
+        answer: Err(StartRefusal::ProfileBreaksARule),
     }
 }
 

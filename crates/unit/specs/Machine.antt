@@ -2,12 +2,11 @@
 -- `rail` is in millivolts with its sign, `named` the set of channels that reported overcurrent, `words` the words lent,
 -- `sent` whether there is a transfer and `s` its bytes. Assumes nothing: these are definitions.
 use Rattle.memory.specs.Memory.{Store}
-use Rattle.std.specs.Prelude.{ℕ, ℤ}
+use Rattle.std.specs.Prelude.{Ok, Err, ℕ, ℤ}
 use mathlib.Core.{Bool.Bool, Bool.true, Bool.false, Bool.cond, List.List}
 use Rattle.wire.specs.Replies.{shown}
-use Rattle.state.specs.{Parts.with_form, Start.unstarted_board, Start.start_of, declared.parts.Profile.Profile}
-use Rattle.state.specs.{declared.starting.StartAnswer.StartAnswer, declared.starting.Started.Started}
-use Rattle.state.specs.declared.starting.StartAnswer.TheVariants.{Accepted, ProfileBreaksARule}
+use Rattle.state.specs.{Parts.with_form, Start.unstarted_board, Start.start_of, Start.StartAnswer, declared.parts.Profile.Profile}
+use Rattle.state.specs.declared.starting.Started.{Started}
 use Rattle.answers.specs.declared.Outcome.{Outcome}
 use Rattle.answers.specs.declared.Outcome.TheVariants.{WrongWordCount, NoTransfer, Answered}
 use Rattle.board.specs.{Tick.tick_of, declared.Ticked.Ticked}
@@ -25,8 +24,8 @@ no_machine = record { board = unstarted_board; due = Nothing }
 
 -- a new board has nothing to say; a refused start leaves the machine that was there
 abbrev pub begun_by : StartAnswer → Started → Machine → Begun
-begun_by Accepted s there = record { machine = record { board = s.board; due = Nothing }; answer = Accepted }
-begun_by ProfileBreaksARule s there = record { machine = there; answer = ProfileBreaksARule }
+begun_by (Ok done) s there = record { machine = record { board = s.board; due = Nothing }; answer = Ok done }
+begun_by (Err r) s there = record { machine = there; answer = Err r }
 
 unfoldable pub begun_of : Machine → Profile → Store → Begun
 begun_of there profile store = begun_by (start_of there.board profile store).answer (start_of there.board profile store) there

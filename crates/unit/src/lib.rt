@@ -20,7 +20,7 @@ use answers::Outcome;
 use framing::{Due, Framed};
 use memory::Stored;
 use reading::Line;
-use state::{Board, Profile, StartAnswer};
+use state::{Board, Profile, StartRefusal};
 use watchdog::Event;
 
 // A board, and what its text line has to say.
@@ -34,7 +34,7 @@ pub struct Machine {
 #[derive(Clone, Copy)]
 pub struct Begun {
     pub machine: Machine,
-    pub answer: StartAnswer,
+    pub answer: Result<(), StartRefusal>,
 }
 
 // The machine after a tick, what the tick tells of its transfer, what the watchdog did, and whether the tick made a
@@ -73,19 +73,17 @@ pub fn start(there: Machine, profile: Profile, store: Option<Stored>) -> Begun
     ensures number { start_number result.answer ≡ cond (keeps_the_rules profile store) 0 8 }
 {
     let s = state::start(there.board, profile, store);
-    let answer = s.answer;
-    let board = s.board;
-    match answer {
-        StartAnswer::Accepted => Begun {
+    match s.answer {
+        Ok(()) => Begun {
             machine: Machine {
-                board,
+                board: s.board,
                 due: Due::Nothing,
             },
-            answer: StartAnswer::Accepted,
+            answer: Ok(()),
         },
-        StartAnswer::ProfileBreaksARule => Begun {
+        Err(refusal) => Begun {
             machine: there,
-            answer: StartAnswer::ProfileBreaksARule,
+            answer: Err(refusal),
         },
     }
 }

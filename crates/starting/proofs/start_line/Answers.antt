@@ -1,8 +1,8 @@
 -- By what the start answers. Assumes nothing.
 use Rattle.starting.proofs.start_line.Goals as goal
 
-pub returns-in-Accepted : goal.returns-in-Accepted
-returns-in-Accepted c = rw c.in-Accepted.is c.text.ensures
+pub returns-in-Ok : goal.returns-in-Ok
+returns-in-Ok c = rw c.in-Ok.is c.text.ensures
 
-pub returns-in-ProfileBreaksARule : goal.returns-in-ProfileBreaksARule
-returns-in-ProfileBreaksARule c = rw c.in-ProfileBreaksARule.is c.text-in-ProfileBreaksARule.ensures
+pub returns-in-Err : goal.returns-in-Err
+returns-in-Err c = rw c.in-Err.is c.text-in-Err.ensures

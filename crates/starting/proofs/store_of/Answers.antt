@@ -1,4 +1,5 @@
 -- By whether something is stored. Assumes nothing.
+use Rattle.memory.specs.Memory.{empty_store}
 use Rattle.starting.specs.Starts.{store_of}
 use Rattle.starting.proofs.store_of.Goals as goal
 
@@ -7,5 +8,5 @@ unfolding store_of
 returns-then-stored c = rw (c.if-stored.true, c.read.ensures)
 
 pub returns : goal.returns
-unfolding store_of
-returns c = rw (c.if-stored.false, c.empty.ensures)
+unfolding store_of empty_store
+returns c = rw c.if-stored.false

@@ -2,10 +2,10 @@
 use Rattle.unit.specs.Machine.{begun_of}
 use Rattle.unit.proofs.start.Goals as goal
 
-pub returns-in-Accepted-clause-value : goal.returns-in-Accepted-clause-value
+pub returns-in-Ok-clause-value : goal.returns-in-Ok-clause-value
 unfolding begun_of
-returns-in-Accepted-clause-value c = rw (← c.start-s.ensures.value, c.in-Accepted.is)
+returns-in-Ok-clause-value c = rw (← c.start-s.ensures.value, c.in-Ok.is)
 
-pub returns-in-ProfileBreaksARule-clause-value : goal.returns-in-ProfileBreaksARule-clause-value
+pub returns-in-Err-clause-value : goal.returns-in-Err-clause-value
 unfolding begun_of
-returns-in-ProfileBreaksARule-clause-value c = rw (← c.start-s.ensures.value, c.in-ProfileBreaksARule.is)
+returns-in-Err-clause-value c = rw (← c.start-s.ensures.value, c.in-Err.is)
