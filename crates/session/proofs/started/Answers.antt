@@ -9,8 +9,8 @@ returns-in-Ok c =
     let begun = rw c.unstarted.ensures at c.start-begun.ensures.value in
     rw (← begun, c.in-Ok.is, c.ticks_line.ensures)
 
-pub returns-in-Err : goal.returns-in-Err
+pub returns-in-Err-ProfileBreaksARule : goal.returns-in-Err-ProfileBreaksARule
 unfolding started_of empty_store
-returns-in-Err c =
+returns-in-Err-ProfileBreaksARule c =
     let begun = rw c.unstarted.ensures at c.start-begun.ensures.value in
-    rw (← begun, c.in-Err.is, c.none.ensures)
+    rw (← begun, c.in-Err-ProfileBreaksARule.is, c.none.ensures)
