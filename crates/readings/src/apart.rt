@@ -30,23 +30,13 @@ pub fn none_measured() -> [Raw; 130]
     [Raw(0); 130]
 }
 
-// The lesser of a number of words and the room for them.
-fn within_room(count: usize) -> usize
-    ensures { result ≡ min count 130 }
-{
-    if count < 130 { count } else { 130 }
-}
-
 // The raw readings of words that came, as many as there is room for; behind them the room is 0.
 pub fn measured(words: &[u16]) -> [Raw; 130]
     ensures { result ≡ measured_as words.now }
 {
-    let count = within_room(words.len());
-    let mut raws = [Raw(0); 130];
-    let mut i = 0;
-    while i < count {
-        raws[i] = Raw(words[i]);
-        i += 1;
+    let mut raws = none_measured();
+    for (i, word) in words[..words.len().min(130)].iter().enumerate() {
+        raws[i] = Raw(*word);
     }
     raws
 }
@@ -55,14 +45,7 @@ pub fn measured(words: &[u16]) -> [Raw; 130]
 pub fn words(raws: [Raw; 130]) -> [u16; 130]
     ensures { result ≡ raw_words raws }
 {
-    let mut words = [0u16; 130];
-    let mut i = 0;
-    while i < 130 {
-        let raw = raws[i];
-        words[i] = raw.0;
-        i += 1;
-    }
-    words
+    raws.map(|raw| raw.0)
 }
 
 // A raw reading in the unit of its field, by the field's row of Table 3-12.
@@ -85,29 +68,24 @@ pub fn convert_all(raws: [Raw; 130]) -> [Engineering; 122]
     ensures { result ≡ converted_by layout raws }
 {
     let mut readings = [Engineering(0); 122];
-    let mut i = 0;
-    while i < 122 {
-        let raw = raws[i];
-        let row = row_at(i);
-        let reading = convert(raw, row);
-        readings[i] = reading;
-        i += 1;
+    for (i, reading) in readings.iter_mut().enumerate() {
+        *reading = convert(raws[i], row_at(i));
     }
     readings
+}
+
+// The word of an engineering reading on the wire.
+fn pattern_of(reading: Engineering) -> u16
+    ensures { result ≡ pattern 2 reading.0 }
+{
+    wire::bits16(reading.0)
 }
 
 // The words of engineering readings on the wire.
 fn patterns(readings: [Engineering; 122]) -> [u16; 122]
     ensures { result ≡ engineering_words readings }
 {
-    let mut words = [0u16; 122];
-    let mut i = 0;
-    while i < 122 {
-        let reading = readings[i];
-        words[i] = wire::bits16(reading.0);
-        i += 1;
-    }
-    words
+    readings.map(pattern_of)
 }
 
 // A reply with raw readings behind what it shows: of those that count, the ones from one place to before another.
@@ -132,13 +110,6 @@ pub fn append_engineering(
     reply.append_words(wire::rest_words(wire::first_words(&words, to), from))
 }
 
-// The word of an engineering reading on the wire.
-fn pattern_of(reading: Engineering) -> u16
-    ensures { result ≡ pattern 2 reading.0 }
-{
-    wire::bits16(reading.0)
-}
-
 // The word that 0x62 tells of a raw reading, in the way of its field.
 #[tactic(auto, unfolding(crate::specs::Packs::word_by))]
 fn told(raw: Raw, way: Way) -> u16
@@ -155,13 +126,9 @@ fn told(raw: Raw, way: Way) -> u16
 fn packs_told(raws: [Raw; 130]) -> [u16; 39]
     ensures { result ≡ told_by packs raws }
 {
-    let mut words = [0u16; 39];
-    let mut i = 0;
-    while i < 39 {
-        let raw = raws[i];
-        let way = way_at(i);
-        words[i] = told(raw, way);
-        i += 1;
+    let mut words = [0; 39];
+    for (i, word) in words.iter_mut().enumerate() {
+        *word = told(raws[i], way_at(i));
     }
     words
 }

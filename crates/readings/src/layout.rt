@@ -8,26 +8,22 @@ use crate::table::Row;
 pub fn vip_row(word: usize) -> Row
     ensures { result ≡ vip_row word }
 {
-    if word == 0 {
-        return Row::VipVolt;
+    match word {
+        0 => Row::VipVolt,
+        1 => Row::VipCurr,
+        _ => Row::VipPowe,
     }
-    if word == 1 {
-        return Row::VipCurr;
-    }
-    Row::VipPowe
 }
 
 // The row of a word of a channel's block, which has dividers of its own.
 fn channel_row(word: usize) -> Row
     ensures { result ≡ channel_row word }
 {
-    if word == 0 {
-        return Row::VipVolt;
+    match word {
+        0 => Row::VipVolt,
+        1 => Row::ChannelCurr,
+        _ => Row::ChannelPowe,
     }
-    if word == 1 {
-        return Row::ChannelCurr;
-    }
-    Row::ChannelPowe
 }
 
 // The row of the measured word at a place: two words, then blocks of three, of which the channels' begin at word 26.

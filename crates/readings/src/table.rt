@@ -64,20 +64,10 @@ fn factors_of(row: Row) -> Factors
 fn is_vipd(row: Row) -> bool
     ensures { result ≡ is_vipd row }
 {
-    match row {
-        Row::VoltBrdsup => false,
-        Row::PduTemp => false,
-        Row::PiuTemp => false,
-        Row::VipVolt => true,
-        Row::VipCurr => true,
-        Row::ChannelCurr => true,
-        Row::VipPowe => true,
-        Row::ChannelPowe => true,
-        Row::VoltCell => false,
-        Row::BatTemp1 => false,
-        Row::VoltMppt => false,
-        Row::CurrMppt => false,
-    }
+    matches!(
+        row,
+        Row::VipVolt | Row::VipCurr | Row::ChannelCurr | Row::VipPowe | Row::ChannelPowe
+    )
 }
 
 // The number that a word stands for.

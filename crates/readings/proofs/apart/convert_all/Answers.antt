@@ -27,8 +27,8 @@ loop-i-preserved c =
     let raws = c.args.raws in
     let i = c.loop-i.i in
     let at = converted_at layout raws i (POWE (VIP-CH 31) by ChannelPowe) (raw_of 0) none (omega (arith, length_layout)) (omega (arith, c.loop-i.invariant.0)) in
-    let e = c.convert-reading.ensures ∙ ap (λ (row : Row). engineering_of row (get_or raws i (raw_of 0))) c.row_at-row.ensures in
-    (c.loop-i.invariant.0, turn 122 (replicate 122 none) (converted_by layout raws) none c.convert-reading.result c.loop-i.readings i c.loop-i.invariant.1 (omega arith) (e ∙ sym at))
+    let e = c.convert.ensures ∙ ap (λ (row : Row). engineering_of row (get_or raws i (raw_of 0))) c.row_at.ensures in
+    (c.loop-i.invariant.0, turn 122 (replicate 122 none) (converted_by layout raws) none c.convert.result c.loop-i.reading-items i c.loop-i.invariant.1 (omega arith) (e ∙ sym at))
 
 pub returns : goal.returns
-returns c = ended 122 (replicate 122 none) (converted_by layout c.args.raws) c.loop-i.readings c.loop-i.i c.loop-i.invariant.1 (omega arith)
+returns c = ended 122 (replicate 122 none) (converted_by layout c.args.raws) c.loop-i.reading-items c.loop-i.i c.loop-i.invariant.1 (omega arith)

@@ -21,8 +21,8 @@ loop-i-preserved c =
     let raws = c.args.raws in
     let i = c.loop-i.i in
     let at = told_at raws i (raw_of 0) 0 c.loop-i.invariant.0 (omega arith) in
-    let e = c.told.ensures ∙ ap (λ (way : Way). word_by way (get_or raws i (raw_of 0))) c.way_at-way.ensures in
-    (c.loop-i.invariant.0, turn 39 (replicate 39 0) (told_by packs raws) 0 c.told.result c.loop-i.words i c.loop-i.invariant.1 (omega arith) (e ∙ sym at))
+    let e = c.told.ensures ∙ ap (λ (way : Way). word_by way (get_or raws i (raw_of 0))) c.way_at.ensures in
+    (c.loop-i.invariant.0, turn 39 (replicate 39 0) (told_by packs raws) 0 c.told.result c.loop-i.word-items i c.loop-i.invariant.1 (omega arith) (e ∙ sym at))
 
 pub returns : goal.returns
-returns c = ended 39 (replicate 39 0) (told_by packs c.args.raws) c.loop-i.words c.loop-i.i c.loop-i.invariant.1 (omega arith)
+returns c = ended 39 (replicate 39 0) (told_by packs c.args.raws) c.loop-i.word-items c.loop-i.i c.loop-i.invariant.1 (omega arith)
