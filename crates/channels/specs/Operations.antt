@@ -2,7 +2,7 @@
 -- for all 32. `fitted` and `forced` are the profile's sets, `mask` is the command's, and `spoken` holds the channels
 -- that the command speaks of: all 32, or 0 to 15 where its extended mask is not there. Where a rule says nothing of a
 -- channel, as of one that is not fitted or not spoken of, it stays as it is, its latch too. Assumes nothing.
-use Rattle.std.specs.Prelude.{Bool, true, false, cond, if◌then◌else◌, not, ◌&&◌, ◌||◌, ℕ, ◌+◌, min, eqb, ltb}
+use Rattle.std.specs.Prelude.{Bool, true, false, if◌then◌else◌, not, ◌&&◌, ◌||◌, ℕ, ◌+◌, min, eqb, ltb}
 use Rattle.channels.specs.{Sets.has, Chan.Chan, Chan.chan, Chan.whole, declared.Channels.Channels}
 
 -- tripped by overcurrent: off, latched, and counted once more, but never above 65,535

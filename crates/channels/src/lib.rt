@@ -50,12 +50,10 @@ fn counted(count: u16, trips: bool) -> u16
     ensures { result ≡ count_one trips count }
 {
     if trips {
-        if count < 65535 {
-            return count + 1;
-        }
-        return 65535;
+        count.saturating_add(1)
+    } else {
+        count
     }
-    count
 }
 
 // All counts after the channels in `tripping` tripped.
@@ -63,12 +61,8 @@ fn all_counted(before: [u16; 32], tripping: u32) -> [u16; 32]
     ensures { result ≡ count_all tripping before }
 {
     let mut counts = before;
-    let mut c: usize = 0;
-    while c < 32 {
-        let trips = (tripping >> c) % 2 == 1;
-        let count = counts[c];
-        counts[c] = counted(count, trips);
-        c += 1;
+    for (c, count) in counts.iter_mut().enumerate() {
+        *count = counted(*count, (tripping >> c) % 2 == 1);
     }
     counts
 }
@@ -88,6 +82,8 @@ pub fn may_switch_off(fitted: u32, forced: u32, c: u8) -> bool
     contains(command_enabled, c)
 }
 
+// Kept: the two sets of a profile and the two of a group command are parameters of their own, since the contracts of
+// this crate stay word for word; what is added to it builds on them.
 impl Channels {
     // The channels after a reset: none on, none latched, all counts 0.
     pub fn clear() -> Channels
