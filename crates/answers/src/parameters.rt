@@ -58,7 +58,7 @@ pub fn value_read(p: Profile, m: Memory, r: Resets, id: u16) -> ValueBytes
         Got::Value(v) => value::bytes(v),
         Got::ReadOnly(t) => ValueBytes {
             len: value::width(t),
-            bytes: wire::bytes64(read_only_number(p, m, r, id)),
+            bytes: read_only_number(p, m, r, id).to_le_bytes(),
         },
         Got::Unknown => ValueBytes {
             len: 0,

@@ -13,7 +13,9 @@ use Rattle.kinds.specs.Kinds.{board_of, is_in}
 use Rattle.kinds.specs.declared.Kind.{Kind}
 use Rattle.kinds.specs.declared.Kind.TheVariants.{Distribution, Battery, Integrated}
 use Rattle.value.specs.Values.{read_of}
-use Rattle.value.specs.declared.Parsed.{Parsed}
+use Rattle.std.specs.Prelude.{Result, Ok, Err}
+use Rattle.value.specs.declared.ParamValue.{ParamValue}
+use Rattle.value.specs.declared.ValueRefusal.{ValueRefusal}
 use Rattle.settings.specs.Table.{parameter_of}
 use Rattle.settings.specs.declared.Parameter.{Parameter}
 use Rattle.settings.specs.declared.Parameter.TheVariants.{ReadWrite, ReadOnly, Unknown}
@@ -89,11 +91,11 @@ reset_number id (ReadWrite t) = refl
 reset_number id (ReadOnly t) = refl
 reset_number id Unknown = refl
 
-valued_number : (id : ℕ) (v : Parsed) → decoded_number (valued id v) ≡ cond (is_too_short v) 5 (cond (is_nan_value v) 7 0)
+valued_number : (id : ℕ) (v : Result ParamValue ValueRefusal) → decoded_number (valued id v) ≡ cond (is_too_short v) 5 (cond (is_nan_value v) 7 0)
 unfolding valued
-valued_number id (Parsed.Value v) = refl
-valued_number id Parsed.TooShort = refl
-valued_number id Parsed.NotANumber = refl
+valued_number id (Ok v) = refl
+valued_number id (Err ValueRefusal.TooShort) = refl
+valued_number id (Err ValueRefusal.NotANumber) = refl
 
 set_number_lem : (id : ℕ) (p : Parameter) (value : List ℕ) → decoded_number (set_by id p value) ≡ cond (id_wrong 0x84 p) 7 (cond (value_reads p value is_too_short) 5 (cond (value_reads p value is_nan_value) 7 0))
 unfolding id_wrong

@@ -2,10 +2,10 @@
 -- and where none does the number is 0. The command step is defined by this list, with all that a board brings; the
 -- decoder promises its number with the mode alone. `7 when b` is a check with the number 7 that applies where b holds.
 -- Assumes nothing: these are definitions.
-use Rattle.std.specs.Prelude.{ℕ, Bool, true, false, cond, not, ◌&&◌, ◌||◌, List, [], ◌∷◌}
+use Rattle.std.specs.Prelude.{ℕ, Bool, true, false, cond, not, ◌&&◌, ◌||◌, List, [], ◌∷◌, Result, Ok, Err}
 use lib.{Dec.ltb, Dec.eqb, ListN.length}
 use Rattle.kinds.specs.{Kinds.board_of, Kinds.is_in, declared.Kind.Kind}
-use Rattle.value.specs.{Values.read_of, declared.Parsed.Parsed}
+use Rattle.value.specs.{Values.read_of, declared.ParamValue.ParamValue, declared.ValueRefusal.ValueRefusal}
 use Rattle.settings.specs.{Table.parameter_of, declared.Parameter.Parameter}
 use Rattle.settings.specs.declared.Parameter.TheVariants.{ReadWrite, ReadOnly, Unknown}
 use Rattle.command.specs.Table.{command_table, find}
@@ -53,17 +53,17 @@ unfoldable pub id_wrong : ℕ → Parameter → Bool
 id_wrong code p = eqb code 0x82 && unknown p || (eqb code 0x84 || eqb code 0x86) && unsettable p
 
 -- what 0x84 finds behind the id: fewer bytes than the value has, or a NaN
-abbrev pub is_too_short : Parsed → Bool
-is_too_short (Parsed.Value v) = false
-is_too_short Parsed.TooShort = true
-is_too_short Parsed.NotANumber = false
+abbrev pub is_too_short : Result ParamValue ValueRefusal → Bool
+is_too_short (Ok v) = false
+is_too_short (Err ValueRefusal.TooShort) = true
+is_too_short (Err ValueRefusal.NotANumber) = false
 
-abbrev pub is_nan_value : Parsed → Bool
-is_nan_value (Parsed.Value v) = false
-is_nan_value Parsed.TooShort = false
-is_nan_value Parsed.NotANumber = true
+abbrev pub is_nan_value : Result ParamValue ValueRefusal → Bool
+is_nan_value (Ok v) = false
+is_nan_value (Err ValueRefusal.TooShort) = false
+is_nan_value (Err ValueRefusal.NotANumber) = true
 
-abbrev pub value_reads : Parameter → List ℕ → (Parsed → Bool) → Bool
+abbrev pub value_reads : Parameter → List ℕ → (Result ParamValue ValueRefusal → Bool) → Bool
 value_reads (ReadWrite t) value is = is (read_of t value)
 value_reads (ReadOnly t) value is = false
 value_reads Unknown value is = false

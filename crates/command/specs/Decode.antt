@@ -6,7 +6,7 @@ use mathlib.Core.{Bool.Bool, Bool.cond, Bool.not, Bool.◌&&◌, List.List}
 use lib.{Dec.ltb, Dec.eqb, ListN.length, ListN.drop, ListN.get_or}
 use Rattle.wire.specs.Numbers.{number}
 use Rattle.kinds.specs.{Kinds.board_of, Kinds.is_in, declared.Kind.Kind}
-use Rattle.value.specs.{Values.read_of, declared.Parsed.Parsed}
+use Rattle.value.specs.{Values.read_of, declared.ParamValue.ParamValue, declared.ValueRefusal.ValueRefusal}
 use Rattle.settings.specs.{Table.parameter_of, declared.Parameter.Parameter}
 use Rattle.settings.specs.declared.Parameter.TheVariants.{ReadWrite, ReadOnly, Unknown}
 use Rattle.command.specs.{Table.command_table, Table.find, declared.Name.Name, declared.Listed.Listed}
@@ -78,10 +78,10 @@ getting id = get_by id (parameter_of id)
 
 -- 0x84, behind the two bytes of the id (5): an id that is unknown or read-only (7), fewer bytes than the value has (5),
 -- a NaN (7)
-unfoldable pub valued : ℕ → Parsed → Decoded
-valued id (Parsed.Value v) = Ok (Command.SetParameter id v)
-valued id Parsed.TooShort = Err TooShort
-valued id Parsed.NotANumber = Err NotANumber
+unfoldable pub valued : ℕ → Result ParamValue ValueRefusal → Decoded
+valued id (Ok v) = Ok (Command.SetParameter id v)
+valued id (Err ValueRefusal.TooShort) = Err TooShort
+valued id (Err ValueRefusal.NotANumber) = Err NotANumber
 
 abbrev pub set_by : ℕ → Parameter → List ℕ → Decoded
 set_by id (ReadWrite t) value = valued id (read_of t value)

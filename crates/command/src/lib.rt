@@ -10,7 +10,8 @@ ghost use Rattle.command.specs.Answers.{decoded_number};
 
 use kinds::Kind;
 use settings::Parameter;
-use value::{ParamValue, Parsed};
+use value::{ParamValue, ValueRefusal};
+use wire::Travels;
 
 // What a board is called by: its system type, its interface version and its board identifier.
 #[derive(Clone, Copy)]
@@ -182,12 +183,12 @@ fn group_in(transfer: &[u8]) -> Group
 {
     if transfer.len() < 8 {
         return Group {
-            mask: wire::le16(transfer, 4) as u32,
+            mask: u16::read_at(transfer, 4) as u32,
             spoken: 0x0000FFFF,
         };
     }
     Group {
-        mask: wire::le32(transfer, 4),
+        mask: u32::read_at(transfer, 4),
         spoken: 0xFFFFFFFF,
     }
 }
@@ -204,13 +205,13 @@ fn get(id: u16) -> Result<Command, Refusal>
 }
 
 // A set of a parameter to what was read of its value.
-fn set_to(id: u16, value: Parsed) -> Result<Command, Refusal>
+fn set_to(id: u16, value: Result<ParamValue, ValueRefusal>) -> Result<Command, Refusal>
     ensures { result ≡ valued id value }
 {
     match value {
-        Parsed::Value(v) => Ok(Command::SetParameter(id, v)),
-        Parsed::TooShort => Err(Refusal::TooShort),
-        Parsed::NotANumber => Err(Refusal::NotANumber),
+        Ok(v) => Ok(Command::SetParameter(id, v)),
+        Err(ValueRefusal::TooShort) => Err(Refusal::TooShort),
+        Err(ValueRefusal::NotANumber) => Err(Refusal::NotANumber),
     }
 }
 
@@ -254,12 +255,12 @@ fn carried(name: Name, transfer: &[u8]) -> Result<Command, Refusal>
         Name::SwitchToSafety => Ok(Command::SwitchToSafety),
         Name::GetOvercurrentFaultState => Ok(Command::Report(Layout::Faults)),
         Name::GetHousekeeping => Ok(Command::Report(Layout::Housekeeping)),
-        Name::GetParameter => get(wire::le16(transfer, 4)),
-        Name::SetParameter => set(wire::le16(transfer, 4), transfer),
-        Name::ResetParameter => reset(wire::le16(transfer, 4)),
+        Name::GetParameter => get(u16::read_at(transfer, 4)),
+        Name::SetParameter => set(u16::read_at(transfer, 4), transfer),
+        Name::ResetParameter => reset(u16::read_at(transfer, 4)),
         Name::ResetConfiguration => Ok(Command::ResetConfiguration),
         Name::LoadConfiguration => Ok(Command::LoadConfiguration),
-        Name::SaveConfiguration => Ok(Command::SaveConfiguration(wire::le16(
+        Name::SaveConfiguration => Ok(Command::SaveConfiguration(u16::read_at(
             transfer, 5,
         ))),
         Name::GetEngineeringHousekeeping => Ok(Command::Report(

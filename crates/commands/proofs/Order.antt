@@ -11,7 +11,9 @@ use Rattle.std.specs.Prelude.{Err}
 use Rattle.laws.proofs.Cases.{cases}
 use Rattle.kinds.specs.Kinds.{board_of, is_in}
 use Rattle.value.specs.Values.{read_of}
-use Rattle.value.specs.declared.Parsed.{Parsed}
+use Rattle.std.specs.Prelude.{Result, Ok, Err}
+use Rattle.value.specs.declared.ParamValue.{ParamValue}
+use Rattle.value.specs.declared.ValueRefusal.{ValueRefusal}
 use Rattle.settings.specs.Table.{parameter_of}
 use Rattle.settings.specs.declared.Parameter.{Parameter}
 use Rattle.settings.specs.declared.Parameter.TheVariants.{ReadWrite, ReadOnly, Unknown}
@@ -127,11 +129,11 @@ module _ (rail : ℤ) (limits : Limits) (b : Board) where
     reset code id (ReadOnly t) = refl
     reset code id Unknown = refl
 
-    value_set : (code id : ℕ) (v : Parsed) → told_of code (valued id v) ≡ some (cond (is_too_short v) 5 (cond (is_nan_value v) 7 0))
+    value_set : (code id : ℕ) (v : Result ParamValue ValueRefusal) → told_of code (valued id v) ≡ some (cond (is_too_short v) 5 (cond (is_nan_value v) 7 0))
     unfolding decoded_of turned_down refused_of run_of reported_of parameter_run accepted_with valued
-    value_set code id (Parsed.Value v) = refl
-    value_set code id Parsed.TooShort = refl
-    value_set code id Parsed.NotANumber = refl
+    value_set code id (Ok v) = refl
+    value_set code id (Err ValueRefusal.TooShort) = refl
+    value_set code id (Err ValueRefusal.NotANumber) = refl
 
     set : (code id : ℕ) (p : Parameter) (value : List ℕ)
         → told_of code (set_by id p value) ≡ some (cond (id_wrong 0x84 p) 7 (cond (value_reads p value is_too_short) 5 (cond (value_reads p value is_nan_value) 7 0)))

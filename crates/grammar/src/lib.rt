@@ -147,7 +147,7 @@ pub fn read_signed(s: &[u8], at: usize) -> Signed
         match value {
             0 => Signed::Not,
             _ => Signed::Is {
-                value: wire::twos16((65536 - value) as u16),
+                value: ((65536 - value) as u16).cast_signed(),
                 next,
             },
         }
@@ -156,7 +156,7 @@ pub fn read_signed(s: &[u8], at: usize) -> Signed
             return Signed::Not;
         };
         Signed::Is {
-            value: wire::twos16(value as u16),
+            value: (value as u16).cast_signed(),
             next,
         }
     }

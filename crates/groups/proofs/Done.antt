@@ -14,7 +14,8 @@ use Rattle.laws.proofs.Cases.{cases}
 use Rattle.kinds.specs.Kinds.{board_of, is_in}
 use Rattle.wire.specs.Replies.{reply_of}
 use Rattle.wire.specs.declared.reply.Reply.{Reply}
-use Rattle.value.specs.declared.Parsed.{Parsed}
+use Rattle.std.specs.Prelude.{Result, Ok, Err}
+use Rattle.value.specs.declared.ValueRefusal.{ValueRefusal}
 use Rattle.value.specs.declared.ParamValue.{ParamValue}
 use Rattle.value.specs.Values.{read_of}
 use Rattle.settings.specs.Table.{parameter_of}
@@ -196,11 +197,11 @@ module _ (rail : ℤ) (limits : Limits) (s : List ℕ) (b : Board) where
   got id Unknown = turned_down_lem 0x82 WrongParameter
 
   -- 0x84, once its id is known
-  value_set : (id : ℕ) (v : Parsed) → Runs 0x84 (valued id v)
+  value_set : (id : ℕ) (v : Result ParamValue ValueRefusal) → Runs 0x84 (valued id v)
   unfolding decoded_of run_of valued
-  value_set id (Parsed.Value v) = parameter id (set id v)
-  value_set id Parsed.TooShort = turned_down_lem 0x84 TooShort
-  value_set id Parsed.NotANumber = turned_down_lem 0x84 NotANumber
+  value_set id (Ok v) = parameter id (set id v)
+  value_set id (Err ValueRefusal.TooShort) = turned_down_lem 0x84 TooShort
+  value_set id (Err ValueRefusal.NotANumber) = turned_down_lem 0x84 NotANumber
 
   -- 0x84
   set_asked : (id : ℕ) (p : Parameter) (value : List ℕ) → Runs 0x84 (set_by id p value)

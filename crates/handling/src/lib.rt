@@ -12,7 +12,7 @@ ghost use Rattle.handling.specs.Benches.{empty_bench, left, printed, started_of,
 
 use lines::Start;
 use script::printing::text;
-use script::reading::{lent_part, lent_words};
+use script::reading::lent_words;
 use state::Profile;
 use unit::Machine;
 
@@ -97,9 +97,9 @@ pub fn ticked(
     let n = bench.lent_count;
     let t = unit::tick(
         bench.machine,
-        wire::twos16(rail),
+        rail.cast_signed(),
         overcurrent,
-        lent_part(&ws, n),
+        wire::first(&ws, n),
         transfer,
     );
     let next = t.machine;

@@ -11,6 +11,7 @@ ghost use Rattle.image.specs.Room.{roomed};
 
 use settings::{Got, Settings};
 use value::ValueBytes;
+use wire::Travels;
 
 mod ids;
 
@@ -85,7 +86,7 @@ fn int8s(image: &[u8]) -> [i8; 21]
     let mut values = [0i8; 21];
     let mut i = 0;
     while i < 21 {
-        values[i] = wire::twos8(wire::byte(image, i));
+        values[i] = i8::read_at(image, i);
         i += 1;
     }
     values
@@ -98,7 +99,7 @@ fn uint8s(image: &[u8]) -> [u8; 3]
     let mut values = [0u8; 3];
     let mut i = 0;
     while i < 3 {
-        values[i] = wire::byte(image, 21 + i);
+        values[i] = u8::read_at(image, 21 + i);
         i += 1;
     }
     values
@@ -111,7 +112,7 @@ fn int16s(image: &[u8]) -> [i16; 42]
     let mut values = [0i16; 42];
     let mut i = 0;
     while i < 42 {
-        values[i] = wire::twos16(wire::le16(image, 24 + 2 * i));
+        values[i] = i16::read_at(image, 24 + 2 * i);
         i += 1;
     }
     values
@@ -124,7 +125,7 @@ fn uint16s(image: &[u8]) -> [u16; 68]
     let mut values = [0u16; 68];
     let mut i = 0;
     while i < 68 {
-        values[i] = wire::le16(image, 108 + 2 * i);
+        values[i] = u16::read_at(image, 108 + 2 * i);
         i += 1;
     }
     values
@@ -137,7 +138,7 @@ fn uint32s(image: &[u8]) -> [u32; 6]
     let mut values = [0u32; 6];
     let mut i = 0;
     while i < 6 {
-        values[i] = wire::le32(image, 244 + 4 * i);
+        values[i] = u32::read_at(image, 244 + 4 * i);
         i += 1;
     }
     values

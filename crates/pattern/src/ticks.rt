@@ -192,7 +192,7 @@ pub fn change(words: &mut [u16; 130], kind: u8, drawn: u16)
 pub fn counted(words: &[u16]) -> &[u16]
     ensures { result.now ≡ take word_count words.now }
 {
-    wire::first_words(words, word_count())
+    wire::first(words, word_count())
 }
 
 // All words of the board or none, by the kind of a tick.

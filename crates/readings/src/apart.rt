@@ -78,7 +78,7 @@ pub fn convert_all(raws: [Raw; 130]) -> [Engineering; 122]
 fn pattern_of(reading: Engineering) -> u16
     ensures { result ≡ pattern 2 reading.0 }
 {
-    wire::bits16(reading.0)
+    reading.0.cast_unsigned()
 }
 
 // The words of engineering readings on the wire.
@@ -93,8 +93,8 @@ pub fn append_raw(reply: Reply, raws: [Raw; 130], count: usize, from: usize, to:
     ensures { result ≡ wire-replies.after reply (wire-replies.words (drop from (take to (take count (raw_words raws))))) }
 {
     let words = words(raws);
-    let counted = wire::first_words(&words, count);
-    reply.append_words(wire::rest_words(wire::first_words(counted, to), from))
+    let counted = wire::first(&words, count);
+    reply.append_words(wire::rest(wire::first(counted, to), from))
 }
 
 // A reply with engineering readings behind what it shows: the ones from one place to before another.
@@ -107,7 +107,7 @@ pub fn append_engineering(
     ensures { result ≡ wire-replies.after reply (wire-replies.words (drop from (take to (engineering_words readings)))) }
 {
     let words = patterns(readings);
-    reply.append_words(wire::rest_words(wire::first_words(&words, to), from))
+    reply.append_words(wire::rest(wire::first(&words, to), from))
 }
 
 // The word that 0x62 tells of a raw reading, in the way of its field.

@@ -76,7 +76,7 @@ fn number(word: u16, vipd: bool) -> i64
     ensures { result ≡ number_of vipd (raw_of word) }
 {
     if vipd {
-        return wire::twos16(word) as i64;
+        return word.cast_signed() as i64;
     }
     word as i64
 }

@@ -87,7 +87,7 @@ pub fn engineering_housekeeping(
 pub fn parameter(board: Header, code: u8, stat: u8, id: u16, value: ValueBytes) -> Reply
     ensures { result ≡ reply_of (parameter_reply board code stat id (take value.len value.bytes)) }
 {
-    let id_bytes = wire::bytes16(id);
+    let id_bytes = id.to_le_bytes();
     let bytes = value.bytes;
     longer(board, code, stat)
         .append_bytes(&id_bytes)

@@ -89,14 +89,3 @@ pub fn lent_words(bytes: &[u8]) -> [u16; 512]
     }
     ws
 }
-
-// The first words, as many as asked for: all of them where there are fewer.
-pub fn lent_part(ws: &[u16], n: usize) -> &[u16]
-    ensures { result.now ≡ take n ws.now }
-{
-    if n < ws.len() {
-        &ws[0..n]
-    } else {
-        &ws[0..ws.len()]
-    }
-}

@@ -123,7 +123,7 @@ fn measured(out: &mut [u8], at: usize, m: Measured, count: usize) -> usize
 {
     let raws = m.words;
     let all = readings::words(raws);
-    words(out, at, wire::first_words(&all, count))
+    words(out, at, wire::first(&all, count))
 }
 
 // The state line.

@@ -15,7 +15,6 @@ use Rattle.script.proofs.reading.is_at.Reads as reading_is_at
 use Rattle.script.proofs.reading.number.Reads as reading_number
 use Rattle.script.proofs.reading.pairs.Reads as reading_pairs
 use Rattle.script.proofs.reading.lent_words.Reads as reading_lent_words
-use Rattle.script.proofs.reading.lent_part.Reads as reading_lent_part
 
 pub single_printing_shown : Single printing_shown.Post (λ κ r s. r.now)
 single_printing_shown κ a r r' s s' p q = p ∙ sym q
@@ -79,6 +78,3 @@ held_reading_pairs κ a r r' s s' p q = p.1 ∙ sym q.1
 
 pub single_reading_lent_words : Single reading_lent_words.Post (λ κ r s. r)
 single_reading_lent_words κ a r r' s s' p q = p ∙ sym q
-
-pub single_reading_lent_part : Single reading_lent_part.Post (λ κ r s. r.now)
-single_reading_lent_part κ a r r' s s' p q = p ∙ sym q

@@ -8,22 +8,14 @@ use Rattle.wire.proofs.float_bits64.Reads as float_bits64
 use Rattle.wire.proofs.byte.Reads as byte
 use Rattle.wire.proofs.rest.Reads as rest
 use Rattle.wire.proofs.first.Reads as first
-use Rattle.wire.proofs.first_words.Reads as first_words
-use Rattle.wire.proofs.rest_words.Reads as rest_words
-use Rattle.wire.proofs.le16.Reads as le16
-use Rattle.wire.proofs.le32.Reads as le32
-use Rattle.wire.proofs.le64.Reads as le64
-use Rattle.wire.proofs.bytes16.Reads as bytes16
-use Rattle.wire.proofs.bytes32.Reads as bytes32
-use Rattle.wire.proofs.bytes64.Reads as bytes64
-use Rattle.wire.proofs.twos8.Reads as twos8
-use Rattle.wire.proofs.twos16.Reads as twos16
-use Rattle.wire.proofs.twos32.Reads as twos32
-use Rattle.wire.proofs.twos64.Reads as twos64
-use Rattle.wire.proofs.bits8.Reads as bits8
-use Rattle.wire.proofs.bits16.Reads as bits16
-use Rattle.wire.proofs.bits32.Reads as bits32
-use Rattle.wire.proofs.bits64.Reads as bits64
+use Rattle.wire.proofs.numbers.I8Travels.read_at.Reads as read_i8
+use Rattle.wire.proofs.numbers.U8Travels.read_at.Reads as read_u8
+use Rattle.wire.proofs.numbers.I16Travels.read_at.Reads as read_i16
+use Rattle.wire.proofs.numbers.U16Travels.read_at.Reads as read_u16
+use Rattle.wire.proofs.numbers.I32Travels.read_at.Reads as read_i32
+use Rattle.wire.proofs.numbers.U32Travels.read_at.Reads as read_u32
+use Rattle.wire.proofs.numbers.I64Travels.read_at.Reads as read_i64
+use Rattle.wire.proofs.numbers.U64Travels.read_at.Reads as read_u64
 use Rattle.wire.proofs.reply.Reply.none.Reads as reply_none
 use Rattle.wire.proofs.reply.Reply.short.Reads as reply_short
 use Rattle.wire.proofs.reply.Reply.append_bytes.Reads as reply_append_bytes
@@ -51,53 +43,29 @@ single_rest κ a r r' s s' p q = p ∙ sym q
 pub single_first : Single first.Post (λ κ r s. r.now)
 single_first κ a r r' s s' p q = p ∙ sym q
 
-pub single_first_words : Single first_words.Post (λ κ r s. r.now)
-single_first_words κ a r r' s s' p q = p ∙ sym q
+pub single_read_i8 : Single read_i8.Post (λ κ r s. r)
+single_read_i8 κ a r r' s s' p q = p ∙ sym q
 
-pub single_rest_words : Single rest_words.Post (λ κ r s. r.now)
-single_rest_words κ a r r' s s' p q = p ∙ sym q
+pub single_read_u8 : Single read_u8.Post (λ κ r s. r)
+single_read_u8 κ a r r' s s' p q = p ∙ sym q
 
-pub single_le16 : Single le16.Post (λ κ r s. r)
-single_le16 κ a r r' s s' p q = p ∙ sym q
+pub single_read_i16 : Single read_i16.Post (λ κ r s. r)
+single_read_i16 κ a r r' s s' p q = p ∙ sym q
 
-pub single_le32 : Single le32.Post (λ κ r s. r)
-single_le32 κ a r r' s s' p q = p ∙ sym q
+pub single_read_u16 : Single read_u16.Post (λ κ r s. r)
+single_read_u16 κ a r r' s s' p q = p ∙ sym q
 
-pub single_le64 : Single le64.Post (λ κ r s. r)
-single_le64 κ a r r' s s' p q = p ∙ sym q
+pub single_read_i32 : Single read_i32.Post (λ κ r s. r)
+single_read_i32 κ a r r' s s' p q = p ∙ sym q
 
-pub single_bytes16 : Single bytes16.Post (λ κ r s. r)
-single_bytes16 κ a r r' s s' p q = p ∙ sym q
+pub single_read_u32 : Single read_u32.Post (λ κ r s. r)
+single_read_u32 κ a r r' s s' p q = p ∙ sym q
 
-pub single_bytes32 : Single bytes32.Post (λ κ r s. r)
-single_bytes32 κ a r r' s s' p q = p ∙ sym q
+pub single_read_i64 : Single read_i64.Post (λ κ r s. r)
+single_read_i64 κ a r r' s s' p q = p ∙ sym q
 
-pub single_bytes64 : Single bytes64.Post (λ κ r s. r)
-single_bytes64 κ a r r' s s' p q = p ∙ sym q
-
-pub single_twos8 : Single twos8.Post (λ κ r s. r)
-single_twos8 κ a r r' s s' p q = p ∙ sym q
-
-pub single_twos16 : Single twos16.Post (λ κ r s. r)
-single_twos16 κ a r r' s s' p q = p ∙ sym q
-
-pub single_twos32 : Single twos32.Post (λ κ r s. r)
-single_twos32 κ a r r' s s' p q = p ∙ sym q
-
-pub single_twos64 : Single twos64.Post (λ κ r s. r)
-single_twos64 κ a r r' s s' p q = p ∙ sym q
-
-pub single_bits8 : Single bits8.Post (λ κ r s. r)
-single_bits8 κ a r r' s s' p q = p ∙ sym q
-
-pub single_bits16 : Single bits16.Post (λ κ r s. r)
-single_bits16 κ a r r' s s' p q = p ∙ sym q
-
-pub single_bits32 : Single bits32.Post (λ κ r s. r)
-single_bits32 κ a r r' s s' p q = p ∙ sym q
-
-pub single_bits64 : Single bits64.Post (λ κ r s. r)
-single_bits64 κ a r r' s s' p q = p ∙ sym q
+pub single_read_u64 : Single read_u64.Post (λ κ r s. r)
+single_read_u64 κ a r r' s s' p q = p ∙ sym q
 
 pub single_reply_none : Single reply_none.Post (λ κ r s. r)
 single_reply_none κ a r r' s s' p q = p ∙ sym q

@@ -23,7 +23,9 @@ use Rattle.value.specs.Answers.{read_number}
 use Rattle.value.specs.Values.{spelt, wire_bytes, value_of, read_of, Proper}
 use Rattle.value.specs.declared.ParamValue.{ParamValue}
 use Rattle.value.specs.declared.ParamValue.TheVariants.{Int8, Uint8, Int16, Uint16, Int32, Uint32, Float, Int64, Uint64, Double}
-use Rattle.value.specs.declared.Parsed.TheVariants.{Value, TooShort, NotANumber}
+use Rattle.std.specs.Prelude.{Result, Ok, Err}
+use Rattle.value.specs.declared.ValueRefusal.{ValueRefusal}
+use Rattle.value.specs.declared.ValueRefusal.TheVariants.{TooShort, NotANumber}
 use Rattle.value.specs.declared.ValueType.{ValueType}
 
 -- ---- a value that fits its type: its bytes hold it, and spell it
@@ -41,7 +43,7 @@ spelt_lt (Int64 x) f = (pattern_fits w64 x f).fits
 spelt_lt (Uint64 x) f = f.fits
 spelt_lt (Double x) f = float_bits_lt binary64 x f.0
 
-pub spelt_back : (v : ParamValue) → Proper v → value_of (type_of v) (spelt v) ≡ Value v
+pub spelt_back : (v : ParamValue) → Proper v → value_of (type_of v) (spelt v) ≡ Ok v
 unfolding Proper spelt value_of
 spelt_back (Int8 x) f = rw (signed_pattern w8 x f)
 spelt_back (Uint8 x) f = refl
@@ -64,7 +66,7 @@ read_number_lem t x rest h =
     ∙ ap (value_of t) (number_front (width t) x rest ∙ mod-eq_of_lt h)
 
 -- the bytes of a value are read as that value
-pub read_back : (v : ParamValue) (rest : List ℕ) → Proper v → read_of (type_of v) (wire_bytes v ++ rest) ≡ Value v
+pub read_back : (v : ParamValue) (rest : List ℕ) → Proper v → read_of (type_of v) (wire_bytes v ++ rest) ≡ Ok v
 unfolding wire_bytes
 read_back v rest f = read_number_lem (type_of v) (spelt v) rest (spelt_lt v f) ∙ spelt_back v f
 
@@ -74,15 +76,15 @@ module _ (t : ValueType) (x : ℕ) where
   Kept : ParamValue → Type 0
   Kept v = (type_of v ≡ t) × (spelt v ≡ x)
 
-  agree : (w v : ParamValue) → Value w ≡ Value v → Kept w → Kept v
+  agree : (w v : ParamValue) → ◌≡◌ {A = Result ParamValue ValueRefusal} (Ok w) (Ok v) → Kept w → Kept v
   agree w v e p = let q : w ≡ v = cc in rw (← q) p
 
 -- a float's answer that is a value is so because its pattern is no NaN's
-numbered : (b : Bool) (w v : ParamValue) → cond b NotANumber (Value w) ≡ Value v → (b ≡ false) × (Value w ≡ Value v)
+numbered : (b : Bool) (w v : ParamValue) → cond b (Err NotANumber) (Ok w) ≡ Ok v → (b ≡ false) × (◌≡◌ {A = Result ParamValue ValueRefusal} (Ok w) (Ok v))
 numbered true w v e = absurd (let z : ◌≡◌ {A = ℕ} 0 1 = cc in omega arith)
 numbered false w v e = (refl, e)
 
-pub value_spelt : (t : ValueType) (x : ℕ) (v : ParamValue) → x < 256 ^ width t → value_of t x ≡ Value v → (type_of v ≡ t) × (spelt v ≡ x)
+pub value_spelt : (t : ValueType) (x : ℕ) (v : ParamValue) → x < 256 ^ width t → value_of t x ≡ Ok v → (type_of v ≡ t) × (spelt v ≡ x)
 unfolding value_of spelt width Kept
 value_spelt ValueType.Int8 x v h e = agree ValueType.Int8 x (Int8 (signed 1 x)) v e (refl, pattern_signed w8 x (record { fits = h }))
 value_spelt ValueType.Uint8 x v h e = agree ValueType.Uint8 x (Uint8 x) v e (refl, refl)
@@ -101,11 +103,11 @@ value_spelt ValueType.Double x v h e =
 
 -- ---- too short exactly where there are fewer bytes than the type has
 
-never_short : (b : Bool) (w : ParamValue) → cond b NotANumber (Value w) ≡ TooShort → ⊥
+never_short : (b : Bool) (w : ParamValue) → cond b (Err NotANumber) (Ok w) ≡ Err TooShort → ⊥
 never_short true w e = let z : ◌≡◌ {A = ℕ} 0 1 = cc in omega arith
 never_short false w e = let z : ◌≡◌ {A = ℕ} 0 1 = cc in omega arith
 
-value_long : (t : ValueType) (x : ℕ) → value_of t x ≡ TooShort → ⊥
+value_long : (t : ValueType) (x : ℕ) → value_of t x ≡ Err TooShort → ⊥
 unfolding value_of
 value_long ValueType.Int8 x e = never_short false (Int8 (signed 1 x)) e
 value_long ValueType.Uint8 x e = never_short false (Uint8 x) e
@@ -118,7 +120,7 @@ value_long ValueType.Int64 x e = never_short false (Int64 (signed 8 x)) e
 value_long ValueType.Uint64 x e = never_short false (Uint64 x) e
 value_long ValueType.Double x e = never_short (nan_pattern binary64 x) (Double (of_bits binary64 x)) e
 
-pub short_is_short : (t : ValueType) (s : List ℕ) → read_of t s ≡ TooShort → length s < width t
+pub short_is_short : (t : ValueType) (s : List ℕ) → read_of t s ≡ Err TooShort → length s < width t
 short_is_short t s e =
     ⊎_elim
     (λ (h : length s < width t). h)
@@ -138,7 +140,7 @@ front_number : (n : ℕ) (s : List ℕ) → n ≤ length s → number n (take n 
 front_number n s h =
     sym (number_append n (take n s) (drop n s) (omega (arith, length-take-le n s h))) ∙ ap (number n) (take-append-drop n s)
 
-pub read_bytes : (t : ValueType) (s : List ℕ) (v : ParamValue) → Bytes s → read_of t s ≡ Value v → (type_of v ≡ t) × (wire_bytes v ≡ take (width t) s)
+pub read_bytes : (t : ValueType) (s : List ℕ) (v : ParamValue) → Bytes s → read_of t s ≡ Ok v → (type_of v ≡ t) × (wire_bytes v ≡ take (width t) s)
 unfolding wire_bytes
 read_bytes t s v b e =
     ⊎_elim
@@ -155,21 +157,21 @@ read_bytes t s v b e =
 -- ---- floats: every pattern of bits is refused as a NaN's, or is that of the value read
 
 module _ (x : ℕ) (rest : List ℕ) where
-  pub float_refused : x < 2 ^ 32 → nan_pattern binary32 x ≡ true → read_of ValueType.Float (bytes_of 4 x ++ rest) ≡ NotANumber
+  pub float_refused : x < 2 ^ 32 → nan_pattern binary32 x ≡ true → read_of ValueType.Float (bytes_of 4 x ++ rest) ≡ Err NotANumber
   unfolding value_of width
   float_refused h n = rw n at (read_number_lem ValueType.Float x rest h)
 
-  pub double_refused : x < 2 ^ 64 → nan_pattern binary64 x ≡ true → read_of ValueType.Double (bytes_of 8 x ++ rest) ≡ NotANumber
+  pub double_refused : x < 2 ^ 64 → nan_pattern binary64 x ≡ true → read_of ValueType.Double (bytes_of 8 x ++ rest) ≡ Err NotANumber
   unfolding value_of width
   double_refused h n = rw n at (read_number_lem ValueType.Double x rest h)
 
   pub float_taken : x < 2 ^ 32 → nan_pattern binary32 x ≡ false
-      → (read_of ValueType.Float (bytes_of 4 x ++ rest) ≡ Value (Float (of_bits binary32 x))) × (wire_bytes (Float (of_bits binary32 x)) ≡ bytes_of 4 x)
+      → (read_of ValueType.Float (bytes_of 4 x ++ rest) ≡ Ok (Float (of_bits binary32 x))) × (wire_bytes (Float (of_bits binary32 x)) ≡ bytes_of 4 x)
   unfolding value_of wire_bytes spelt width
   float_taken h n = (rw n at (read_number_lem ValueType.Float x rest h), ap (bytes_of 4) (float_bits_of_bits binary32 x h n))
 
   pub double_taken : x < 2 ^ 64 → nan_pattern binary64 x ≡ false
-      → (read_of ValueType.Double (bytes_of 8 x ++ rest) ≡ Value (Double (of_bits binary64 x))) × (wire_bytes (Double (of_bits binary64 x)) ≡ bytes_of 8 x)
+      → (read_of ValueType.Double (bytes_of 8 x ++ rest) ≡ Ok (Double (of_bits binary64 x))) × (wire_bytes (Double (of_bits binary64 x)) ≡ bytes_of 8 x)
   unfolding value_of wire_bytes spelt width
   double_taken h n = (rw n at (read_number_lem ValueType.Double x rest h), ap (bytes_of 8) (float_bits_of_bits binary64 x h n))
 

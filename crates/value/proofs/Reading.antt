@@ -9,57 +9,44 @@ use lib.Dec.{ltb}
 use lib.Ieee.{Float, binary32, binary64, of_bits}
 use lib.ListN.{length, replicate}
 use borrow.Author.Tests.{lt-ltb, le-ltb}
-use Rattle.wire.specs.Floats.{nan_pattern, float32_of, float64_of}
+use Rattle.std.specs.Prelude.{Option, Some, None, Result, Ok, Err}
+use Rattle.wire.proofs.LittleEndian.{bytes_of_zero}
+use Rattle.wire.specs.Floats.{nan_pattern, float_of}
 use Rattle.wire.specs.Numbers.{number, bytes_of}
-use Rattle.wire.specs.declared.floats.Float32.{Float32}
-use Rattle.wire.specs.declared.floats.Float64.{Float64}
 use Rattle.value.specs.Types.{width, type_of}
 use Rattle.value.specs.Answers.{read_number, is_nan_value, spelt_number, value_number}
 use Rattle.value.specs.Values.{spelt, wire_bytes, value_bytes, value_of, read_of}
 use Rattle.value.specs.declared.ParamValue.{ParamValue}
-use Rattle.value.specs.declared.Parsed.{Parsed}
-use Rattle.value.specs.declared.Parsed.TheVariants.{Value, TooShort, NotANumber}
+use Rattle.value.specs.declared.ValueRefusal.{ValueRefusal}
+use Rattle.value.specs.declared.ValueRefusal.TheVariants.{TooShort, NotANumber}
 use Rattle.value.specs.declared.ValueBytes.{ValueBytes}
 use Rattle.value.specs.declared.ValueType.{ValueType}
 
--- ---- what the code makes of a float's pattern
+-- ---- what the code makes of a float
 
-abbrev pub parsed32 : Float32 → Parsed
-parsed32 (Float32.Number x) = Value (ParamValue.Float x)
-parsed32 Float32.NotANumber = NotANumber
+abbrev pub floating : (Float → ParamValue) → Option Float → Result ParamValue ValueRefusal
+floating value (Some x) = Ok (value x)
+floating value None = Err NotANumber
 
-abbrev pub parsed64 : Float64 → Parsed
-parsed64 (Float64.Number x) = Value (ParamValue.Double x)
-parsed64 Float64.NotANumber = NotANumber
+chosen : (value : Float → ParamValue) (b : Bool) (y : Float) → floating value (cond b None (Some y)) ≡ cond b (Err NotANumber) (Ok (value y))
+chosen value true y = refl
+chosen value false y = refl
 
-chosen32 : (b : Bool) (y : Float) → parsed32 (cond b Float32.NotANumber (Float32.Number y)) ≡ cond b NotANumber (Value (ParamValue.Float y))
-chosen32 true y = refl
-chosen32 false y = refl
+pub float_value : (x : ℕ) → floating ParamValue.Float (float_of binary32 x) ≡ value_of ValueType.Float x
+unfolding float_of value_of
+float_value x = chosen ParamValue.Float (nan_pattern binary32 x) (of_bits binary32 x)
 
-chosen64 : (b : Bool) (y : Float) → parsed64 (cond b Float64.NotANumber (Float64.Number y)) ≡ cond b NotANumber (Value (ParamValue.Double y))
-chosen64 true y = refl
-chosen64 false y = refl
-
-pub float_value : (x : ℕ) → parsed32 (float32_of x) ≡ value_of ValueType.Float x
-unfolding float32_of value_of
-float_value x = chosen32 (nan_pattern binary32 x) (of_bits binary32 x)
-
-pub double_value : (x : ℕ) → parsed64 (float64_of x) ≡ value_of ValueType.Double x
-unfolding float64_of value_of
-double_value x = chosen64 (nan_pattern binary64 x) (of_bits binary64 x)
+pub double_value : (x : ℕ) → floating ParamValue.Double (float_of binary64 x) ≡ value_of ValueType.Double x
+unfolding float_of value_of
+double_value x = chosen ParamValue.Double (nan_pattern binary64 x) (of_bits binary64 x)
 
 -- ---- a value's bytes in their room: past those that it needs stands 0
-
-zeros : (k : ℕ) → bytes_of k 0 ≡ replicate k 0
-unfolding bytes_of
-zeros zero = refl
-zeros (suc k) = ap (λ (l : List ℕ). 0 ∷ l) (zeros k)
 
 wider : (n k x : ℕ) → x < 256 ^ n → bytes_of (n + k) x ≡ bytes_of n x ++ replicate k 0
 unfolding bytes_of
 wider zero k x h =
     let e : x ≡ 0 = omega arith in
-    rw (zero-add k, e) (zeros k)
+    rw (zero-add k, e) (bytes_of_zero k)
 wider (suc n) k x h =
     let p : x < 256 ^ n * 256 = rw (pow-suc 256 n) at h in
     rw (suc-add n k) (ap (λ (l : List ℕ). x % 256 ∷ l) (wider n k (x / 256) (omega arith)))
@@ -88,7 +75,7 @@ in_room v n x b en eb ex h =
 
 -- ---- what a reader answers
 
-pub too_short : (t : ValueType) (s : List ℕ) → length s < width t → read_of t s ≡ TooShort
+pub too_short : (t : ValueType) (s : List ℕ) → length s < width t → read_of t s ≡ Err TooShort
 unfolding read_of
 too_short t s h = rw (lt-ltb (length s) (width t) h)
 
@@ -98,7 +85,7 @@ long_enough t u s e h = rw (le-ltb (length s) (width t) h, e)
 
 -- ---- and the number that its answer has
 
-refused : (b : Bool) (v : ParamValue) → read_number (cond b NotANumber (Value v)) ≡ cond b 7 0
+refused : (b : Bool) (v : ParamValue) → read_number (cond b (Err NotANumber) (Ok v)) ≡ cond b 7 0
 refused true v = refl
 refused false v = refl
 
@@ -119,12 +106,9 @@ pub value_number_lem : (t : ValueType) (s : List ℕ) → read_number (read_of t
 unfolding read_of value_number
 value_number_lem t s = go (ltb (length s) (width t)) (value_of t (number (width t) s)) ∙ ap (cond (ltb (length s) (width t)) 5) (spelt_number_lem t (number (width t) s))
   where
-    go : (b : Bool) (p : Parsed) → read_number (cond b TooShort p) ≡ cond b 5 (read_number p)
+    go : (b : Bool) (p : Result ParamValue ValueRefusal) → read_number (cond b (Err TooShort) p) ≡ cond b 5 (read_number p)
     go true p = refl
     go false p = refl
 
-pub with_spelt_number : {r : Parsed} (t : ValueType) (x : ℕ) → r ≡ value_of t x → record { value : r ≡ value_of t x; number : read_number r ≡ spelt_number t x }
-with_spelt_number t x e = record { value = e; number = ap read_number e ∙ spelt_number_lem t x }
-
-pub with_value_number : {r : Parsed} (t : ValueType) (s : List ℕ) → r ≡ read_of t s → record { value : r ≡ read_of t s; number : read_number r ≡ value_number t s }
+pub with_value_number : {r : Result ParamValue ValueRefusal} (t : ValueType) (s : List ℕ) → r ≡ read_of t s → record { value : r ≡ read_of t s; number : read_number r ≡ value_number t s }
 with_value_number t s e = record { value = e; number = ap read_number e ∙ value_number_lem t s }

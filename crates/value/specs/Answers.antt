@@ -1,17 +1,17 @@
 -- Document 01's number for each answer of this crate; 0 is no refusal. Assumes nothing: these are definitions.
-use Rattle.std.specs.Prelude.{ℕ}
+use Rattle.std.specs.Prelude.{ℕ, Result, Ok, Err}
 use mathlib.Core.{Bool.Bool, Bool.false, Bool.cond, List.List}
 use lib.{Dec.ltb, Ieee.binary32, Ieee.binary64, ListN.length}
 use Rattle.wire.specs.{Numbers.number, Floats.nan_pattern}
-use Rattle.value.specs.{Types.width, declared.ValueType.ValueType, declared.Parsed.Parsed}
+use Rattle.value.specs.{Types.width, declared.ValueType.ValueType, declared.ParamValue.ParamValue, declared.ValueRefusal.ValueRefusal}
 use Rattle.value.specs.declared.ValueType.TheVariants.{Int8, Uint8, Int16, Uint16, Int32, Uint32, Float, Int64, Uint64, Double}
-use Rattle.value.specs.declared.Parsed.TheVariants.{Value, TooShort, NotANumber}
+use Rattle.value.specs.declared.ValueRefusal.TheVariants.{TooShort, NotANumber}
 
 -- a set command with fewer bytes than its value has is 5, a NaN is 7
-abbrev pub read_number : Parsed → ℕ
-read_number (Value v) = 0
-read_number TooShort = 5
-read_number NotANumber = 7
+abbrev pub read_number : Result ParamValue ValueRefusal → ℕ
+read_number (Ok v) = 0
+read_number (Err TooShort) = 5
+read_number (Err NotANumber) = 7
 
 -- ---- when each number is given
 

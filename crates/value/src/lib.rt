@@ -3,10 +3,10 @@
 
 ghost use Rattle.std.specs.Prelude.{◌≡◌, ◌<◌, ◌^◌};
 ghost use Rattle.value.specs.Types.{width, type_of};
-ghost use Rattle.value.specs.Values.{spelt, value_bytes, value_of, read_of};
-ghost use Rattle.value.specs.Answers.{read_number, spelt_number, value_number};
+ghost use Rattle.value.specs.Values.{spelt, value_bytes, read_of};
+ghost use Rattle.value.specs.Answers.{read_number, value_number};
 
-use wire::{Float32, Float64};
+use wire::Travels;
 
 // A type of Table 3-24.
 #[derive(Clone, Copy)]
@@ -45,10 +45,9 @@ pub struct ValueBytes {
     pub bytes: [u8; 8],
 }
 
-// What the front of some bytes holds of a type.
+// Why the front of some bytes holds no value of a type.
 #[derive(Clone, Copy)]
-pub enum Parsed {
-    Value(ParamValue),
+pub enum ValueRefusal {
     TooShort,
     NotANumber,
 }
@@ -96,14 +95,14 @@ fn spelt(v: ParamValue) -> u64
     ensures { (result ≡ spelt v) × (result < 256 ^ width (type_of v)) }
 {
     match v {
-        ParamValue::Int8(x) => wire::bits8(x) as u64,
+        ParamValue::Int8(x) => x.cast_unsigned() as u64,
         ParamValue::Uint8(x) => x as u64,
-        ParamValue::Int16(x) => wire::bits16(x) as u64,
+        ParamValue::Int16(x) => x.cast_unsigned() as u64,
         ParamValue::Uint16(x) => x as u64,
-        ParamValue::Int32(x) => wire::bits32(x) as u64,
+        ParamValue::Int32(x) => x.cast_unsigned() as u64,
         ParamValue::Uint32(x) => x as u64,
         ParamValue::Float(x) => wire::float_bits32(x) as u64,
-        ParamValue::Int64(x) => wire::bits64(x),
+        ParamValue::Int64(x) => x.cast_unsigned(),
         ParamValue::Uint64(x) => x,
         ParamValue::Double(x) => wire::float_bits64(x),
     }
@@ -115,50 +114,34 @@ pub fn bytes(v: ParamValue) -> ValueBytes
 {
     ValueBytes {
         len: width(type_of(v)),
-        bytes: wire::bytes64(spelt(v)),
-    }
-}
-
-// The single-precision value of a pattern.
-fn float(pattern: u32) -> Parsed
-    ensures value { result ≡ value_of ValueType.Float pattern }
-    ensures number { read_number result ≡ spelt_number ValueType.Float pattern }
-{
-    match wire::float_of32(pattern) {
-        Float32::Number(x) => Parsed::Value(ParamValue::Float(x)),
-        Float32::NotANumber => Parsed::NotANumber,
-    }
-}
-
-// The double-precision value of a pattern.
-fn double(pattern: u64) -> Parsed
-    ensures value { result ≡ value_of ValueType.Double pattern }
-    ensures number { read_number result ≡ spelt_number ValueType.Double pattern }
-{
-    match wire::float_of64(pattern) {
-        Float64::Number(x) => Parsed::Value(ParamValue::Double(x)),
-        Float64::NotANumber => Parsed::NotANumber,
+        bytes: spelt(v).to_le_bytes(),
     }
 }
 
 // The value of a type at the front of some bytes; those past it are ignored.
-pub fn read(t: ValueType, s: &[u8]) -> Parsed
+pub fn read(t: ValueType, s: &[u8]) -> Result<ParamValue, ValueRefusal>
     ensures value { result ≡ read_of t s.now }
     ensures number { read_number result ≡ value_number t s.now }
 {
     if s.len() < width(t) {
-        return Parsed::TooShort;
+        return Err(ValueRefusal::TooShort);
     }
     match t {
-        ValueType::Int8 => Parsed::Value(ParamValue::Int8(wire::twos8(wire::byte(s, 0)))),
-        ValueType::Uint8 => Parsed::Value(ParamValue::Uint8(wire::byte(s, 0))),
-        ValueType::Int16 => Parsed::Value(ParamValue::Int16(wire::twos16(wire::le16(s, 0)))),
-        ValueType::Uint16 => Parsed::Value(ParamValue::Uint16(wire::le16(s, 0))),
-        ValueType::Int32 => Parsed::Value(ParamValue::Int32(wire::twos32(wire::le32(s, 0)))),
-        ValueType::Uint32 => Parsed::Value(ParamValue::Uint32(wire::le32(s, 0))),
-        ValueType::Float => float(wire::le32(s, 0)),
-        ValueType::Int64 => Parsed::Value(ParamValue::Int64(wire::twos64(wire::le64(s, 0)))),
-        ValueType::Uint64 => Parsed::Value(ParamValue::Uint64(wire::le64(s, 0))),
-        ValueType::Double => double(wire::le64(s, 0)),
+        ValueType::Int8 => Ok(ParamValue::Int8(i8::read_at(s, 0))),
+        ValueType::Uint8 => Ok(ParamValue::Uint8(u8::read_at(s, 0))),
+        ValueType::Int16 => Ok(ParamValue::Int16(i16::read_at(s, 0))),
+        ValueType::Uint16 => Ok(ParamValue::Uint16(u16::read_at(s, 0))),
+        ValueType::Int32 => Ok(ParamValue::Int32(i32::read_at(s, 0))),
+        ValueType::Uint32 => Ok(ParamValue::Uint32(u32::read_at(s, 0))),
+        ValueType::Float => match wire::float_of32(u32::read_at(s, 0)) {
+            Some(x) => Ok(ParamValue::Float(x)),
+            None => Err(ValueRefusal::NotANumber),
+        },
+        ValueType::Int64 => Ok(ParamValue::Int64(i64::read_at(s, 0))),
+        ValueType::Uint64 => Ok(ParamValue::Uint64(u64::read_at(s, 0))),
+        ValueType::Double => match wire::float_of64(u64::read_at(s, 0)) {
+            Some(x) => Ok(ParamValue::Double(x)),
+            None => Err(ValueRefusal::NotANumber),
+        },
     }
 }

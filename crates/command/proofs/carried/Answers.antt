@@ -56,15 +56,15 @@ returns-in-GetHousekeeping c = rw c.in-GetHousekeeping.is
 
 pub returns-in-GetParameter : goal.returns-in-GetParameter
 unfolding carried
-returns-in-GetParameter c = rw (c.in-GetParameter.is, c.get.ensures, c.le16.ensures)
+returns-in-GetParameter c = rw (c.in-GetParameter.is, c.get.ensures, c.read_at.ensures)
 
 pub returns-in-SetParameter : goal.returns-in-SetParameter
 unfolding carried
-returns-in-SetParameter c = rw (c.in-SetParameter.is, c.set.ensures, c.le16-in-SetParameter.ensures)
+returns-in-SetParameter c = rw (c.in-SetParameter.is, c.set.ensures, c.read_at-in-SetParameter.ensures)
 
 pub returns-in-ResetParameter : goal.returns-in-ResetParameter
 unfolding carried
-returns-in-ResetParameter c = rw (c.in-ResetParameter.is, c.reset.ensures, c.le16-in-ResetParameter.ensures)
+returns-in-ResetParameter c = rw (c.in-ResetParameter.is, c.reset.ensures, c.read_at-in-ResetParameter.ensures)
 
 pub returns-in-ResetConfiguration : goal.returns-in-ResetConfiguration
 unfolding carried
@@ -76,7 +76,7 @@ returns-in-LoadConfiguration c = rw c.in-LoadConfiguration.is
 
 pub returns-in-SaveConfiguration : goal.returns-in-SaveConfiguration
 unfolding carried
-returns-in-SaveConfiguration c = rw (c.in-SaveConfiguration.is, c.le16-in-SaveConfiguration.ensures)
+returns-in-SaveConfiguration c = rw (c.in-SaveConfiguration.is, c.read_at-in-SaveConfiguration.ensures)
 
 pub returns-in-GetEngineeringHousekeeping : goal.returns-in-GetEngineeringHousekeeping
 unfolding carried

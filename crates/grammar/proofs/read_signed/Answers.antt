@@ -3,6 +3,8 @@ use native.Mathlib.Omega.{arith}
 use Prim.Native.Nat.{◌+◌, ◌-◌}
 use mathlib.Core.Path.{sym, ap, ◌∙◌}
 use lib.IntN.{ℤ, pos, negsuc}
+use mir.Syntax.{w16}
+use Rattle.wire.proofs.TwosComplement.{signed_to_z}
 use Rattle.grammar.specs.Grammar.{Read, reads}
 use Rattle.grammar.specs.Views.{seen_number}
 use Rattle.grammar.proofs.Digits.{number_most}
@@ -49,7 +51,7 @@ returns-in_default-value c =
     let m = number_most 32768 a.s.now (a.at + 1) _ _ e in
     let p = with_number
     (ap {B = Read ℤ} (λ (z : ℤ). reads z v.next)
-    (kept c.twos16.result (negsuc (v.value - 1)) (c.twos16.ensures ∙ pattern_below v.value (omega arith) m) (omega arith))
+    (kept c.cast_signed.result (negsuc (v.value - 1)) (c.cast_signed.ensures ∙ sym (signed_to_z w16 _ (record { fits = omega arith })) ∙ pattern_below v.value (omega arith) m) (omega arith))
     ∙ minus_is a.s.now a.at (omega arith) _ _ e (omega arith)) in
     record { is = p.0; number = p.1 }
 
@@ -61,6 +63,6 @@ returns-in-Is-read_number c =
     let m = number_most 32767 a.s.now a.at _ _ e in
     let p = with_number
     (ap {B = Read ℤ} (λ (z : ℤ). reads z v.next)
-    (kept c.twos16-else-peek-eq45.result (pos v.value) (c.twos16-else-peek-eq45.ensures ∙ pattern_above v.value (omega arith)) (omega arith))
+    (kept c.cast_signed-else-peek-eq45.result (pos v.value) (c.cast_signed-else-peek-eq45.ensures ∙ sym (signed_to_z w16 _ (record { fits = omega arith })) ∙ pattern_above v.value (omega arith)) (omega arith))
     ∙ plus_is a.s.now a.at (omega arith) _ _ e) in
     record { is = p.0; number = p.1 }

@@ -2,12 +2,16 @@
 use mir.Val.{SFits}
 use mir.Syntax.{w16}
 use mir.ValLaws.{to_z-of_z}
+use mathlib.Core.Path.{sym, ◌∙◌}
+use Rattle.wire.proofs.TwosComplement.{signed_to_z}
 use Rattle.handling.specs.Benches.{ticked_of}
 use borrow.Author.Rules.{rules}
 use Rattle.handling.proofs.ticked.Goals as goal
 
 pub returns : goal.returns
 unfolding ticked_of
-returns c = let f : SFits w16 c.twos16.result = search rules in
-    let e = rw (to_z-of_z w16 c.twos16.result f, c.twos16.ensures, c.lent_part.ensures) at c.tick-t.ensures.value in
+returns c =
+    let f : SFits w16 c.cast_signed.result = search rules in
+    let s = c.cast_signed.ensures ∙ sym (signed_to_z w16 c.args.rail c.ranges.rail) in
+    let e = rw (to_z-of_z w16 c.cast_signed.result f, s, c.first.ensures) at c.tick-t.ensures.value in
     rw (c.ticked.ensures, ← e)

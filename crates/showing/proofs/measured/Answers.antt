@@ -2,4 +2,4 @@
 use Rattle.showing.proofs.measured.Goals as goal
 
 pub returns : goal.returns
-returns c = rw (c.words.ensures, c.first_words.ensures, c.words-all.ensures)
+returns c = rw (c.words.ensures, c.first.ensures, c.words-all.ensures)

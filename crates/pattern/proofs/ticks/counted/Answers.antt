@@ -2,4 +2,4 @@
 use Rattle.pattern.proofs.ticks.counted.Goals as goal
 
 pub returns : goal.returns
-returns c = rw (c.first_words.ensures, c.word_count.ensures)
+returns c = rw (c.first.ensures, c.word_count.ensures)

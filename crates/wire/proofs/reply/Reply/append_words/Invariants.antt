@@ -1,13 +1,8 @@
--- After i turns the first i words stand behind what the reply shows, two bytes each; where the room ends within a word,
--- its low byte stands there too.
-use Prim.Native.Nat.{◌≤◌, ◌-◌, ◌*◌}
+-- After some words the reply has them behind what it showed, two bytes each.
 use mathlib.Core.Path.{◌≡◌}
-use lib.Seq.{paste}
-use Rattle.wire.specs.Replies.{words}
+use lib.ListN.{take}
+use Rattle.wire.specs.Replies.{after, words}
 use Rattle.wire.proofs.reply.Reply.append_words.Given as goal
 
-abbrev pub invariant-loop-i : goal.invariant-loop-i
-invariant-loop-i l = (l.i ≤ l.whole) × (l.bytes ≡ paste l.initial.bytes l.start (words l.ws) (2 * l.i))
-
-abbrev pub decreases-loop-i : goal.decreases-loop-i
-decreases-loop-i l = l.whole - l.i
+abbrev pub invariant-loop-w : goal.invariant-loop-w
+invariant-loop-w l = l.self ≡ after l.fn.self (words (take l.w-index l.ws))
