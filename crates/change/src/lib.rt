@@ -9,53 +9,33 @@ use modes::Mode;
 use state::{Cause, Profile, Resets};
 
 // Whether every channel is off in a mode.
+#[tactic(auto, unfolding(crate::specs::Change::is_dark))]
 fn is_dark(mode: Mode) -> bool
     ensures { result ≡ is_dark mode }
 {
-    match mode {
-        Mode::Startup => true,
-        Mode::Nominal => false,
-        Mode::Safety => false,
-        Mode::Emergency => true,
-    }
+    matches!(mode, Mode::Startup | Mode::Emergency)
 }
 
 // Whether nominal is left for safety.
+#[tactic(auto, unfolding(crate::specs::Change::from_nominal_to_safety))]
 fn from_nominal_to_safety(before: Mode, after: Mode) -> bool
     ensures { result ≡ from_nominal_to_safety before after }
 {
-    match before {
-        Mode::Startup => false,
-        Mode::Nominal => match after {
-            Mode::Startup => false,
-            Mode::Nominal => false,
-            Mode::Safety => true,
-            Mode::Emergency => false,
-        },
-        Mode::Safety => false,
-        Mode::Emergency => false,
-    }
+    before == Mode::Nominal && after == Mode::Safety
 }
 
 // Whether emergency is left.
+#[tactic(auto, unfolding(crate::specs::Change::leaves_emergency))]
 fn leaves_emergency(before: Mode, after: Mode) -> bool
     ensures { result ≡ leaves_emergency before after }
 {
-    match before {
-        Mode::Startup => false,
-        Mode::Nominal => false,
-        Mode::Safety => false,
-        Mode::Emergency => match after {
-            Mode::Startup => true,
-            Mode::Nominal => true,
-            Mode::Safety => true,
-            Mode::Emergency => false,
-        },
-    }
+    before == Mode::Emergency && after != Mode::Emergency
 }
 
-// The channels after the mode went from one to another, or stayed. Each case changes them in place, and they leave at
-// one place only: where every case has a way out of its own, the compiler copies their counts in each of them.
+// The channels after the mode went from one to another, or stayed.
+// Kept: each case changes them in place, and they leave at one place only. Where every case has a way out of its own,
+// the compiler copies their counts in each of them.
+#[tactic(auto, unfolding(crate::specs::Change::entering_of))]
 pub fn entering(before: Mode, after: Mode, p: Profile, mut c: Channels) -> Channels
     ensures { result ≡ entering_of before after p c }
 {
@@ -70,39 +50,37 @@ pub fn entering(before: Mode, after: Mode, p: Profile, mut c: Channels) -> Chann
 }
 
 // The watchdog's timer after the mode went from one to another, or stayed.
+#[tactic(auto, unfolding(crate::specs::Change::timer_after))]
 pub fn timer_after(before: Mode, after: Mode, timer: u64) -> u64
     ensures { result ≡ timer_after before after timer }
 {
-    let was_dark = is_dark(before);
-    let dark = is_dark(after);
-    if was_dark {
-        return 0;
+    if is_dark(before) || is_dark(after) {
+        0
+    } else {
+        timer
     }
-    if dark {
-        return 0;
-    }
-    timer
 }
 
 // The counts and the cause once emergency was left.
+#[tactic(auto, unfolding(crate::specs::Change::left_emergency))]
 fn left_emergency(r: Resets) -> Resets
     ensures { result ≡ left_emergency r }
 {
-    let cause = Cause::Emergency;
     Resets {
         power: memory::one_more(r.power),
-        watchdog: r.watchdog,
-        command: r.command,
-        cause,
+        cause: Cause::Emergency,
+        ..r
     }
 }
 
 // The counts and the cause after the mode went from one to another, or stayed.
+#[tactic(auto, unfolding(crate::specs::Change::resets_after))]
 pub fn resets_after(before: Mode, after: Mode, r: Resets) -> Resets
     ensures { result ≡ resets_after before after r }
 {
     if leaves_emergency(before, after) {
-        return left_emergency(r);
+        left_emergency(r)
+    } else {
+        r
     }
-    r
 }
