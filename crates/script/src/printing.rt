@@ -26,10 +26,8 @@ pub fn text(out: &mut [u8], at: usize, s: &[u8]) -> usize
     ensures { page out.new result ≡ typed (page out.old at) s.now }
 {
     let mut place = at;
-    let mut i = 0;
-    while i < s.len() {
-        place = put(out, place, s[i]);
-        i += 1;
+    for c in s {
+        place = put(out, place, *c);
     }
     place
 }
@@ -47,10 +45,8 @@ fn over(n: u64, digits: usize) -> u64
     ensures { result ≡ over digits n }
 {
     let mut rest = n;
-    let mut left = digits;
-    while 0 < left {
+    for _ in 0..digits {
         rest /= 16;
-        left -= 1;
     }
     rest
 }
@@ -60,9 +56,7 @@ pub fn number(out: &mut [u8], at: usize, n: u64, digits: usize) -> usize
     ensures { page out.new result ≡ typed (page out.old at) (digits_of digits n) }
 {
     let mut place = at;
-    let mut left = digits;
-    while 0 < left {
-        left -= 1;
+    for left in (0..digits).rev() {
         place = put(out, place, digit(over(n, left)));
     }
     place
@@ -72,7 +66,7 @@ pub fn number(out: &mut [u8], at: usize, n: u64, digits: usize) -> usize
 pub fn field(out: &mut [u8], at: usize, n: u64, digits: usize) -> usize
     ensures { page out.new result ≡ typed (page out.old at) (32 ∷ digits_of digits n) }
 {
-    let place = put(out, at, 32);
+    let place = put(out, at, b' ');
     number(out, place, n, digits)
 }
 
@@ -80,14 +74,12 @@ pub fn field(out: &mut [u8], at: usize, n: u64, digits: usize) -> usize
 pub fn bytes(out: &mut [u8], at: usize, s: &[u8]) -> usize
     ensures { page out.new result ≡ typed (page out.old at) (hex_of s.now) }
 {
-    if s.len() == 0 {
+    if s.is_empty() {
         return put(out, at, b'-');
     }
     let mut place = at;
-    let mut i = 0;
-    while i < s.len() {
-        place = number(out, place, s[i] as u64, 2);
-        i += 1;
+    for b in s {
+        place = number(out, place, *b as u64, 2);
     }
     place
 }
@@ -96,7 +88,7 @@ pub fn bytes(out: &mut [u8], at: usize, s: &[u8]) -> usize
 pub fn string(out: &mut [u8], at: usize, s: &[u8]) -> usize
     ensures { page out.new result ≡ typed (page out.old at) (32 ∷ hex_of s.now) }
 {
-    let place = put(out, at, 32);
+    let place = put(out, at, b' ');
     bytes(out, place, s)
 }
 
@@ -104,11 +96,9 @@ pub fn string(out: &mut [u8], at: usize, s: &[u8]) -> usize
 pub fn words(out: &mut [u8], at: usize, ws: &[u16]) -> usize
     ensures { page out.new result ≡ typed (page out.old at) (32 ∷ row 4 ws.now) }
 {
-    let mut place = put(out, at, 32);
-    let mut i = 0;
-    while i < ws.len() {
-        place = number(out, place, ws[i] as u64, 4);
-        i += 1;
+    let mut place = put(out, at, b' ');
+    for w in ws {
+        place = number(out, place, *w as u64, 4);
     }
     place
 }

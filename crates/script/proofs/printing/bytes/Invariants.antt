@@ -1,12 +1,7 @@
 -- The bytes that are left, put behind what stands on the page now. Assumes nothing.
-use Prim.Native.Nat.{◌≤◌, ◌-◌}
-use mathlib.Core.Path.{◌≡◌}
-use lib.ListN.{length, drop}
+use Rattle.std.proofs.Common.{◌≡◌, drop}
 use Rattle.script.specs.Printing.{page, typed, row}
 use Rattle.script.proofs.printing.bytes.Given as goal
 
-abbrev pub invariant-loop-i : goal.invariant-loop-i
-invariant-loop-i l = (l.i ≤ length l.s) × (length l.out ≡ length l.initial.out) × (typed (page l.out l.place) (row 2 (drop l.i l.s)) ≡ typed (page l.initial.out l.at) (row 2 l.s))
-
-abbrev pub decreases-loop-i : goal.decreases-loop-i
-decreases-loop-i l = length l.s - l.i
+abbrev pub invariant-loop-b : goal.invariant-loop-b
+invariant-loop-b l = typed (page l.out l.place) (row 2 (drop l.b-index l.s)) ≡ typed (page l.initial.out l.at) (row 2 l.s)

@@ -1,28 +1,18 @@
 -- The words that are left, put behind what stands on the page now. Assumes nothing.
-use borrow.Author.Rules.{rules}
-use native.Mathlib.Omega.{arith}
-use Prim.Native.Nat.{◌+◌}
-use mathlib.Core.Path.{refl, ap, sym, ◌∙◌}
-use lib.ListN.{drop, get_or}
+use Rattle.std.proofs.Common.{◌+◌, get_or, drop, sym, ap, ◌∙◌, arith}
 use Rattle.script.specs.Printing.{Page, page, typed, digits_of, row}
 use Rattle.script.proofs.Turns.{turn, row_turn, row_end}
 use Rattle.script.proofs.printing.words.Goals as goal
 
-pub loop-i-init : goal.loop-i-init
-loop-i-init c = (search rules, refl, refl)
-
-pub overflow_cast-ws : goal.overflow_cast-ws
-overflow_cast-ws c = omega (arith, c.type_inv.ws c.loop-i.i)
-
-pub loop-i-preserved : goal.loop-i-preserved
-loop-i-preserved c =
-    let l = c.loop-i in
+pub loop-w-preserved : goal.loop-w-preserved
+loop-w-preserved c =
+    let l = c.loop-w in
     let s = c.args.ws.now in
-    (omega arith, omega arith, turn (page l.out l.place) _ (digits_of 4 (get_or s l.i 0)) (row 4 (drop (l.i + 1) s)) (row 4 (drop l.i s)) c.number-place.ensures (row_turn 4 s l.i (omega arith)) ∙ l.invariant.2)
+    turn (page l.out l.place) _ (digits_of 4 (get_or s l.w-index 0)) (row 4 (drop (l.w-index + 1) s)) (row 4 (drop l.w-index s)) c.number-place.ensures (row_turn 4 s l.w-index (omega arith)) ∙ l.invariant
 
 pub returns : goal.returns
 unfolding typed
 returns c =
-    let l = c.loop-i in
+    let l = c.loop-w in
     let s = c.args.ws.now in
-    sym (ap (typed (page l.out l.place)) (row_end 4 s l.i (omega arith))) ∙ l.invariant.2 ∙ ap (λ (p : Page). typed p (row 4 s)) c.put-place.ensures
+    sym (ap (typed (page l.out l.place)) (row_end 4 s l.w-index (omega arith))) ∙ l.invariant ∙ ap (λ (p : Page). typed p (row 4 s)) c.put-place.ensures
