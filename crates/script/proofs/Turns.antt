@@ -10,14 +10,13 @@ use lib.Dec.{ltb}
 use borrow.Author.Tests.{lt-ltb, le-ltb}
 use mathlib.Core.Bool.{cond}
 use mathlib.Core.Logic.{⊎_elim}
+use Rattle.std.specs.Prelude.{Some, None}
 use Rattle.laws.proofs.Lists.{lt_or_le, drop_step, drop_two, drop_end}
 use Rattle.hexadecimal.specs.Hex.{capital_of, digit_of, pair_of}
 use Rattle.hexadecimal.specs.Passes.{worth}
-use Rattle.std.specs.Prelude.{Some, None}
+use Rattle.hexadecimal.specs.declared.Hex.{Hex}
 use Rattle.script.specs.Printing.{Page, and, typed, over, digits_of, row, hex_of}
 use Rattle.script.specs.Reading.{where_one, field_of, count_of, sound, words_of}
-use Rattle.script.specs.declared.reading.Field.{Field}
-use Rattle.script.specs.declared.reading.Count.{Count}
 
 -- ---- printing
 
@@ -61,7 +60,7 @@ hex_some (x ∷ s) h = refl
 -- ---- reading
 
 number_turn : (n k : ℕ) (text : List ℕ) (i : ℕ) → 0 < k
-    → field_of n k (drop i text) ≡ where_one (digit_of (get_or text i 0)) (field_of (n % 268435456 * 16 + worth (digit_of (get_or text i 0))) (k - 1) (drop (i + 1) text)) Field.Bad
+    → field_of n k (drop i text) ≡ where_one (digit_of (get_or text i 0)) (field_of (n % 268435456 * 16 + worth (digit_of (get_or text i 0))) (k - 1) (drop (i + 1) text)) None
 unfolding field_of
 number_turn n zero text i h = absurd (omega arith)
 number_turn n (suc k) text i h =
@@ -70,19 +69,19 @@ number_turn n (suc k) text i h =
     rw (e, get_or-drop i text 0 0, z, drop-drop 1 i text)
 
 module _ (n k : ℕ) (text : List ℕ) (i : ℕ) (left : 0 < k) where
-  pub number_bad : digit_of (get_or text i 0) ≡ None → field_of n k (drop i text) ≡ Field.Bad
+  pub number_bad : digit_of (get_or text i 0) ≡ Hex.Bad → field_of n k (drop i text) ≡ None
   number_bad w = number_turn n k text i left ∙ rw w
 
-  pub number_good : (d : ℕ) → digit_of (get_or text i 0) ≡ Some d → field_of n k (drop i text) ≡ field_of (n % 268435456 * 16 + d) (k - 1) (drop (i + 1) text)
+  pub number_good : (d : ℕ) → digit_of (get_or text i 0) ≡ Hex.Value d → field_of n k (drop i text) ≡ field_of (n % 268435456 * 16 + d) (k - 1) (drop (i + 1) text)
   number_good d w = number_turn n k text i left ∙ rw w
 
-pub number_end : (n k : ℕ) (text : List ℕ) → k ≡ 0 → field_of n k text ≡ Field.Number n
+pub number_end : (n k : ℕ) (text : List ℕ) → k ≡ 0 → field_of n k text ≡ Some n
 unfolding field_of
 number_end n k text e = rw e
 
 count_turn : (k room : ℕ) (text : List ℕ) (i : ℕ) → i + 1 < length text
     → count_of k room (drop i text)
-    ≡ where_one (pair_of (get_or text i 0) (get_or text (i + 1) 0)) (cond (ltb k room) (count_of (k + 1) room (drop (i + 2) text)) Count.Bad) Count.Bad
+    ≡ where_one (pair_of (get_or text i 0) (get_or text (i + 1) 0)) (cond (ltb k room) (count_of (k + 1) room (drop (i + 2) text)) None) None
 unfolding count_of
 count_turn k room text i h = rw (drop_two text i h)
 
@@ -93,28 +92,28 @@ unfolding sound
 sound_turn text i h = rw (drop_two text i h)
 
 module _ (text : List ℕ) (i : ℕ) (two : i + 1 < length text) where
-  pub sound_bad : pair_of (get_or text i 0) (get_or text (i + 1) 0) ≡ None → sound (drop i text) ≡ []
+  pub sound_bad : pair_of (get_or text i 0) (get_or text (i + 1) 0) ≡ Hex.Bad → sound (drop i text) ≡ []
   sound_bad w = sound_turn text i two ∙ rw w
 
-  pub sound_good : (b : ℕ) → pair_of (get_or text i 0) (get_or text (i + 1) 0) ≡ Some b → sound (drop i text) ≡ b ∷ sound (drop (i + 2) text)
+  pub sound_good : (b : ℕ) → pair_of (get_or text i 0) (get_or text (i + 1) 0) ≡ Hex.Value b → sound (drop i text) ≡ b ∷ sound (drop (i + 2) text)
   sound_good b w = sound_turn text i two ∙ rw w
 
-  pub count_bad : (k room : ℕ) → pair_of (get_or text i 0) (get_or text (i + 1) 0) ≡ None → count_of k room (drop i text) ≡ Count.Bad
+  pub count_bad : (k room : ℕ) → pair_of (get_or text i 0) (get_or text (i + 1) 0) ≡ Hex.Bad → count_of k room (drop i text) ≡ None
   count_bad k room w = count_turn k room text i two ∙ rw w
 
-  pub count_full : (k room b : ℕ) → pair_of (get_or text i 0) (get_or text (i + 1) 0) ≡ Some b → room ≤ k → count_of k room (drop i text) ≡ Count.Bad
+  pub count_full : (k room b : ℕ) → pair_of (get_or text i 0) (get_or text (i + 1) 0) ≡ Hex.Value b → room ≤ k → count_of k room (drop i text) ≡ None
   count_full k room b w h = count_turn k room text i two ∙ rw (w, le-ltb _ _ h)
 
-  pub count_good : (k room b : ℕ) → pair_of (get_or text i 0) (get_or text (i + 1) 0) ≡ Some b → k < room
+  pub count_good : (k room b : ℕ) → pair_of (get_or text i 0) (get_or text (i + 1) 0) ≡ Hex.Value b → k < room
       → count_of k room (drop i text) ≡ count_of (k + 1) room (drop (i + 2) text)
   count_good k room b w h = count_turn k room text i two ∙ rw (w, lt-ltb _ _ h)
 
 -- nothing is left, or half a pair
-pub count_end : (k room : ℕ) (text : List ℕ) (i : ℕ) → length text ≤ i → count_of k room (drop i text) ≡ Count.Bytes k
+pub count_end : (k room : ℕ) (text : List ℕ) (i : ℕ) → length text ≤ i → count_of k room (drop i text) ≡ Some k
 unfolding count_of
 count_end k room text i h = rw (drop_end text i h)
 
-pub count_half : (k room : ℕ) (text : List ℕ) (i : ℕ) → i + 1 ≡ length text → count_of k room (drop i text) ≡ Count.Bad
+pub count_half : (k room : ℕ) (text : List ℕ) (i : ℕ) → i + 1 ≡ length text → count_of k room (drop i text) ≡ None
 unfolding count_of
 count_half k room text i h = rw (drop_step text i (omega arith), drop_end text (i + 1) (omega arith))
 

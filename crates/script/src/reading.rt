@@ -1,30 +1,15 @@
 // The fields of a script line: hexadecimal numbers of a given width, and byte strings.
-ghost use Rattle.std.specs.Prelude.{◌≡◌, [], cond, eqb, length, get_or, take, drop};
+ghost use Rattle.std.specs.Prelude.{◌≡◌, eqb, length, get_or, take, drop};
 ghost use Rattle.std.proofs.lemmas.List.Edits.{sets};
-ghost use Rattle.script.specs.Reading.{field_of, count_of, sound, words_of};
+ghost use Rattle.script.specs.Reading.{line_of, field_of, count_of, sound, words_of};
 
-// What a field is.
-#[derive(Clone, Copy)]
-pub enum Field {
-    Number(u32),
-    Bad,
-}
+use hexadecimal::Hex;
 
-// How many bytes a byte string is.
-#[derive(Clone, Copy)]
-pub enum Count {
-    Bytes(usize),
-    Bad,
-}
-
-// The line that was collected; one that was too long counts as empty, which is bad too.
-pub fn line_of(line: &[u8], filled: usize, over: bool) -> &[u8]
-    ensures { result.now ≡ cond over [] (take filled line.now) }
+// The line that was collected, as far as the buffer was filled; one that was too long counts as empty, which is bad too.
+pub fn line_of(line: &[u8], filled: Option<usize>) -> &[u8]
+    ensures { result.now ≡ line_of line.now filled }
 {
-    if over {
-        return wire::first(line, 0);
-    }
-    wire::first(line, filled)
+    wire::first(line, filled.unwrap_or(0))
 }
 
 // Whether a character stands at a place.
@@ -35,45 +20,39 @@ pub fn is_at(line: &[u8], at: usize, c: u8) -> bool
 }
 
 // The number of some digits that stands at a place; of more than eight digits the lowest eight count.
-pub fn number(line: &[u8], at: usize, digits: usize) -> Field
+pub fn number(line: &[u8], at: usize, digits: usize) -> Option<u32>
     ensures { result ≡ field_of 0 digits (drop at line.now) }
 {
     let text = wire::rest(line, at);
     let mut n: u32 = 0;
-    let mut left = digits;
-    let mut i = 0;
-    while 0 < left {
-        let Some(d) = hexadecimal::digit(wire::byte(text, i)) else {
-            return Field::Bad;
+    for i in 0..digits {
+        let Hex::Value(d) = hexadecimal::digit(wire::byte(text, i)) else {
+            return None;
         };
         n = n % 268435456 * 16 + d as u32;
-        i += 1;
-        left -= 1;
     }
-    Field::Number(n)
+    Some(n)
 }
 
 // The bytes of a text, pairs of digits with nothing between, into the front of a buffer.
-pub fn pairs(text: &[u8], out: &mut [u8]) -> Count
+pub fn pairs(text: &[u8], out: &mut [u8]) -> Option<usize>
     ensures answer { result ≡ count_of 0 (length out.old) text.now }
     ensures held { out.new ≡ sets out.old 0 (sound text.now) }
 {
     let n = text.len() / 2;
-    let mut k = 0;
-    while k < n {
-        let Some(b) = hexadecimal::pair(text[2 * k], text[2 * k + 1]) else {
-            return Count::Bad;
+    for k in 0..n {
+        let Hex::Value(b) = hexadecimal::pair(text[2 * k], text[2 * k + 1]) else {
+            return None;
         };
         if out.len() <= k {
-            return Count::Bad;
+            return None;
         }
         out[k] = b;
-        k += 1;
     }
     if 2 * n < text.len() {
-        return Count::Bad;
+        return None;
     }
-    Count::Bytes(n)
+    Some(n)
 }
 
 // Words from pairs of bytes, the upper first.
@@ -81,11 +60,8 @@ pub fn lent_words(bytes: &[u8]) -> [u16; 512]
     ensures { result ≡ words_of 512 bytes.now }
 {
     let mut ws = [0u16; 512];
-    let mut left = 512;
-    while 0 < left {
-        let i = 512 - left;
+    for i in 0..512 {
         ws[i] = wire::byte(bytes, 2 * i) as u16 * 256 + wire::byte(bytes, 2 * i + 1) as u16;
-        left -= 1;
     }
     ws
 }
