@@ -13,25 +13,28 @@ ghost use Rattle.lines.specs.Lines.{size_of, read_from, frame_from, bare, line_b
 use boards::board_in;
 use fields::{lend, profile_of, receive, size, start, stored_start, tick};
 use kinds::Kind;
-use script::reading::Field;
 use tails::{Tail, tail_of};
 use wire::Form;
 
-// What a start is given: BID, fitted set and forced set, whether settings are stored and under which save count, the
-// kind of board, and the form in which it starts.
+// The board that a line names: its BID, fitted set and forced set, its kind, and the form in which it starts.
 #[derive(Clone, Copy)]
-pub struct Start {
+pub struct Named {
     pub bid: u8,
     pub fitted: u32,
     pub forced: u32,
-    pub stored: bool,
-    pub save_count: u16,
     pub kind: Kind,
     pub form: Form,
 }
 
+// What a start is given: the board, and the save count of the stored settings, where settings are stored.
+#[derive(Clone, Copy)]
+pub struct Start {
+    pub board: Named,
+    pub stored: Option<u16>,
+}
+
 // What a line asks for. The bytes of its byte string are at the front of the buffer that it was read into, `count` of
-// them; those of a start are the stored settings.
+// them, or as many as a tick's transfer has; those of a start are the stored settings.
 #[derive(Clone, Copy)]
 pub enum Asked {
     Start(Start),
@@ -41,15 +44,13 @@ pub enum Asked {
     Tick {
         rail: u16,
         overcurrent: u32,
-        sent: bool,
-        count: usize,
+        transfer: Option<usize>,
     },
     Receive {
         room: usize,
         count: usize,
     },
     Look(Look),
-    Bad,
 }
 
 // What a line asks for that changes nothing: a bus read, a framing, or the state.
@@ -61,6 +62,7 @@ pub enum Look {
 }
 
 // Where a line's tail begins: the fields before it are as wide as its letter says.
+#[tactic(auto, unfolding(crate::specs::Lines::width_of))]
 fn head(letter: u8) -> usize
     ensures { result ≡ width_of letter }
 {
@@ -80,40 +82,34 @@ fn head(letter: u8) -> usize
 }
 
 // A bus read of at most 512 bytes.
-fn read(line: &[u8]) -> Asked
+fn read(line: &[u8]) -> Option<Asked>
     ensures { result ≡ read_from (size_of 512 line.now) }
 {
-    match size(line, 512) {
-        Field::Number(n) => Asked::Look(Look::Read { count: n as usize }),
-        Field::Bad => Asked::Bad,
-    }
+    let count = size(line, 512)? as usize;
+    Some(Asked::Look(Look::Read { count }))
 }
 
 // A framing into a buffer of at most 1,024 bytes.
-fn frame(line: &[u8]) -> Asked
+fn frame(line: &[u8]) -> Option<Asked>
     ensures { result ≡ frame_from (size_of 1024 line.now) }
 {
-    match size(line, 1024) {
-        Field::Number(n) => Asked::Look(Look::Frame { room: n as usize }),
-        Field::Bad => Asked::Bad,
-    }
+    let room = size(line, 1024)? as usize;
+    Some(Asked::Look(Look::Frame { room }))
 }
 
 // A line that has no tail.
-fn bare(asked: Asked, end: Tail) -> Asked
+fn bare(asked: Option<Asked>, end: Tail) -> Option<Asked>
     ensures { result ≡ bare asked end }
 {
     match end {
         Tail::Absent => asked,
-        Tail::Dash => Asked::Bad,
-        Tail::Dot => Asked::Bad,
-        Tail::Bytes(_) => Asked::Bad,
-        Tail::Bad => Asked::Bad,
+        Tail::Dash | Tail::Dot | Tail::Bytes(_) => None,
     }
 }
 
 // A line of a letter with its tail.
-fn by_letter(letter: u8, line: &[u8], end: Tail) -> Asked
+#[tactic(auto, unfolding(crate::specs::Lines::line_by))]
+fn by_letter(letter: u8, line: &[u8], end: Tail) -> Option<Asked>
     ensures { result ≡ line_by letter line.now end }
 {
     match letter {
@@ -128,19 +124,20 @@ fn by_letter(letter: u8, line: &[u8], end: Tail) -> Asked
         b'R' => bare(read(line), end),
         b'L' => receive(line, end),
         b'F' => bare(frame(line), end),
-        b'S' => bare(Asked::Look(Look::Show), end),
+        b'S' => bare(Some(Asked::Look(Look::Show)), end),
         b'Q' => bare(start(board_in(line)), end),
         b'V' => stored_start(board_in(line), wire::rest(line, 29), end),
-        _ => Asked::Bad,
+        _ => None,
     }
 }
 
-// What a line asks for; its byte string goes into the front of a lent buffer.
-pub fn asks(line: &[u8], held: &mut [u8]) -> Asked
+// What a line asks for, where it is of a form; its byte string goes into the front of a lent buffer.
+#[tactic(auto, unfolding(crate::specs::Lines::behind_fields, crate::specs::Lines::asked_of, crate::specs::Lines::spelt_by))]
+pub fn asks(line: &[u8], held: &mut [u8]) -> Option<Asked>
     ensures answer { result ≡ asked_of (length held.old) line.now }
     ensures held { held.new ≡ sets held.old 0 (spelt_by line.now) }
 {
     let letter = wire::byte(line, 0);
-    let end = tail_of(wire::rest(line, head(letter)), held);
+    let end = tail_of(wire::rest(line, head(letter)), held)?;
     by_letter(letter, line, end)
 }
