@@ -8,21 +8,21 @@ ghost use Rattle.unit.specs.Machine.{begun_of, told_of};
 ghost use Rattle.script.specs.Reading.{words_of};
 ghost use Rattle.speaking.specs.Speaking.{blank};
 ghost use Rattle.starting.specs.Starts.{ok_text, store_of};
-ghost use Rattle.handling.specs.Benches.{empty_bench, left, printed, started_of, with_lent, ticked_of, received_of, profile_of};
+ghost use Rattle.handling.specs.Benches.{empty_bench, there, left, printed, started_of, with_lent, ticked_of, received_of, profile_of};
 
-use lines::Start;
+use lines::{Named, Start};
 use script::printing::text;
 use script::reading::lent_words;
 use state::Profile;
 use unit::Machine;
 
-// A machine on the bench, once one was started, and the words for its next tick.
+// The bench: the machine on it, once one was started, and the words for its next tick, the first `lent_count` of `lent`.
+// Kept: the words lie in an array with a count beside it, since the memory of a bench is fixed (no heap).
 #[derive(Clone, Copy)]
 pub struct Bench {
-    pub machine: Machine,
+    pub machine: Option<Machine>,
     pub lent: [u16; 512],
     pub lent_count: usize,
-    pub started: bool,
 }
 
 // A bench after a line, and how many characters the line printed.
@@ -37,94 +37,86 @@ pub fn none() -> Bench
     ensures { result ≡ empty_bench }
 {
     Bench {
-        machine: unit::unstarted(),
+        machine: None,
         lent: [0u16; 512],
         lent_count: 0,
-        started: false,
     }
 }
 
-// Starts a machine, if its profile and its stored settings keep the rules.
-pub fn started(mut bench: Bench, start: Start, image: &[u8], out: &mut [u8]) -> Ran
-    ensures { left result out.new ≡ started_of out.old bench (begun_of bench.machine (profile_of start) (store_of start.stored image.now start.save_count)) }
+// Starts a machine, if its profile and its stored settings keep the rules; else what was on the bench stays there.
+pub fn started(bench: Bench, start: Start, image: &[u8], out: &mut [u8]) -> Ran
+    ensures { left result out.new ≡ started_of out.old bench (begun_of (there bench.machine) (profile_of start.board) (store_of start.stored image.now)) }
 {
-    let kind = start.kind;
-    let form = start.form;
-    let profile = Profile {
-        fitted: start.fitted,
-        forced: start.forced,
-        bid: start.bid,
-        kind,
-        form,
+    let Named { bid, fitted, forced, kind, form } = start.board;
+    let profile = Profile { fitted, forced, bid, kind, form };
+    let store = starting::store_of(start.stored, image);
+    let there = bench.machine.unwrap_or(unit::unstarted());
+    let begun = unit::start(there, profile, store);
+    let machine = match begun.answer {
+        Ok(()) => Some(begun.machine),
+        Err(_) => bench.machine,
     };
-    let store = starting::store_of(start.stored, image, start.save_count);
-    let s = unit::start(bench.machine, profile, store);
-    let next = s.machine;
-    let answer = s.answer;
-    let there = starting::is_there(answer, bench.started);
-    bench.machine = next;
-    bench.started = there;
     Ran {
-        bench,
-        printed: starting::start_line(answer, out),
+        bench: Bench { machine, ..bench },
+        printed: starting::start_line(begun.answer, out),
     }
 }
 
 // The bench with words for its next tick.
-pub fn lent(mut bench: Bench, bytes: &[u8], count: usize, out: &mut [u8]) -> Ran
+pub fn lent(bench: Bench, bytes: &[u8], count: usize, out: &mut [u8]) -> Ran
     ensures { left result out.new ≡ printed out.old (with_lent (words_of 512 bytes.now) count bench) ok_text }
 {
-    let ws = lent_words(bytes);
-    bench.lent = ws;
-    bench.lent_count = count;
     Ran {
-        bench,
+        bench: Bench {
+            lent: lent_words(bytes),
+            lent_count: count,
+            ..bench
+        },
         printed: text(out, 0, b"ok\n"),
     }
 }
 
-// One tick, which uses up the words that were lent.
+// One tick of the machine on the bench, which uses up the words that were lent.
 pub fn ticked(
-    mut bench: Bench,
+    bench: Bench,
+    machine: Machine,
     rail: u16,
     overcurrent: u32,
     transfer: Option<&[u8]>,
     out: &mut [u8],
 ) -> Ran
-    ensures { left result out.new ≡ ticked_of out.old bench (told_of (signed 2 rail) overcurrent (take bench.lent_count bench.lent) (is_sent transfer.entry) (bytes_sent transfer.entry) bench.machine) }
+    ensures { left result out.new ≡ ticked_of out.old bench (told_of (signed 2 rail) overcurrent (take bench.lent_count bench.lent) (is_sent transfer.entry) (bytes_sent transfer.entry) machine) }
 {
-    let ws = bench.lent;
-    let n = bench.lent_count;
-    let t = unit::tick(
-        bench.machine,
+    let told = unit::tick(
+        machine,
         rail.cast_signed(),
         overcurrent,
-        wire::first(&ws, n),
+        wire::first(&bench.lent, bench.lent_count),
         transfer,
     );
-    let next = t.machine;
-    let outcome = t.outcome;
-    let event = t.event;
-    bench.machine = next;
-    bench.lent_count = 0;
     Ran {
-        bench,
-        printed: showing::ticked(next.board, outcome, event, t.replied, out),
+        bench: Bench {
+            machine: Some(told.machine),
+            lent_count: 0,
+            ..bench
+        },
+        printed: showing::ticked(told.machine.board, told.outcome, told.event, told.replied, out),
     }
 }
 
-// A read of the text line, which may switch its form.
-pub fn received(mut bench: Bench, bytes: &[u8], room: usize, out: &mut [u8]) -> Ran
-    ensures { left result out.new ≡ received_of out.old bench bytes.now (take room blank) }
+// A read of the text line of the machine on the bench, which may switch its form.
+pub fn received(bench: Bench, machine: Machine, bytes: &[u8], room: usize, out: &mut [u8]) -> Ran
+    ensures { left result out.new ≡ received_of out.old bench machine bytes.now (take room blank) }
 {
     let mut buffer = speaking::untouched();
     let n = speaking::within(room);
-    let heard = unit::read_line(bench.machine, bytes, &mut buffer[..n]);
-    let next = heard.machine;
-    let line = heard.line;
-    bench.machine = next;
+    let heard = unit::read_line(machine, bytes, &mut buffer[..n]);
+    let scratch = wire::first(&buffer, n);
     Ran {
-        bench,
-        printed: looking::answer(next, line, bytes, wire::first(&buffer, n), out),
+        bench: Bench {
+            machine: Some(heard.machine),
+            ..bench
+        },
+        printed: looking::answer(heard.machine, heard.line, bytes, scratch, out),
     }
 }

@@ -2,7 +2,7 @@
 -- between them, and its tail. A place past the end of a line holds no digit and no space, so that a line whose fields
 -- are there is as long as they are. Assumes nothing: these are definitions.
 use Rattle.std.specs.Prelude.{ℕ, ◌*◌, ◌%◌, Option, Some, None, option_and_then}
-use mathlib.Core.{Bool.Bool, Bool.true, Bool.false, Bool.cond, Bool.◌&&◌, List.List}
+use mathlib.Core.{Bool.Bool, Bool.cond, Bool.◌&&◌, List.List}
 use lib.{Dec.eqb, Dec.leb, ListN.get_or, ListN.drop}
 use Rattle.wire.specs.declared.forms.Form.{Form}
 use Rattle.wire.specs.declared.forms.Form.TheVariants.{Raw, Ascii}

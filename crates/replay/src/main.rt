@@ -4,13 +4,11 @@
 use handling::Bench;
 use std::io::Read;
 
-// The bench, how much of a line was taken from the input, and whether the line is too long and more input is to come.
+// The bench, and how much of a line was taken from the input, unless the line is too long.
 #[derive(Clone, Copy)]
 struct Turn {
     bench: Bench,
-    filled: usize,
-    over: bool,
-    more: bool,
+    filled: Option<usize>,
 }
 
 // Writes a text; what cannot be written is let go.
@@ -34,51 +32,41 @@ fn run_one(rt: &impl Print, bench: Bench, line: &[u8]) -> Bench {
 
 // Runs the lines that a chunk of input ends, and keeps the piece behind the last of them.
 // argued: an instrument; what it prints is compared line by line with the second program
-fn run_chunk(rt: &impl Print, chunk: &[u8], line: &mut [u8; 4096], turn: Turn) -> Turn {
-    let mut bench = turn.bench;
-    let mut filled = turn.filled;
-    let mut over = turn.over;
-    let mut i = 0;
-    while i < chunk.len() {
-        let b = chunk[i];
-        if b == 10 {
-            bench = run_one(rt, bench, script::reading::line_of(line, filled, over));
-            filled = 0;
-            over = false;
-        } else if filled < 4096 {
-            line[filled] = b;
-            filled += 1;
+fn run_chunk(rt: &impl Print, chunk: &[u8], line: &mut [u8; 4096], turn: &mut Turn) {
+    for b in chunk {
+        if *b == b'\n' {
+            turn.bench = run_one(rt, turn.bench, script::reading::line_of(line, turn.filled));
+            turn.filled = Some(0);
         } else {
-            over = true;
+            turn.filled = kept(line, turn.filled, *b);
         }
-        i += 1;
-    }
-    Turn {
-        bench,
-        filled,
-        over,
-        more: true,
     }
 }
 
-// Reads once, and runs the lines that came; with nothing more to read, or what cannot be read, there is no more to run.
+// Puts one more byte of a line behind what was filled; a line that the buffer cannot hold is too long.
 // argued: an instrument; what it prints is compared line by line with the second program
-fn run_some(rt: &impl Print, input: &mut impl Read, line: &mut [u8; 4096], mut turn: Turn) -> Turn {
-    let mut chunk = [0u8; 65536];
-    let n = match input.read(&mut chunk) {
-        Ok(n) => n,
-        Err(_) => 0,
-    };
-    if n == 0 {
-        turn.more = false;
-        return turn;
+fn kept(line: &mut [u8; 4096], filled: Option<usize>, b: u8) -> Option<usize> {
+    let at = filled?;
+    if at >= line.len() {
+        return None;
     }
-    run_chunk(rt, &chunk[..n], line, turn)
+    line[at] = b;
+    Some(at + 1)
+}
+
+// Reads once, runs the lines that came, and says whether there may be more; with nothing more to read, or what cannot be
+// read, there is not.
+// argued: an instrument; what it prints is compared line by line with the second program
+fn run_some(rt: &impl Print, input: &mut impl Read, line: &mut [u8; 4096], turn: &mut Turn) -> bool {
+    let mut chunk = [0u8; 65536];
+    let n = input.read(&mut chunk).unwrap_or(0);
+    run_chunk(rt, &chunk[..n], line, turn);
+    n > 0
 }
 
 // A last piece without a line end is bad.
-fn finish(rt: &impl Print, filled: usize) {
-    if filled > 0 {
+fn finish(rt: &impl Print, filled: Option<usize>) {
+    if filled != Some(0) {
         put(rt, b"bad\n");
     }
 }
@@ -90,14 +78,12 @@ fn main(rt: HostRuntime) {
     let mut line = [0u8; 4096];
     let mut turn = Turn {
         bench: handling::none(),
-        filled: 0,
-        over: false,
-        more: true,
+        filled: Some(0),
     };
-    let mut turns = u64::MAX;
-    while turns > 0 && turn.more {
-        turn = run_some(&rt, &mut input, &mut line, turn);
-        turns -= 1;
+    for _ in 0..u64::MAX {
+        if !run_some(&rt, &mut input, &mut line, &mut turn) {
+            break;
+        }
     }
     finish(&rt, turn.filled);
 }

@@ -14,7 +14,6 @@ use Rattle.std.specs.Prelude.{Some, None}
 use Rattle.laws.proofs.Lists.{lt_or_le, drop_step, drop_two, drop_end}
 use Rattle.hexadecimal.specs.Hex.{capital_of, digit_of, pair_of}
 use Rattle.hexadecimal.specs.Passes.{worth}
-use Rattle.hexadecimal.specs.declared.Hex.{Hex}
 use Rattle.script.specs.Printing.{Page, and, typed, over, digits_of, row, hex_of}
 use Rattle.script.specs.Reading.{where_one, field_of, count_of, sound, words_of}
 
@@ -69,10 +68,10 @@ number_turn n (suc k) text i h =
     rw (e, get_or-drop i text 0 0, z, drop-drop 1 i text)
 
 module _ (n k : ℕ) (text : List ℕ) (i : ℕ) (left : 0 < k) where
-  pub number_bad : digit_of (get_or text i 0) ≡ Hex.Bad → field_of n k (drop i text) ≡ None
+  pub number_bad : digit_of (get_or text i 0) ≡ None → field_of n k (drop i text) ≡ None
   number_bad w = number_turn n k text i left ∙ rw w
 
-  pub number_good : (d : ℕ) → digit_of (get_or text i 0) ≡ Hex.Value d → field_of n k (drop i text) ≡ field_of (n % 268435456 * 16 + d) (k - 1) (drop (i + 1) text)
+  pub number_good : (d : ℕ) → digit_of (get_or text i 0) ≡ Some d → field_of n k (drop i text) ≡ field_of (n % 268435456 * 16 + d) (k - 1) (drop (i + 1) text)
   number_good d w = number_turn n k text i left ∙ rw w
 
 pub number_end : (n k : ℕ) (text : List ℕ) → k ≡ 0 → field_of n k text ≡ Some n
@@ -92,19 +91,19 @@ unfolding sound
 sound_turn text i h = rw (drop_two text i h)
 
 module _ (text : List ℕ) (i : ℕ) (two : i + 1 < length text) where
-  pub sound_bad : pair_of (get_or text i 0) (get_or text (i + 1) 0) ≡ Hex.Bad → sound (drop i text) ≡ []
+  pub sound_bad : pair_of (get_or text i 0) (get_or text (i + 1) 0) ≡ None → sound (drop i text) ≡ []
   sound_bad w = sound_turn text i two ∙ rw w
 
-  pub sound_good : (b : ℕ) → pair_of (get_or text i 0) (get_or text (i + 1) 0) ≡ Hex.Value b → sound (drop i text) ≡ b ∷ sound (drop (i + 2) text)
+  pub sound_good : (b : ℕ) → pair_of (get_or text i 0) (get_or text (i + 1) 0) ≡ Some b → sound (drop i text) ≡ b ∷ sound (drop (i + 2) text)
   sound_good b w = sound_turn text i two ∙ rw w
 
-  pub count_bad : (k room : ℕ) → pair_of (get_or text i 0) (get_or text (i + 1) 0) ≡ Hex.Bad → count_of k room (drop i text) ≡ None
+  pub count_bad : (k room : ℕ) → pair_of (get_or text i 0) (get_or text (i + 1) 0) ≡ None → count_of k room (drop i text) ≡ None
   count_bad k room w = count_turn k room text i two ∙ rw w
 
-  pub count_full : (k room b : ℕ) → pair_of (get_or text i 0) (get_or text (i + 1) 0) ≡ Hex.Value b → room ≤ k → count_of k room (drop i text) ≡ None
+  pub count_full : (k room b : ℕ) → pair_of (get_or text i 0) (get_or text (i + 1) 0) ≡ Some b → room ≤ k → count_of k room (drop i text) ≡ None
   count_full k room b w h = count_turn k room text i two ∙ rw (w, le-ltb _ _ h)
 
-  pub count_good : (k room b : ℕ) → pair_of (get_or text i 0) (get_or text (i + 1) 0) ≡ Hex.Value b → k < room
+  pub count_good : (k room b : ℕ) → pair_of (get_or text i 0) (get_or text (i + 1) 0) ≡ Some b → k < room
       → count_of k room (drop i text) ≡ count_of (k + 1) room (drop (i + 2) text)
   count_good k room b w h = count_turn k room text i two ∙ rw (w, lt-ltb _ _ h)
 

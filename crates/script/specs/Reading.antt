@@ -3,17 +3,16 @@
 use Rattle.std.specs.Prelude.{ℕ, zero, suc, ◌+◌, ◌*◌, ◌%◌, Option, Some, None, unwrap_or}
 use mathlib.Core.{Bool.cond, List.List, List.[], List.◌∷◌}
 use lib.{Dec.ltb, ListN.get_or, ListN.take, ListN.drop}
-use Rattle.hexadecimal.specs.{Hex.digit_of, Hex.pair_of, Passes.worth, declared.Hex.Hex}
-use Rattle.hexadecimal.specs.declared.Hex.TheVariants.{Value, Bad}
+use Rattle.hexadecimal.specs.{Hex.digit_of, Hex.pair_of, Passes.worth}
 
 -- the line in a buffer that was filled so far; one that was too long counts as empty
 abbrev pub line_of : List ℕ → Option ℕ → List ℕ
 line_of line filled = take (unwrap_or filled 0) line
 
 -- what holds where a digit is one
-abbrev pub where_one : {A : Type 0} → Hex → A → A → A
-where_one (Value d) a bad = a
-where_one Bad a bad = bad
+abbrev pub where_one : {A : Type 0} → Option ℕ → A → A → A
+where_one (Some d) a bad = a
+where_one None a bad = bad
 
 -- the number of k digits in front of a text, behind the digits of n; of more than eight digits the lowest eight count
 unfoldable pub field_of : ℕ → ℕ → List ℕ → Option ℕ

@@ -3,8 +3,6 @@ ghost use Rattle.std.specs.Prelude.{◌≡◌, eqb, length, get_or, take, drop};
 ghost use Rattle.std.proofs.lemmas.List.Edits.{sets};
 ghost use Rattle.script.specs.Reading.{line_of, field_of, count_of, sound, words_of};
 
-use hexadecimal::Hex;
-
 // The line that was collected, as far as the buffer was filled; one that was too long counts as empty, which is bad too.
 pub fn line_of(line: &[u8], filled: Option<usize>) -> &[u8]
     ensures { result.now ≡ line_of line.now filled }
@@ -26,9 +24,7 @@ pub fn number(line: &[u8], at: usize, digits: usize) -> Option<u32>
     let text = wire::rest(line, at);
     let mut n: u32 = 0;
     for i in 0..digits {
-        let Hex::Value(d) = hexadecimal::digit(wire::byte(text, i)) else {
-            return None;
-        };
+        let d = hexadecimal::digit(wire::byte(text, i))?;
         n = n % 268435456 * 16 + d as u32;
     }
     Some(n)
@@ -41,9 +37,7 @@ pub fn pairs(text: &[u8], out: &mut [u8]) -> Option<usize>
 {
     let n = text.len() / 2;
     for k in 0..n {
-        let Hex::Value(b) = hexadecimal::pair(text[2 * k], text[2 * k + 1]) else {
-            return None;
-        };
+        let b = hexadecimal::pair(text[2 * k], text[2 * k + 1])?;
         if out.len() <= k {
             return None;
         }

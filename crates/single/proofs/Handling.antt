@@ -32,5 +32,5 @@ held_ticked κ a r r' s s' p q = left_held r r' (p ∙ sym q)
 pub single_received : Single received.Post (λ κ r s. r)
 single_received κ a r r' s s' p q = left_same r r' (p ∙ sym q)
 
-pub held_received : Single received.Post (λ κ r s. s.1.1.1.0.now)
+pub held_received : Single received.Post (λ κ r s. s.1.1.1.1.0.now)
 held_received κ a r r' s s' p q = left_held r r' (p ∙ sym q)

@@ -2,19 +2,11 @@
 use mathlib.Core.Path.{sym, ◌∙◌}
 use Rattle.single.specs.Single.{Single}
 use Rattle.single.proofs.Pages.{held_same, place_same}
-use Rattle.starting.proofs.allowed.Reads as allowed
 use Rattle.starting.proofs.store_of.Reads as store_of
-use Rattle.starting.proofs.is_there.Reads as is_there
 use Rattle.starting.proofs.start_line.Reads as start_line
-
-pub single_allowed : Single allowed.Post (λ κ r s. r)
-single_allowed κ a r r' s s' p q = p ∙ sym q
 
 pub single_store_of : Single store_of.Post (λ κ r s. r)
 single_store_of κ a r r' s s' p q = p ∙ sym q
-
-pub single_is_there : Single is_there.Post (λ κ r s. r)
-single_is_there κ a r r' s s' p q = p ∙ sym q
 
 pub single_start_line : Single start_line.Post (λ κ r s. r)
 single_start_line κ a r r' s s' p q = place_same (p ∙ sym q)

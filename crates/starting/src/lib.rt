@@ -1,58 +1,23 @@
-// What a line of a replay script may ask before a machine is there, what a start is given, and what comes of it.
+// What a start is given, and what comes of it.
 #![tactic(auto)]
 
 ghost use Rattle.std.specs.Prelude.{◌≡◌};
 ghost use Rattle.script.specs.Printing.{page, typed};
-ghost use Rattle.starting.specs.Starts.{is_there, start_text, store_of, allowed_of};
+ghost use Rattle.starting.specs.Starts.{start_text, store_of};
 
-use lines::Asked;
 use memory::Stored;
 use script::printing::text;
 use state::StartRefusal;
 
-// What is asked where no machine was started: only a start is.
-pub fn allowed(started: bool, asked: Asked) -> Asked
-    ensures { result ≡ allowed_of started asked }
-{
-    if started {
-        return asked;
-    }
-    match asked {
-        Asked::Start(_) => asked,
-        Asked::Lend { count: _ } => Asked::Bad,
-        Asked::Tick {
-            rail: _,
-            overcurrent: _,
-            sent: _,
-            count: _,
-        } => Asked::Bad,
-        Asked::Receive { room: _, count: _ } => Asked::Bad,
-        Asked::Look(_) => Asked::Bad,
-        Asked::Bad => Asked::Bad,
-    }
-}
-
 // What is stored: settings under a save count, or nothing.
-pub fn store_of(stored: bool, image: &[u8], save_count: u16) -> Option<Stored>
-    ensures { result ≡ store_of stored image.now save_count }
+pub fn store_of(stored: Option<u16>, image: &[u8]) -> Option<Stored>
+    ensures { result ≡ store_of stored image.now }
 {
-    if stored {
-        return Some(Stored {
-            settings: image::read(image),
-            save_count,
-        });
-    }
-    None
-}
-
-// Whether a machine is there after a start.
-pub fn is_there(answer: Result<(), StartRefusal>, before: bool) -> bool
-    ensures { result ≡ is_there answer before }
-{
-    match answer {
-        Ok(()) => true,
-        Err(StartRefusal::ProfileBreaksARule) => before,
-    }
+    let save_count = stored?;
+    Some(Stored {
+        settings: image::read(image),
+        save_count,
+    })
 }
 
 // What a start prints.

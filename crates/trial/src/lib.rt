@@ -2,7 +2,6 @@
 #![tactic(auto)]
 
 ghost use Rattle.std.specs.Prelude.{◌≡◌};
-ghost use Rattle.starting.specs.Starts.{allowed_of};
 ghost use Rattle.handling.specs.Benches.{left};
 ghost use Rattle.trial.specs.Lines.{ran_of};
 
@@ -10,33 +9,34 @@ use handling::{Bench, Ran};
 use lines::Asked;
 use script::printing::text;
 
-// Runs what a line asks for, with the bytes that it holds.
-pub fn run(bench: Bench, asked: Asked, held: &[u8], out: &mut [u8]) -> Ran
-    ensures { left result out.new ≡ ran_of out.old bench (allowed_of bench.started asked) held.now }
+// Runs what a line asks for, with the bytes that it holds. A line that asks for nothing is bad, and before a machine was
+// started so is one that asks for anything but a start.
+#[tactic(auto, unfolding(crate::specs::Lines::ran_of, crate::specs::Lines::ran_on, crate::specs::Lines::first_of))]
+pub fn run(bench: Bench, asked: Option<Asked>, held: &[u8], out: &mut [u8]) -> Ran
+    ensures { left result out.new ≡ ran_of out.old bench bench.machine asked held.now }
 {
-    match starting::allowed(bench.started, asked) {
-        Asked::Start(start) => handling::started(bench, start, held, out),
-        Asked::Lend { count } => handling::lent(bench, held, count, out),
-        Asked::Tick {
-            rail,
-            overcurrent,
-            sent,
-            count,
-        } => {
-            let transfer = if sent { Some(wire::first(held, count)) } else { None };
-            handling::ticked(bench, rail, overcurrent, transfer, out)
+    match (asked, bench.machine) {
+        (Some(Asked::Start(start)), _) => handling::started(bench, start, held, out),
+        (Some(Asked::Lend { count }), Some(_)) => handling::lent(bench, held, count, out),
+        (
+            Some(Asked::Tick {
+                rail,
+                overcurrent,
+                transfer,
+            }),
+            Some(machine),
+        ) => {
+            let bytes = transfer.map(|count| wire::first(held, count));
+            handling::ticked(bench, machine, rail, overcurrent, bytes, out)
         }
-        Asked::Receive { room, count } => handling::received(
+        (Some(Asked::Receive { room, count }), Some(machine)) => {
+            handling::received(bench, machine, wire::first(held, count), room, out)
+        }
+        (Some(Asked::Look(look)), Some(machine)) => Ran {
             bench,
-            wire::first(held, count),
-            room,
-            out,
-        ),
-        Asked::Look(look) => Ran {
-            bench,
-            printed: looking::looked(bench.machine, look, out),
+            printed: looking::looked(machine, look, out),
         },
-        Asked::Bad => Ran {
+        _ => Ran {
             bench,
             printed: text(out, 0, b"bad\n"),
         },
