@@ -21,6 +21,7 @@ use state::{Board, Fresh};
 use switching::{cancelled, channel_off, channel_on, group_off, group_on, group_state};
 
 // Accepted, with a mode and channels of its own; the timer is fed.
+#[tactic(auto, unfolding(answers::specs::Answers::accepted_of, answers::specs::Answers::accepted_with))]
 fn accepted(b: Board, phase: ModeAge, channels: Channels) -> Obeyed
     ensures { result ≡ obeyed_in (accepted_of any_code (with_phase phase (with_channels channels b))) }
 {
@@ -36,6 +37,7 @@ fn accepted(b: Board, phase: ModeAge, channels: Channels) -> Obeyed
 }
 
 // Answered with 0 or with 4 to 7, and nothing but the timer changes: it is fed, which 3 would not do.
+#[tactic(auto, unfolding(answers::specs::Answers::refused_of))]
 pub fn only_fed(b: Board, answer: Answer) -> Obeyed
     ensures { result ≡ obeyed_in (refused_of answer any_code b) }
 {
@@ -53,6 +55,7 @@ pub fn only_fed(b: Board, answer: Answer) -> Obeyed
 }
 
 // 0x30 and 0x32: the mode, and with it the channels, where the change is available.
+#[tactic(auto, unfolding(crate::specs::Effects::switched_mode_of))]
 fn switched_mode(b: Board, asked: Option<ModeAge>) -> Obeyed
     ensures { result ≡ obeyed_in (switched_mode_of any_code asked b) }
 {
@@ -66,6 +69,7 @@ fn switched_mode(b: Board, asked: Option<ModeAge>) -> Obeyed
 }
 
 // 0x50, and 0x60 on a battery board: the measured words are no longer new as raw readings.
+#[tactic(auto, unfolding(crate::specs::Effects::housekeeping_of, answers::specs::Answers::accepted_with, answers::specs::Answers::refused_of))]
 fn housekeeping(b: Board) -> Obeyed
     ensures { result ≡ obeyed_in (housekeeping_of any_code b) }
 {
@@ -75,6 +79,7 @@ fn housekeeping(b: Board) -> Obeyed
 }
 
 // 0x52, and 0x62 on a battery board: the measured words are no longer new as engineering readings.
+#[tactic(auto, unfolding(crate::specs::Effects::engineering_housekeeping_of, answers::specs::Answers::accepted_with, answers::specs::Answers::refused_of))]
 fn engineering_housekeeping(b: Board) -> Obeyed
     ensures { result ≡ obeyed_in (engineering_housekeeping_of any_code b) }
 {
@@ -94,6 +99,7 @@ fn saved(b: Board, checksum: u16) -> Obeyed
 }
 
 // 0xAA: as a board is that starts over, with no reply.
+#[tactic(auto, unfolding(crate::specs::Effects::restarted_of, state::specs::Start::command_reset_of, state::specs::Start::fresh_of))]
 fn restarted(b: Board) -> Obeyed
     ensures { result ≡ obeyed_in (restarted_of b) }
 {
@@ -114,22 +120,23 @@ fn restarted(b: Board) -> Obeyed
 
 // A command that changes neither mode, channels nor memory: of those parts the timer alone is another, and after 0x50,
 // 0x52, 0x60 and 0x62 what is new.
+#[tactic(auto, unfolding(crate::specs::Effects::reported_of, crate::specs::Effects::housekeeping_of, crate::specs::Effects::engineering_housekeeping_of, crate::specs::Effects::faults_of, crate::specs::Effects::parameter_answered, crate::specs::Effects::abf_of, crate::specs::Effects::battery_housekeeping_of, crate::specs::Effects::engineering_battery_housekeeping_of, answers::specs::Answers::accepted_of, answers::specs::Answers::accepted_with, answers::specs::Answers::refused_of))]
 fn reported(b: Board, layout: Layout) -> Obeyed
     ensures { result ≡ obeyed_in (reported_of any_code layout b) }
 {
     match layout {
-        Layout::Short => only_fed(b, Answer::Accepted),
-        Layout::Faults => only_fed(b, Answer::Accepted),
-        Layout::Housekeeping => housekeeping(b),
-        Layout::Parameter(_) => only_fed(b, Answer::Accepted),
-        Layout::EngineeringHousekeeping => engineering_housekeeping(b),
-        Layout::AbfPlacedState => only_fed(b, Answer::Accepted),
-        Layout::BatteryHousekeeping => housekeeping(b),
-        Layout::EngineeringBatteryHousekeeping => engineering_housekeeping(b),
+        Layout::Housekeeping | Layout::BatteryHousekeeping => housekeeping(b),
+        Layout::EngineeringHousekeeping | Layout::EngineeringBatteryHousekeeping => {
+            engineering_housekeeping(b)
+        }
+        Layout::Short | Layout::Faults | Layout::Parameter(_) | Layout::AbfPlacedState => {
+            only_fed(b, Answer::Accepted)
+        }
     }
 }
 
 // What a command that the decoder let through leaves of those parts.
+#[tactic(auto, unfolding(crate::specs::Effects::run_of, crate::specs::Effects::parameter_answered, crate::specs::Effects::remembered_of, answers::specs::Answers::accepted_of, answers::specs::Answers::accepted_with, answers::specs::Answers::refused_of))]
 pub fn run(b: Board, rail: i16, limits: Limits, c: Command) -> Obeyed
     ensures { result ≡ obeyed_in (run_of rail limits any_code c b) }
 {
@@ -143,10 +150,10 @@ pub fn run(b: Board, rail: i16, limits: Limits, c: Command) -> Obeyed
         Command::ChannelOff(one) => channel_off(b, one),
         Command::SwitchToNominal => switched_mode(b, b.phase.to_nominal(rail, limits)),
         Command::SwitchToSafety => switched_mode(b, b.phase.to_safety()),
-        Command::SetParameter(_, _) => only_fed(b, Answer::Accepted),
-        Command::ResetParameter(_) => only_fed(b, Answer::Accepted),
-        Command::ResetConfiguration => only_fed(b, Answer::Accepted),
-        Command::LoadConfiguration => only_fed(b, Answer::Accepted),
+        Command::SetParameter(_, _)
+        | Command::ResetParameter(_)
+        | Command::ResetConfiguration
+        | Command::LoadConfiguration => only_fed(b, Answer::Accepted),
         Command::SaveConfiguration(checksum) => saved(b, checksum),
         Command::Report(layout) => reported(b, layout),
     }
@@ -157,21 +164,20 @@ pub fn layout_of(c: Command) -> Layout
     ensures { result ≡ layout_of c }
 {
     match c {
-        Command::SystemReset => Layout::Short,
-        Command::CancelOperation => Layout::Short,
-        Command::GroupOn(_) => Layout::Short,
-        Command::GroupOff(_) => Layout::Short,
-        Command::GroupState(_) => Layout::Short,
-        Command::ChannelOn(_) => Layout::Short,
-        Command::ChannelOff(_) => Layout::Short,
-        Command::SwitchToNominal => Layout::Short,
-        Command::SwitchToSafety => Layout::Short,
-        Command::SetParameter(id, _) => Layout::Parameter(id),
-        Command::ResetParameter(id) => Layout::Parameter(id),
-        Command::ResetConfiguration => Layout::Short,
-        Command::LoadConfiguration => Layout::Short,
-        Command::SaveConfiguration(_) => Layout::Short,
+        Command::SetParameter(id, _) | Command::ResetParameter(id) => Layout::Parameter(id),
         Command::Report(layout) => layout,
+        Command::SystemReset
+        | Command::CancelOperation
+        | Command::GroupOn(_)
+        | Command::GroupOff(_)
+        | Command::GroupState(_)
+        | Command::ChannelOn(_)
+        | Command::ChannelOff(_)
+        | Command::SwitchToNominal
+        | Command::SwitchToSafety
+        | Command::ResetConfiguration
+        | Command::LoadConfiguration
+        | Command::SaveConfiguration(_) => Layout::Short,
     }
 }
 
@@ -181,19 +187,19 @@ pub fn memory_change_of(c: Command) -> MemoryChange
 {
     match c {
         Command::SystemReset => MemoryChange::Restart,
-        Command::CancelOperation => MemoryChange::AsBefore,
-        Command::GroupOn(_) => MemoryChange::AsBefore,
-        Command::GroupOff(_) => MemoryChange::AsBefore,
-        Command::GroupState(_) => MemoryChange::AsBefore,
-        Command::ChannelOn(_) => MemoryChange::AsBefore,
-        Command::ChannelOff(_) => MemoryChange::AsBefore,
-        Command::SwitchToNominal => MemoryChange::AsBefore,
-        Command::SwitchToSafety => MemoryChange::AsBefore,
         Command::SetParameter(id, v) => MemoryChange::Set(id, v),
         Command::ResetParameter(id) => MemoryChange::ResetOne(id),
         Command::ResetConfiguration => MemoryChange::Defaults,
         Command::LoadConfiguration => MemoryChange::Load,
         Command::SaveConfiguration(checksum) => MemoryChange::Save(checksum),
-        Command::Report(_) => MemoryChange::AsBefore,
+        Command::CancelOperation
+        | Command::GroupOn(_)
+        | Command::GroupOff(_)
+        | Command::GroupState(_)
+        | Command::ChannelOn(_)
+        | Command::ChannelOff(_)
+        | Command::SwitchToNominal
+        | Command::SwitchToSafety
+        | Command::Report(_) => MemoryChange::AsBefore,
     }
 }

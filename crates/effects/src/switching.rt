@@ -1,6 +1,6 @@
 // The commands on channels: 0x10, 0x12, 0x14, 0x16, 0x18 and 0x04.
 ghost use Rattle.std.specs.Prelude.{◌≡◌};
-ghost use Rattle.effects.specs.Effects.{is_nominal, switched_of, cancelled_of, group_on_of, group_off_of, group_state_of, channel_on_of, channel_off_of};
+ghost use Rattle.effects.specs.Effects.{switched_of, cancelled_of, group_on_of, group_off_of, group_state_of, channel_on_of, channel_off_of};
 ghost use Rattle.effects.specs.Parts.{any_code, obeyed_in};
 
 use crate::parts::Obeyed;
@@ -11,24 +11,12 @@ use command::Group;
 use modes::Mode;
 use state::Board;
 
-// Whether a mode is nominal.
-fn is_nominal(mode: Mode) -> bool
-    ensures { result ≡ is_nominal mode }
-{
-    match mode {
-        Mode::Startup => false,
-        Mode::Nominal => true,
-        Mode::Safety => false,
-        Mode::Emergency => false,
-    }
-}
-
 // One of the five from 0x10 to 0x18: available in nominal alone, and then right or wrong by the channel it names.
+#[tactic(auto, unfolding(crate::specs::Effects::is_nominal, crate::specs::Effects::switched_of, answers::specs::Answers::accepted_of, answers::specs::Answers::accepted_with))]
 fn switched(b: Board, right: bool, channels: Channels) -> Obeyed
     ensures { result ≡ obeyed_in (switched_of any_code right channels b) }
 {
-    let nominal = is_nominal(b.phase.mode());
-    if !nominal {
+    if b.phase.mode() != Mode::Nominal {
         return only_fed(b, Answer::NotAvailable);
     }
     if !right {
@@ -38,6 +26,7 @@ fn switched(b: Board, right: bool, channels: Channels) -> Obeyed
 }
 
 // 0x10 group on.
+#[tactic(auto, unfolding(crate::specs::Effects::group_on_of))]
 pub fn group_on(b: Board, g: Group) -> Obeyed
     ensures { result ≡ obeyed_in (group_on_of any_code g b) }
 {
@@ -46,6 +35,7 @@ pub fn group_on(b: Board, g: Group) -> Obeyed
 }
 
 // 0x12 group off.
+#[tactic(auto, unfolding(crate::specs::Effects::group_off_of))]
 pub fn group_off(b: Board, g: Group) -> Obeyed
     ensures { result ≡ obeyed_in (group_off_of any_code g b) }
 {
@@ -56,6 +46,7 @@ pub fn group_off(b: Board, g: Group) -> Obeyed
 }
 
 // 0x14 group state.
+#[tactic(auto, unfolding(crate::specs::Effects::group_state_of))]
 pub fn group_state(b: Board, g: Group) -> Obeyed
     ensures { result ≡ obeyed_in (group_state_of any_code g b) }
 {
@@ -66,6 +57,7 @@ pub fn group_state(b: Board, g: Group) -> Obeyed
 }
 
 // 0x16: one channel on.
+#[tactic(auto, unfolding(crate::specs::Effects::channel_on_of))]
 pub fn channel_on(b: Board, one: u8) -> Obeyed
     ensures { result ≡ obeyed_in (channel_on_of any_code one b) }
 {
@@ -75,6 +67,7 @@ pub fn channel_on(b: Board, one: u8) -> Obeyed
 }
 
 // 0x18: one channel off.
+#[tactic(auto, unfolding(crate::specs::Effects::channel_off_of))]
 pub fn channel_off(b: Board, one: u8) -> Obeyed
     ensures { result ≡ obeyed_in (channel_off_of any_code one b) }
 {
@@ -86,6 +79,7 @@ pub fn channel_off(b: Board, one: u8) -> Obeyed
 }
 
 // 0x04, in every mode but startup: no channel that a command may switch off stays on.
+#[tactic(auto, unfolding(crate::specs::Effects::cancelled_of, answers::specs::Answers::accepted_of, answers::specs::Answers::accepted_with))]
 pub fn cancelled(b: Board) -> Obeyed
     ensures { result ≡ obeyed_in (cancelled_of any_code b) }
 {
