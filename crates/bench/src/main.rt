@@ -12,10 +12,7 @@ use std::io::Read;
 
 // Writes what was printed into a buffer; what cannot be written is let go.
 fn print(rt: &impl Print, out: &[u8], printed: usize) {
-    match rt.write_all(script::printing::shown(out, printed)) {
-        Ok(()) => {}
-        Err(_) => {}
-    }
+    let _ = rt.write_all(script::printing::shown(out, printed));
 }
 
 // Runs one tick and prints its line; the session is the one that the step leaves.
@@ -46,20 +43,18 @@ fn run(rt: &impl Print, sheet: &[u8]) {
 
 // Reads until the room is full or the input ends, and answers how many bytes came, which are the input's next ones; what
 // cannot be read is the end.
+// Kept: once more in `pace`, as in a library it would be the one function whose contract allows two answers to one
+// input, which `single` excludes: what an input brings next, and where a read of it fails, is not among the arguments.
 fn read_full<R: Read>(input: &mut R, room: &mut [u8]) -> usize
     ensures within { result ≤ length room.new }
     ensures came { Consumes (R.remaining input.old) (R.remaining input.new) (take result room.new) }
 {
     let mut filled = 0;
     while filled < room.len() {
-        let n = match input.read(&mut room[filled..]) {
-            Ok(n) => n,
-            Err(_) => 0,
-        };
-        if n == 0 {
-            break;
+        match input.read(&mut room[filled..]) {
+            Ok(0) | Err(_) => break,
+            Ok(n) => filled += n,
         }
-        filled += n;
     }
     filled
 }

@@ -36,16 +36,7 @@ pub fn event_letter(event: Event) -> u8
 pub fn answer_digit(answer: Answer) -> u8
     ensures { result ≡ answer_digit answer }
 {
-    match answer {
-        Answer::Accepted => b'0',
-        Answer::FewerThanFourBytes => b'1',
-        Answer::InStartup => b'2',
-        Answer::NotThisBoard => b'3',
-        Answer::CodeNotListed => b'4',
-        Answer::TooShort => b'5',
-        Answer::NotAvailable => b'6',
-        Answer::Wrong => b'7',
-    }
+    b'0' + answer as u8
 }
 
 // The letter of the text line's form.

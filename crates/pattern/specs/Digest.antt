@@ -1,7 +1,11 @@
 -- A digest takes in numbers one after another. Assumes nothing: this is a definition.
-use Rattle.std.specs.Prelude.{ℕ, List, [], ◌∷◌}
+use Rattle.std.specs.Prelude.{ℕ, List, fold}
 use Rattle.pattern.specs.Pattern.{taken_in}
 
-unfoldable pub all_taken : ℕ → List ℕ → ℕ
-all_taken digest [] = digest
-all_taken digest (v ∷ vs) = all_taken (taken_in digest v) vs
+-- values that each count as a number
+abbrev pub all_taken_by : {A : Type 0} → (A → ℕ) → ℕ → List A → ℕ
+all_taken_by number = fold (λ digest v. taken_in digest (number v))
+
+-- numbers
+abbrev pub all_taken : ℕ → List ℕ → ℕ
+all_taken = all_taken_by (λ v. v)

@@ -1,4 +1,5 @@
 pub mod Pattern
 pub mod Digest
+pub mod Kinds
 pub mod Ticks
 pub mod Line

@@ -1,7 +1,32 @@
 // The digest: one number that all that it took in has a part in.
-ghost use Rattle.std.specs.Prelude.{◌≡◌};
+ghost use Rattle.std.specs.Prelude.{◌≡◌, ℕ};
 ghost use Rattle.pattern.specs.Pattern.{taken_in, sum_of};
-ghost use Rattle.pattern.specs.Digest.{all_taken};
+ghost use Rattle.pattern.specs.Digest.{all_taken_by};
+
+// What the digest takes in: a byte or a word, which counts as its number.
+pub trait Number: Copy {
+    ghost number: { Self → ℕ };
+
+    // The number.
+    fn number(self) -> u64
+        ensures { result ≡ number self };
+}
+
+impl Number for u8 {
+    ghost number = { λ x. x };
+
+    fn number(self) -> u64 {
+        self as u64
+    }
+}
+
+impl Number for u16 {
+    ghost number = { λ x. x };
+
+    fn number(self) -> u64 {
+        self as u64
+    }
+}
 
 // A digest that took in one number more.
 pub fn taken(digest: u32, v: u64) -> u32
@@ -10,44 +35,11 @@ pub fn taken(digest: u32, v: u64) -> u32
     ((digest as u64 * 1000003 + v % 1099511627776) % 4294967291) as u32
 }
 
-// A digest that took in one byte more.
-fn byte_taken(digest: u32, byte: u8) -> u32
-    ensures { result ≡ taken_in digest byte }
+// A digest that took in numbers, one after another.
+pub fn all_taken<T: Number>(digest: u32, values: &[T]) -> u32
+    ensures { result ≡ all_taken_by T.number digest values.now }
 {
-    taken(digest, byte as u64)
-}
-
-// A digest that took in one word more.
-fn word_taken(digest: u32, word: u16) -> u32
-    ensures { result ≡ taken_in digest word }
-{
-    taken(digest, word as u64)
-}
-
-// A digest that took in bytes, one after another.
-pub fn bytes_taken(digest: u32, bytes: &[u8]) -> u32
-    ensures { result ≡ all_taken digest bytes.now }
-{
-    let mut d = digest;
-    let mut i = 0;
-    while i < bytes.len() {
-        d = byte_taken(d, bytes[i]);
-        i += 1;
-    }
-    d
-}
-
-// A digest that took in words, one after another.
-pub fn words_taken(digest: u32, words: &[u16]) -> u32
-    ensures { result ≡ all_taken digest words.now }
-{
-    let mut d = digest;
-    let mut i = 0;
-    while i < words.len() {
-        d = word_taken(d, words[i]);
-        i += 1;
-    }
-    d
+    values.iter().fold(digest, |d, v| taken(d, v.number()))
 }
 
 // The sum of what the digest takes in after a tick.

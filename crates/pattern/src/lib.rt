@@ -3,9 +3,11 @@
 #![tactic(auto)]
 
 mod digest;
+mod kind;
 mod line;
 mod ticks;
 
-pub use digest::{bytes_taken, summed, taken, words_taken};
-pub use line::{Asked, asked_by};
-pub use ticks::{Brought, brought_by, change, counted, first_words, is_waking, lent, place, turns};
+pub use digest::{Number, all_taken, summed, taken};
+pub use kind::{RunKind, TickKind};
+pub use line::{Run, asked_by};
+pub use ticks::{Brought, Transfer, brought_by, change, counted, first_words, is_waking, lent, place, turns};

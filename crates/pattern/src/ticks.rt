@@ -1,33 +1,61 @@
 // What the tick of a turn brings, from the number that is drawn for it.
 ghost use Rattle.std.specs.Prelude.{◌≡◌, ltb, take};
 ghost use Rattle.pattern.specs.Pattern.{waking, turns_of, place_of, next_of, draw_of};
-ghost use Rattle.pattern.specs.Ticks.{mixed_of, kind_of, named_of, framed_of, sent_of, transfer_of, brought_of, word_count, words_first, changed_of, lent_of};
+ghost use Rattle.pattern.specs.Ticks.{mixed_of, kind_of, named_of, framed_of, laid_of, transfer_of, brought_of, word_count, words_first, changed_of, lent_of};
 
+use crate::kind::{RunKind, TickKind};
 use kinds::Kind;
 
-// The bytes of a transfer, of which so many are sent; there is no transfer where that is none.
+// A transfer: its bytes, of which `length` are sent.
 #[derive(Clone, Copy)]
-struct Transfer {
+pub struct Transfer {
     length: usize,
     bytes: [u8; 8],
 }
 
+impl Transfer {
+    // The bytes that are sent.
+    pub fn sent(&self) -> &[u8]
+        ensures { result.now ≡ take self.now.length self.now.bytes }
+    {
+        wire::first(&self.bytes, self.length)
+    }
+}
+
 // The kind of a turn's tick and what it brings besides its words, from what was drawn as number x of the row: the rail
-// in millivolts, the channels that report overcurrent and the bytes of a transfer, of which so many are sent; there is
-// none where `length` is 0.
+// in millivolts, the channels that report overcurrent and the transfer, where there is one.
 #[derive(Clone, Copy)]
 pub struct Brought {
     pub x: u64,
-    pub length: usize,
     pub named: u32,
     pub drawn: u16,
     pub rail: i16,
-    pub kind: u8,
-    pub bytes: [u8; 8],
+    pub kind: TickKind,
+    pub transfer: Option<Transfer>,
 }
 
 // Turns until startup is over, each with a plain tick at the lowest rail.
 const WAKING: u64 = 50;
+
+// The kinds of a mixed run's ticks, again and again.
+const MIX: [TickKind; 16] = [
+    TickKind::Plain,
+    TickKind::Noop,
+    TickKind::Plain,
+    TickKind::Get,
+    TickKind::Plain,
+    TickKind::OvercurrentState,
+    TickKind::Plain,
+    TickKind::Set,
+    TickKind::Plain,
+    TickKind::Group,
+    TickKind::Plain,
+    TickKind::Words,
+    TickKind::Plain,
+    TickKind::Housekeeping,
+    TickKind::Plain,
+    TickKind::Overcurrent,
+];
 
 // How many turns a run of so many ticks takes.
 pub fn turns(count: u64) -> u64
@@ -47,10 +75,7 @@ pub fn is_waking(turn: u64) -> bool
 pub fn place(turn: u64) -> u64
     ensures { result ≡ place_of turn }
 {
-    if turn < WAKING {
-        return 0;
-    }
-    turn - WAKING
+    turn.saturating_sub(WAKING)
 }
 
 // The number of a turn in the row that the draws come from, which follows x; a waking turn draws none. The first, 1,
@@ -58,7 +83,7 @@ pub fn place(turn: u64) -> u64
 fn next(turn: u64, x: u64) -> u64
     ensures { result ≡ next_of turn x }
 {
-    if turn < WAKING {
+    if is_waking(turn) {
         return x;
     }
     (x % 2147483648 * 1103515245 + 12345) % 2147483648
@@ -72,88 +97,76 @@ fn draw(x: u64) -> u16
 }
 
 // The kind of tick i of a mixed run: each second one is plain.
-fn mixed(i: u64) -> u8
+fn mixed(i: u64) -> TickKind
     ensures { result ≡ mixed_of i }
 {
-    wire::byte(b"pnpgpfpspopwphpc", (i % 16) as usize)
+    MIX[(i % 16) as usize]
 }
 
-// The kind of a turn's tick in a run of a kind; a waking turn's is plain.
-fn kind_at(run: u8, turn: u64) -> u8
-    ensures { result ≡ kind_of run turn }
+// The kind of a turn's tick in a run of some kinds; a waking turn's is plain.
+fn kind_at(kinds: RunKind, turn: u64) -> TickKind
+    ensures { result ≡ kind_of kinds turn }
 {
-    if turn < WAKING {
-        return b'p';
+    match kinds {
+        _ if is_waking(turn) => TickKind::Plain,
+        RunKind::Each(kind) => kind,
+        RunKind::Mixed => mixed(place(turn)),
     }
-    if run == b'm' {
-        return mixed(turn - WAKING);
-    }
-    run
 }
 
 // The channels that a tick names.
-fn named(kind: u8, drawn: u16) -> u32
+fn named(kind: TickKind, drawn: u16) -> u32
     ensures { result ≡ named_of kind drawn }
 {
-    if kind == b'c' {
-        return drawn as u32 * 65537;
+    match kind {
+        TickKind::Overcurrent => drawn as u32 * 65537,
+        _ => 0,
     }
-    0
 }
 
-// A transfer to the board with so many bytes, a code and four bytes behind its head.
-fn framed(length: usize, code: u8, a: u8, b: u8, c: u8, d: u8) -> Transfer
-    ensures { result ≡ framed_of length code a b c d }
+// A transfer to the board of so many bytes, with a code and four bytes behind its head.
+fn framed(length: usize, code: u8, behind: [u8; 4]) -> Transfer
+    ensures { result ≡ framed_of length code behind }
 {
-    let stid = kinds::stid(Kind::Distribution);
-    let bytes = [stid, 7, code, 1, a, b, c, d];
+    let [a, b, c, d] = behind;
+    let bytes = [kinds::stid(Kind::Distribution), 7, code, 1, a, b, c, d];
     Transfer { length, bytes }
 }
 
-// The transfer of a tick.
-fn transfer_of(kind: u8, drawn: u16) -> Transfer
-    ensures { result ≡ sent_of (transfer_of kind drawn) }
+// The transfer of a tick, where it brings one.
+fn transfer_of(kind: TickKind, drawn: u16) -> Option<Transfer>
+    ensures { result ≡ laid_of (transfer_of kind drawn) }
 {
-    let low = (drawn % 256) as u8;
-    let high = (drawn / 256) as u8;
-    match kind {
-        b'n' => framed(4, 0x02, 0, 0, 0, 0),
-        b'f' => framed(4, 0x42, 0, 0, 0, 0),
-        b'h' => framed(4, 0x50, 0, 0, 0, 0),
-        b'g' => framed(6, 0x82, (drawn % 68) as u8, 0x40, 0, 0),
-        b's' => framed(8, 0x84, (1 + drawn % 64) as u8, 0x40, low, high),
-        b'o' => {
-            if drawn % 2 == 0 {
-                return framed(8, 0x10, low, high, low, high);
-            }
-            framed(8, 0x14, low, high, low, high)
+    let [low, high] = drawn.to_le_bytes();
+    let transfer = match kind {
+        TickKind::Noop => framed(4, 0x02, [0; 4]),
+        TickKind::OvercurrentState => framed(4, 0x42, [0; 4]),
+        TickKind::Housekeeping => framed(4, 0x50, [0; 4]),
+        TickKind::Get => framed(6, 0x82, [(drawn % 68) as u8, 0x40, 0, 0]),
+        TickKind::Set => framed(8, 0x84, [(1 + drawn % 64) as u8, 0x40, low, high]),
+        TickKind::Group => {
+            let code = if drawn % 2 == 0 { 0x10 } else { 0x14 };
+            framed(8, code, [low, high, low, high])
         }
-        _ => Transfer {
-            length: 0,
-            bytes: [0; 8],
-        },
-    }
+        _ => return None,
+    };
+    Some(transfer)
 }
 
-// The kind of a turn's tick in a run of a kind and what it brings, where x was drawn last.
-pub fn brought_by(run: u8, turn: u64, x: u64) -> Brought
-    ensures { result ≡ brought_of run turn x }
+// The kind of a turn's tick in a run of some kinds and what it brings, where x was drawn last.
+pub fn brought_by(kinds: RunKind, turn: u64, x: u64) -> Brought
+    ensures { result ≡ brought_of kinds turn x }
 {
     let x = next(turn, x);
     let drawn = draw(x);
-    let kind = kind_at(run, turn);
-    let transfer = transfer_of(kind, drawn);
-    let bytes = transfer.bytes;
-    let named = named(kind, drawn);
-    let rail = (15000 + drawn % 1000) as i16;
+    let kind = kind_at(kinds, turn);
     Brought {
         x,
-        length: transfer.length,
-        named,
+        named: named(kind, drawn),
         drawn,
-        rail,
+        rail: (15000 + drawn % 1000) as i16,
         kind,
-        bytes,
+        transfer: transfer_of(kind, drawn),
     }
 }
 
@@ -161,14 +174,7 @@ pub fn brought_by(run: u8, turn: u64, x: u64) -> Brought
 pub fn first_words() -> [u16; 130]
     ensures { result ≡ words_first }
 {
-    let mut words = [0u16; 130];
-    let mut left = 130;
-    while 0 < left {
-        let i = 130 - left;
-        words[i] = i as u16;
-        left -= 1;
-    }
-    words
+    std::array::from_fn(|i| i as u16)
 }
 
 // How many words the board has.
@@ -179,12 +185,11 @@ fn word_count() -> usize
 }
 
 // The words as a tick lends them: where it lends any, one of them has become the draw.
-pub fn change(words: &mut [u16; 130], kind: u8, drawn: u16)
+pub fn change(words: &mut [u16; 130], kind: TickKind, drawn: u16)
     ensures { words.new ≡ changed_of kind drawn words.old }
 {
-    if kind == b'w' {
-        let place = drawn as usize % word_count();
-        words[place] = drawn;
+    if let TickKind::Words = kind {
+        words[drawn as usize % word_count()] = drawn;
     }
 }
 
@@ -195,19 +200,12 @@ pub fn counted(words: &[u16]) -> &[u16]
     wire::first(words, word_count())
 }
 
-// All words of the board or none, by the kind of a tick.
-fn all_or_none(words: &[u16], kind: u8) -> &[u16]
+// The words that a tick lends: all of the board or none, by its kind.
+pub fn lent(words: &[u16; 130], kind: TickKind) -> &[u16]
     ensures { result.now ≡ lent_of kind words.now }
 {
-    if kind == b'w' {
-        return counted(words);
+    match kind {
+        TickKind::Words => counted(words),
+        _ => &[],
     }
-    &words[..0]
-}
-
-// The words that a tick lends.
-pub fn lent(words: &[u16; 130], kind: u8) -> &[u16]
-    ensures { result.now ≡ lent_of kind words.now }
-{
-    all_or_none(words, kind)
 }

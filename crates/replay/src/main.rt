@@ -11,22 +11,14 @@ struct Turn {
     filled: Option<usize>,
 }
 
-// Writes a text; what cannot be written is let go.
-fn put(rt: &impl Print, text: &[u8]) {
-    match rt.write_all(text) {
-        Ok(()) => {}
-        Err(_) => {}
-    }
-}
-
-// Runs one line and writes what it prints.
+// Runs one line and writes what it prints; what cannot be written is let go.
 // argued: an instrument; what it prints is compared line by line with the second program
 fn run_one(rt: &impl Print, bench: Bench, line: &[u8]) -> Bench {
     let mut held = [0u8; 4096];
     let mut out = [0u8; 4096];
     let asked = lines::asks(line, &mut held);
     let ran = trial::run(bench, asked, &held, &mut out);
-    put(rt, script::printing::shown(&out, ran.printed));
+    let _ = rt.write_all(script::printing::shown(&out, ran.printed));
     ran.bench
 }
 
@@ -67,7 +59,7 @@ fn run_some(rt: &impl Print, input: &mut impl Read, line: &mut [u8; 4096], turn:
 // A last piece without a line end is bad.
 fn finish(rt: &impl Print, filled: Option<usize>) {
     if filled != Some(0) {
-        put(rt, b"bad\n");
+        let _ = rt.write_all(b"bad\n");
     }
 }
 

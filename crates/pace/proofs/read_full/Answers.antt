@@ -6,7 +6,6 @@ use Rattle.std.proofs.lemmas.List.{take-append-le}
 use Rattle.std.specs.Io.KnownBytes.{Consumes}
 use borrow.Rule.Slice.PartMut.{put_mid, post_of}
 use Rattle.pace.proofs.read_full.Goals as goal
-use Rattle.pace.proofs.read_full.Goals.{in-Ok, in-Err}
 
 -- what stands in front, and n of what was put behind it
 joined : (a n k : ℕ) (xs ys : List ℕ) → a ≤ length xs → n ≤ length ys → take a xs ++ take n ys ≡ take (a + n) (put_mid a k xs ys)
@@ -16,11 +15,7 @@ joined a n k xs ys within fits =
 
 pub loop-filled-preserved : goal.loop-filled-preserved
 loop-filled-preserved g c =
-    elim c.match-read.branch [
-      | in-Ok w ↦
-          (let l = c.loop-filled in
-          let room = length l.room - l.filled in
-          let all = joined l.filled w.in-Ok.n room l.room c.read.new.buf l.invariant.1 w.in-Ok.ensures.bound.0 in
-          rw w.n-is (search rules, search rules, subst (Consumes _ _) all (Consumes-trans _ _ _ _ _ l.invariant.2 w.in-Ok.ensures.bytes.0)))
-      | in-Err w ↦ absurd (omega arith)
-    ]
+    let l = c.loop-filled in
+    let room = length l.room - l.filled in
+    let all = joined l.filled c.in-Ok.n room l.room c.read.new.buf l.invariant.1 c.in-Ok.ensures.bound.0 in
+    (search rules, search rules, subst (Consumes _ _) all (Consumes-trans _ _ _ _ _ l.invariant.2 c.in-Ok.ensures.bytes.0))

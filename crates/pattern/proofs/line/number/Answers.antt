@@ -1,28 +1,16 @@
 -- The digits that are left, behind the number so far, make what all of them make. Assumes nothing.
-use native.Mathlib.Omega.{arith}
-use mathlib.Core.Path.{refl, sym, ◌∙◌}
-use Rattle.pattern.proofs.Steps.{number_low, number_high, number_turn, number_end}
+use Rattle.std.proofs.Common.{arith}
+use Rattle.std.proofs.lemmas.Grind.{common_steps}
+use Rattle.pattern.specs.Line.{number_of}
+use Rattle.pattern.proofs.Steps.{number_step}
 use Rattle.pattern.proofs.line.number.Goals as goal
 
-pub loop-i-init : goal.loop-i-init
-loop-i-init c = (omega arith, refl)
+pub returns-then-not-is_ascii_digit : goal.returns-then-not-is_ascii_digit
+returns-then-not-is_ascii_digit c = grind (arith, common_steps, number_step)
 
-pub returns-then-c-lt48 : goal.returns-then-c-lt48
-returns-then-c-lt48 c =
-    let l = c.loop-i in
-    sym (number_low l.n c.args.digits.now l.i (omega arith) (omega arith)) ∙ l.invariant.1
-
-pub returns-then-c-gt57 : goal.returns-then-c-gt57
-returns-then-c-gt57 c =
-    let l = c.loop-i in
-    sym (number_high l.n c.args.digits.now l.i (omega arith) (omega arith)) ∙ l.invariant.1
-
-pub loop-i-preserved : goal.loop-i-preserved
-loop-i-preserved c =
-    let l = c.loop-i in
-    (omega arith, sym (number_turn l.n c.args.digits.now l.i (omega arith) (omega arith) (omega arith)) ∙ l.invariant.1)
+pub loop-c-preserved : goal.loop-c-preserved
+loop-c-preserved c = grind (arith, common_steps, number_step)
 
 pub returns : goal.returns
-returns c =
-    let l = c.loop-i in
-    sym (number_end l.n c.args.digits.now l.i (omega arith)) ∙ l.invariant.1
+unfolding number_of
+returns c = grind (arith, common_steps)
