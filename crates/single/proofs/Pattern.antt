@@ -2,13 +2,15 @@
 use mathlib.Core.Path.{sym, ◌∙◌}
 use Rattle.single.specs.Single.{Single}
 use Rattle.pattern.proofs.taken.Reads as taken
-use Rattle.pattern.proofs.bytes_taken.Reads as bytes_taken
-use Rattle.pattern.proofs.words_taken.Reads as words_taken
+use Rattle.pattern.proofs.all_taken.Reads as all_taken
+use Rattle.pattern.proofs.digest.U8Number.number.Reads as byte_number
+use Rattle.pattern.proofs.digest.U16Number.number.Reads as word_number
 use Rattle.pattern.proofs.summed.Reads as summed
 use Rattle.pattern.proofs.asked_by.Reads as asked_by
 use Rattle.pattern.proofs.turns.Reads as turns
 use Rattle.pattern.proofs.is_waking.Reads as is_waking
 use Rattle.pattern.proofs.place.Reads as place
+use Rattle.pattern.proofs.Transfer.sent.Reads as sent
 use Rattle.pattern.proofs.brought_by.Reads as brought_by
 use Rattle.pattern.proofs.first_words.Reads as first_words
 use Rattle.pattern.proofs.change.Reads as change
@@ -18,11 +20,14 @@ use Rattle.pattern.proofs.lent.Reads as lent
 pub single_taken : Single taken.Post (λ κ r s. r)
 single_taken κ a r r' s s' p q = p ∙ sym q
 
-pub single_bytes_taken : Single bytes_taken.Post (λ κ r s. r)
-single_bytes_taken κ a r r' s s' p q = p ∙ sym q
+pub single_all_taken : (t : _) (l : _) (c : _) (n : _) (d : _) (g : _) (e : _) → Single (all_taken.Post t l c n d g e) (λ κ r s. r)
+single_all_taken t l c n d g e κ a r r' s s' p q = p ∙ sym q
 
-pub single_words_taken : Single words_taken.Post (λ κ r s. r)
-single_words_taken κ a r r' s s' p q = p ∙ sym q
+pub single_byte_number : Single byte_number.Post (λ κ r s. r)
+single_byte_number κ a r r' s s' p q = p ∙ sym q
+
+pub single_word_number : Single word_number.Post (λ κ r s. r)
+single_word_number κ a r r' s s' p q = p ∙ sym q
 
 pub single_summed : Single summed.Post (λ κ r s. r)
 single_summed κ a r r' s s' p q = p ∙ sym q
@@ -53,3 +58,6 @@ single_counted κ a r r' s s' p q = p ∙ sym q
 
 pub single_lent : Single lent.Post (λ κ r s. r.now)
 single_lent κ a r r' s s' p q = p ∙ sym q
+
+pub single_sent : Single sent.Post (λ κ r s. r.now)
+single_sent κ a r r' s s' p q = p ∙ sym q
