@@ -2,7 +2,7 @@
 -- nothing.
 use Prim.Native.Nat.{ℕ, zero, suc, ◌+◌, ◌-◌, ◌*◌, ◌/◌, ◌%◌, ◌≤◌, ◌<◌}
 use mathlib.Core.Path.{◌≡◌, refl, sym, ap, ◌∙◌}
-use mathlib.Core.List.{List, [], ◌∷◌, ◌++◌}
+use mathlib.Core.List.{List, [], ◌∷◌, ◌++◌, append-nil}
 use native.Mathlib.Omega.{arith}
 use lib.ListN.{length, get_or, drop}
 use lib.Seq.{sets, set_out, get_or-drop, drop-drop}
@@ -11,7 +11,7 @@ use borrow.Author.Tests.{lt-ltb, le-ltb}
 use mathlib.Core.Bool.{cond}
 use mathlib.Core.Logic.{⊎_elim}
 use Rattle.std.specs.Prelude.{Some, None}
-use Rattle.laws.proofs.Lists.{lt_or_le, drop_step, drop_two, drop_end}
+use Rattle.laws.proofs.Lists.{lt_or_le, drop_step, drop_two, drop_end, sets_front}
 use Rattle.hexadecimal.specs.Hex.{capital_of, digit_of, pair_of}
 use Rattle.hexadecimal.specs.Passes.{worth}
 use Rattle.script.specs.Printing.{Page, and, typed, over, digits_of, row, hex_of}
@@ -128,6 +128,10 @@ sound_end text i h g =
 pub sets_out : (l : List ℕ) (k : ℕ) (vs : List ℕ) → length l ≤ k → sets l k vs ≡ l
 sets_out l k [] h = refl
 sets_out l k (v ∷ vs) h = ap (λ (m : List ℕ). sets m (suc k) vs) (set_out l k v h) ∙ sets_out l (suc k) vs (omega arith)
+
+-- stores that go over the whole buffer
+pub covering : (l vs : List ℕ) → length vs ≡ length l → sets l 0 vs ≡ vs
+covering l vs e = sets_front l vs (omega arith) ∙ rw (drop_end l (length vs) (omega arith)) (append-nil vs)
 
 pub words_turn : (n : ℕ) (bytes : List ℕ) (i : ℕ) → 0 < n
     → words_of n (drop i bytes) ≡ (get_or bytes i 0 * 256 + get_or bytes (i + 1) 0) ∷ words_of (n - 1) (drop (i + 2) bytes)

@@ -2,9 +2,8 @@
 use Rattle.std.proofs.Common.{◌≡◌, ℕ, ◌-◌, ◌+◌, ◌*◌, drop, get_or, ap, sym, ◌∙◌, arith}
 use lib.Seq.{sets}
 use Rattle.laws.proofs.Lists.{sets_turn}
-use Rattle.wire.proofs.Room.{covering}
 use Rattle.script.specs.Reading.{words_of}
-use Rattle.script.proofs.Turns.{words_turn, words_length, words_end}
+use Rattle.script.proofs.Turns.{covering, words_turn, words_length, words_end}
 use Rattle.script.proofs.reading.lent_words.Goals as goal
 
 pub loop-i-init : goal.loop-i-init
