@@ -2,16 +2,15 @@
 -- and where none does the number is 0. The command step is defined by this list, with all that a board brings; the
 -- decoder promises its number with the mode alone. `7 when b` is a check with the number 7 that applies where b holds.
 -- Assumes nothing: these are definitions.
-use Rattle.std.specs.Prelude.{ℕ, Bool, true, false, cond, not, ◌&&◌, ◌||◌, List, [], ◌∷◌, Result, Ok, Err}
+use Rattle.std.specs.Prelude.{ℕ, Bool, true, false, cond, not, ◌&&◌, ◌||◌, List, [], ◌∷◌, Result, Ok, Err, Option, Some, None}
 use lib.{Dec.ltb, Dec.eqb, ListN.length}
 use Rattle.kinds.specs.{Kinds.board_of, Kinds.is_in, declared.Kind.Kind}
 use Rattle.value.specs.{Values.read_of, declared.ParamValue.ParamValue, declared.ValueRefusal.ValueRefusal}
 use Rattle.settings.specs.{Table.parameter_of, declared.Parameter.Parameter}
 use Rattle.settings.specs.declared.Parameter.TheVariants.{ReadWrite, ReadOnly, Unknown}
 use Rattle.command.specs.Table.{command_table, find}
-use Rattle.command.specs.Decode.{fewer_than_four, header_of, stid_of, ivid_of, code_of, bid_of, byte_after, id_of, value_part}
+use Rattle.command.specs.Decode.{fewer_than_four, header_of, stid_of, ivid_of, code_of, bid_of, key_differs, id_of, value_part}
 use Rattle.command.specs.{declared.Listed.Listed, declared.Header.Header}
-use Rattle.command.specs.declared.Listed.TheVariants.{Plain, Keyed, Missing}
 
 infix 68 ◌when◌
 pub data Check : Type 0 where
@@ -27,16 +26,14 @@ unfoldable pub header_differs : Header → List ℕ → Bool
 header_differs board s = not (eqb (stid_of s) board.stid) || not (eqb (ivid_of s) board.ivid) || not (eqb (bid_of s) board.bid)
 
 -- too few bytes for the command
-abbrev pub shorter : Listed → List ℕ → Bool
-shorter (Plain name needed) s = ltb (length s) needed
-shorter (Keyed name needed key) s = ltb (length s) needed
-shorter Missing s = false
+abbrev pub shorter : Option Listed → List ℕ → Bool
+shorter (Some row) s = ltb (length s) row.needed
+shorter None s = false
 
 -- the key is wrong
-abbrev pub key_wrong : Listed → List ℕ → Bool
-key_wrong (Plain name needed) s = false
-key_wrong (Keyed name needed key) s = not (eqb (byte_after s) key)
-key_wrong Missing s = false
+abbrev pub key_wrong : Option Listed → List ℕ → Bool
+key_wrong (Some row) s = key_differs row.key s
+key_wrong None s = false
 
 -- the id is unknown (0x82), or unknown or read-only (0x84 and 0x86)
 abbrev pub unknown : Parameter → Bool

@@ -1,8 +1,8 @@
 -- A transfer as a command: what it carries, or why it is none. In which order the checks stand, `Checks` says.
 -- `get_or s i 0` is the byte at i, `drop i s` what stands from i on, and `number n` the number of its first n bytes, the
 -- lowest first. Assumes nothing.
-use Rattle.std.specs.Prelude.{ℕ, ◌-◌, ◌^◌, Result, Ok, Err}
-use mathlib.Core.{Bool.Bool, Bool.cond, Bool.not, Bool.◌&&◌, List.List}
+use Rattle.std.specs.Prelude.{ℕ, ◌-◌, ◌^◌, Option, Some, None, Result, Ok, Err}
+use mathlib.Core.{Bool.Bool, Bool.cond, Bool.false, Bool.not, Bool.◌&&◌, List.List}
 use lib.{Dec.ltb, Dec.eqb, ListN.length, ListN.drop, ListN.get_or}
 use Rattle.wire.specs.Numbers.{number}
 use Rattle.kinds.specs.{Kinds.board_of, Kinds.is_in, declared.Kind.Kind}
@@ -11,7 +11,6 @@ use Rattle.settings.specs.{Table.parameter_of, declared.Parameter.Parameter}
 use Rattle.settings.specs.declared.Parameter.TheVariants.{ReadWrite, ReadOnly, Unknown}
 use Rattle.command.specs.{Table.command_table, Table.find, declared.Name.Name, declared.Listed.Listed}
 use Rattle.command.specs.{declared.Header.Header, declared.Group.Group}
-use Rattle.command.specs.declared.Listed.TheVariants.{Plain, Keyed, Missing}
 use Rattle.command.specs.{declared.Command.Command, declared.Layout.Layout, declared.Refusal.Refusal}
 use Rattle.command.specs.declared.Refusal.TheVariants.{FewerThanFourBytes, InStartup, NotThisBoard, CodeNotListed, TooShort, WrongKey, WrongParameter, NotANumber}
 
@@ -78,10 +77,13 @@ getting id = get_by id (parameter_of id)
 
 -- 0x84, behind the two bytes of the id (5): an id that is unknown or read-only (7), fewer bytes than the value has (5),
 -- a NaN (7)
+abbrev pub unread : ValueRefusal → Refusal
+unread ValueRefusal.TooShort = TooShort
+unread ValueRefusal.NotANumber = NotANumber
+
 unfoldable pub valued : ℕ → Result ParamValue ValueRefusal → Decoded
 valued id (Ok v) = Ok (Command.SetParameter id v)
-valued id (Err ValueRefusal.TooShort) = Err TooShort
-valued id (Err ValueRefusal.NotANumber) = Err NotANumber
+valued id (Err r) = Err (unread r)
 
 abbrev pub set_by : ℕ → Parameter → List ℕ → Decoded
 set_by id (ReadWrite t) value = valued id (read_of t value)
@@ -127,13 +129,16 @@ carried Name.GetBatteryHousekeeping s = Ok (Command.Report Layout.BatteryHouseke
 carried Name.GetEngineeringBatteryHousekeeping s = Ok (Command.Report Layout.EngineeringBatteryHousekeeping)
 
 -- ---- a code of the table: long enough, with its key, and then what it carries
-unfoldable pub listed : Listed → List ℕ → Decoded
-listed Missing s = Err CodeNotListed  -- no list of a kind has such a code
-listed (Plain name needed) s = cond (ltb (length s) needed) (Err TooShort) (carried name s)
-listed (Keyed name needed key) s =
-    cond (ltb (length s) needed) (Err TooShort)
-    (cond (not (eqb (byte_after s) key)) (Err WrongKey)
-    (carried name s))
+abbrev pub key_differs : Option ℕ → List ℕ → Bool
+key_differs None s = false
+key_differs (Some key) s = not (eqb (byte_after s) key)
+
+unfoldable pub listed : Option Listed → List ℕ → Decoded
+listed None s = Err CodeNotListed  -- no list of a kind has such a code
+listed (Some row) s =
+    cond (ltb (length s) row.needed) (Err TooShort)
+    (cond (key_differs row.key s) (Err WrongKey)
+    (carried row.name s))
 
 -- ---- any transfer, to a board of a kind and a BID that is in startup or not; the order is that of `Checks`
 unfoldable pub decode_of : Kind → ℕ → Bool → List ℕ → Decoded

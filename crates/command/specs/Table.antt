@@ -1,10 +1,9 @@
 -- The commands that the decoder knows: the code, the bytes and the key of each, as the ICD's command pages give them.
 -- Which of them a board has, the list of its kind says, in `kinds`. `a ∷ b ∷ []` is a list of two, and `cond b x y` is
 -- x where b holds, else y. Assumes nothing.
-use Rattle.std.specs.Prelude.{ℕ, eqb}
+use Rattle.std.specs.Prelude.{ℕ, eqb, Option, Some, None}
 use mathlib.Core.{Bool.cond, List.List, List.[], List.◌∷◌}
 use Rattle.command.specs.{declared.Name.Name, declared.Listed.Listed}
-use Rattle.command.specs.declared.Listed.TheVariants.{Plain, Keyed, Missing}
 
 -- a row: a code, the command of that code, the bytes it needs, and its key where it has one
 infix 70 ◌is◌of◌bytes
@@ -42,7 +41,13 @@ command_table =
     ∷ []
 
 -- what such rows say of a code: its row, or that it has none
-unfoldable pub find : List Row → ℕ → Listed
-find [] code = Missing
-find (c is name of n bytes ∷ rows) code = cond (eqb code c) (Plain name n) (find rows code)
-find (c is name of n bytes_with_key k ∷ rows) code = cond (eqb code c) (Keyed name n k) (find rows code)
+abbrev pub plain : Name → ℕ → Listed
+plain name n = record { name = name; needed = n; key = None }
+
+abbrev pub keyed : Name → ℕ → ℕ → Listed
+keyed name n k = record { name = name; needed = n; key = Some k }
+
+unfoldable pub find : List Row → ℕ → Option Listed
+find [] code = None
+find (c is name of n bytes ∷ rows) code = cond (eqb code c) (Some (plain name n)) (find rows code)
+find (c is name of n bytes_with_key k ∷ rows) code = cond (eqb code c) (Some (keyed name n k)) (find rows code)

@@ -2,9 +2,9 @@
 // and whether it is in startup.
 #![tactic(auto)]
 
-ghost use Rattle.std.specs.Prelude.{◌≡◌};
-ghost use Rattle.command.specs.Table.{command_table, find};
-ghost use Rattle.command.specs.Decode.{fewer_than_four, header_of, header_is, group_in, getting, valued, setting, resetting, carried, listed, decode_of};
+ghost use Rattle.std.specs.Prelude.{◌≡◌, Some};
+ghost use Rattle.command.specs.Table.{plain, keyed, command_table, find};
+ghost use Rattle.command.specs.Decode.{fewer_than_four, header_of, header_is, group_in, getting, unread, setting, resetting, carried, key_differs, listed, decode_of};
 ghost use Rattle.command.specs.Checks.{first, checks, mode_alone};
 ghost use Rattle.command.specs.Answers.{decoded_number};
 
@@ -58,10 +58,10 @@ enum Name {
 
 // What the table of commands says of a code: the command and the bytes it needs, with its key where it has one.
 #[derive(Clone, Copy)]
-enum Listed {
-    Plain(Name, usize),
-    Keyed(Name, usize, u8),
-    Missing,
+struct Listed {
+    name: Name,
+    needed: usize,
+    key: Option<u8>,
 }
 
 // How a reply is laid out, by what it tells: nothing more than its 5 bytes, the overcurrent faults, the measured words
@@ -114,6 +114,18 @@ pub enum Refusal {
     NotANumber,
 }
 
+// A value that cannot be read is refused by what it lacks.
+impl From<ValueRefusal> for Refusal {
+    ghost from_gives = { λ r e. e ≡ unread r };
+
+    fn from(r: ValueRefusal) -> Refusal {
+        match r {
+            ValueRefusal::TooShort => Refusal::TooShort,
+            ValueRefusal::NotANumber => Refusal::NotANumber,
+        }
+    }
+}
+
 // What a board of a kind and a BID is called by.
 pub fn header_of(kind: Kind, bid: u8) -> Header
     ensures { result ≡ header_of kind bid }
@@ -126,6 +138,7 @@ pub fn header_of(kind: Kind, bid: u8) -> Header
 }
 
 // Whether a transfer is too short to have a header.
+#[tactic(auto, unfolding(crate::specs::Decode::fewer_than_four))]
 fn too_short(transfer: &[u8]) -> bool
     ensures { result ≡ fewer_than_four transfer.now }
 {
@@ -133,51 +146,72 @@ fn too_short(transfer: &[u8]) -> bool
 }
 
 // Whether STID, IVID and BID are the board's.
+#[tactic(auto, unfolding(crate::specs::Decode::header_is))]
 fn is_for(board: Header, transfer: &[u8]) -> bool
     ensures { result ≡ header_is board transfer.now }
 {
-    if wire::byte(transfer, 0) != board.stid {
-        return false;
-    }
-    if wire::byte(transfer, 1) != board.ivid {
-        return false;
-    }
-    wire::byte(transfer, 3) == board.bid
+    wire::byte(transfer, 0) == board.stid
+        && wire::byte(transfer, 1) == board.ivid
+        && wire::byte(transfer, 3) == board.bid
+}
+
+// A row of the table without a key.
+fn plain(name: Name, needed: usize) -> Option<Listed>
+    ensures { result ≡ Some (plain name needed) }
+{
+    Some(Listed {
+        name,
+        needed,
+        key: None,
+    })
+}
+
+// A row of the table with a key.
+fn keyed(name: Name, needed: usize, key: u8) -> Option<Listed>
+    ensures { result ≡ Some (keyed name needed key) }
+{
+    Some(Listed {
+        name,
+        needed,
+        key: Some(key),
+    })
 }
 
 // What the table of commands says of a code.
-fn listed_as(code: u8) -> Listed
+#[tactic(auto, unfolding(crate::specs::Table::command_table, crate::specs::Table::find))]
+fn listed_as(code: u8) -> Option<Listed>
     ensures { result ≡ find command_table code }
 {
     match code {
-        0xAA => Listed::Keyed(Name::SystemReset, 5, 0xA6),
-        0x02 => Listed::Plain(Name::NoOperation, 4),
-        0x04 => Listed::Plain(Name::CancelOperation, 4),
-        0x06 => Listed::Plain(Name::Watchdog, 4),
-        0x10 => Listed::Plain(Name::GroupOn, 6),
-        0x12 => Listed::Plain(Name::GroupOff, 6),
-        0x14 => Listed::Plain(Name::GroupState, 6),
-        0x16 => Listed::Plain(Name::ChannelOn, 5),
-        0x18 => Listed::Plain(Name::ChannelOff, 5),
-        0x30 => Listed::Plain(Name::SwitchToNominal, 4),
-        0x32 => Listed::Plain(Name::SwitchToSafety, 4),
-        0x42 => Listed::Plain(Name::GetOvercurrentFaultState, 4),
-        0x50 => Listed::Plain(Name::GetHousekeeping, 4),
-        0x82 => Listed::Plain(Name::GetParameter, 6),
-        0x84 => Listed::Plain(Name::SetParameter, 6),
-        0x86 => Listed::Plain(Name::ResetParameter, 6),
-        0x90 => Listed::Keyed(Name::ResetConfiguration, 5, 0xA7),
-        0x92 => Listed::Keyed(Name::LoadConfiguration, 5, 0xA7),
-        0x94 => Listed::Keyed(Name::SaveConfiguration, 7, 0xA7),
-        0x52 => Listed::Plain(Name::GetEngineeringHousekeeping, 4),
-        0x44 => Listed::Plain(Name::GetAbfPlacedState, 4),
-        0x60 => Listed::Plain(Name::GetBatteryHousekeeping, 4),
-        0x62 => Listed::Plain(Name::GetEngineeringBatteryHousekeeping, 4),
-        _ => Listed::Missing,
+        0xAA => keyed(Name::SystemReset, 5, 0xA6),
+        0x02 => plain(Name::NoOperation, 4),
+        0x04 => plain(Name::CancelOperation, 4),
+        0x06 => plain(Name::Watchdog, 4),
+        0x10 => plain(Name::GroupOn, 6),
+        0x12 => plain(Name::GroupOff, 6),
+        0x14 => plain(Name::GroupState, 6),
+        0x16 => plain(Name::ChannelOn, 5),
+        0x18 => plain(Name::ChannelOff, 5),
+        0x30 => plain(Name::SwitchToNominal, 4),
+        0x32 => plain(Name::SwitchToSafety, 4),
+        0x42 => plain(Name::GetOvercurrentFaultState, 4),
+        0x50 => plain(Name::GetHousekeeping, 4),
+        0x82 => plain(Name::GetParameter, 6),
+        0x84 => plain(Name::SetParameter, 6),
+        0x86 => plain(Name::ResetParameter, 6),
+        0x90 => keyed(Name::ResetConfiguration, 5, 0xA7),
+        0x92 => keyed(Name::LoadConfiguration, 5, 0xA7),
+        0x94 => keyed(Name::SaveConfiguration, 7, 0xA7),
+        0x52 => plain(Name::GetEngineeringHousekeeping, 4),
+        0x44 => plain(Name::GetAbfPlacedState, 4),
+        0x60 => plain(Name::GetBatteryHousekeeping, 4),
+        0x62 => plain(Name::GetEngineeringBatteryHousekeeping, 4),
+        _ => None,
     }
 }
 
 // The channels that a group command names; of the extended mask both bytes count, or none.
+#[tactic(auto, unfolding(crate::specs::Decode::group_in))]
 fn group_in(transfer: &[u8]) -> Group
     ensures { result ≡ group_in transfer.now }
 {
@@ -194,50 +228,45 @@ fn group_in(transfer: &[u8]) -> Group
 }
 
 // A get of a parameter, which may be read-only.
+#[tactic(auto, unfolding(crate::specs::Decode::getting))]
 fn get(id: u16) -> Result<Command, Refusal>
     ensures { result ≡ getting id }
 {
     match settings::parameter_of(id) {
-        Parameter::ReadWrite(_) => Ok(Command::Report(Layout::Parameter(id))),
-        Parameter::ReadOnly(_) => Ok(Command::Report(Layout::Parameter(id))),
+        Parameter::ReadWrite(_) | Parameter::ReadOnly(_) => {
+            Ok(Command::Report(Layout::Parameter(id)))
+        }
         Parameter::Unknown => Err(Refusal::WrongParameter),
-    }
-}
-
-// A set of a parameter to what was read of its value.
-fn set_to(id: u16, value: Result<ParamValue, ValueRefusal>) -> Result<Command, Refusal>
-    ensures { result ≡ valued id value }
-{
-    match value {
-        Ok(v) => Ok(Command::SetParameter(id, v)),
-        Err(ValueRefusal::TooShort) => Err(Refusal::TooShort),
-        Err(ValueRefusal::NotANumber) => Err(Refusal::NotANumber),
     }
 }
 
 // A set of a parameter: its id is looked at before the bytes of its value are.
+#[tactic(auto, unfolding(crate::specs::Decode::setting, crate::specs::Decode::valued, crate::specs::Decode::value_part))]
 fn set(id: u16, transfer: &[u8]) -> Result<Command, Refusal>
     ensures { result ≡ setting id transfer.now }
 {
     match settings::parameter_of(id) {
-        Parameter::ReadWrite(t) => set_to(id, value::read(t, wire::rest(transfer, 6))),
-        Parameter::ReadOnly(_) => Err(Refusal::WrongParameter),
-        Parameter::Unknown => Err(Refusal::WrongParameter),
+        Parameter::ReadWrite(t) => {
+            let value = value::read(t, wire::rest(transfer, 6))?;
+            Ok(Command::SetParameter(id, value))
+        }
+        Parameter::ReadOnly(_) | Parameter::Unknown => Err(Refusal::WrongParameter),
     }
 }
 
 // A reset of one parameter.
+#[tactic(auto, unfolding(crate::specs::Decode::resetting))]
 fn reset(id: u16) -> Result<Command, Refusal>
     ensures { result ≡ resetting id }
 {
     match settings::parameter_of(id) {
         Parameter::ReadWrite(_) => Ok(Command::ResetParameter(id)),
-        Parameter::ReadOnly(_) => Err(Refusal::WrongParameter),
-        Parameter::Unknown => Err(Refusal::WrongParameter),
+        Parameter::ReadOnly(_) | Parameter::Unknown => Err(Refusal::WrongParameter),
     }
 }
 
 // A command of a name with what its bytes carry.
+#[tactic(auto, unfolding(crate::specs::Decode::carried))]
 fn carried(name: Name, transfer: &[u8]) -> Result<Command, Refusal>
     ensures { result ≡ carried name transfer.now }
 {
@@ -260,12 +289,8 @@ fn carried(name: Name, transfer: &[u8]) -> Result<Command, Refusal>
         Name::ResetParameter => reset(u16::read_at(transfer, 4)),
         Name::ResetConfiguration => Ok(Command::ResetConfiguration),
         Name::LoadConfiguration => Ok(Command::LoadConfiguration),
-        Name::SaveConfiguration => Ok(Command::SaveConfiguration(u16::read_at(
-            transfer, 5,
-        ))),
-        Name::GetEngineeringHousekeeping => Ok(Command::Report(
-            Layout::EngineeringHousekeeping,
-        )),
+        Name::SaveConfiguration => Ok(Command::SaveConfiguration(u16::read_at(transfer, 5))),
+        Name::GetEngineeringHousekeeping => Ok(Command::Report(Layout::EngineeringHousekeeping)),
         Name::GetAbfPlacedState => Ok(Command::Report(Layout::AbfPlacedState)),
         Name::GetBatteryHousekeeping => Ok(Command::Report(Layout::BatteryHousekeeping)),
         Name::GetEngineeringBatteryHousekeeping => Ok(Command::Report(
@@ -274,29 +299,30 @@ fn carried(name: Name, transfer: &[u8]) -> Result<Command, Refusal>
     }
 }
 
+// Whether a transfer's key is not the one that its command has.
+fn key_differs(key: Option<u8>, transfer: &[u8]) -> bool
+    ensures { result ≡ key_differs key transfer.now }
+{
+    match key {
+        Some(key) => wire::byte(transfer, 4) != key,
+        None => false,
+    }
+}
+
 // A command as the table has it: long enough, with its key, and then what it carries. A code that has no row is not
 // listed; no list of a kind has one.
-fn by_list(entry: Listed, transfer: &[u8]) -> Result<Command, Refusal>
+#[tactic(auto, unfolding(crate::specs::Decode::listed))]
+fn by_list(entry: Option<Listed>, transfer: &[u8]) -> Result<Command, Refusal>
     ensures { result ≡ listed entry transfer.now }
 {
-    match entry {
-        Listed::Plain(name, needed) => {
-            if transfer.len() < needed {
-                return Err(Refusal::TooShort);
-            }
-            carried(name, transfer)
-        }
-        Listed::Keyed(name, needed, key) => {
-            if transfer.len() < needed {
-                return Err(Refusal::TooShort);
-            }
-            if wire::byte(transfer, 4) != key {
-                return Err(Refusal::WrongKey);
-            }
-            carried(name, transfer)
-        }
-        Listed::Missing => Err(Refusal::CodeNotListed),
+    let row = entry.ok_or(Refusal::CodeNotListed)?;
+    if transfer.len() < row.needed {
+        return Err(Refusal::TooShort);
     }
+    if key_differs(row.key, transfer) {
+        return Err(Refusal::WrongKey);
+    }
+    carried(row.name, transfer)
 }
 
 // What a transfer is to a board of a kind and a BID that is in startup or not: the first check that applies answers.
