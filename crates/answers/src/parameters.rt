@@ -12,12 +12,7 @@ use value::ValueBytes;
 pub fn cause_number(cause: Cause) -> u64
     ensures { result ≡ cause_number cause }
 {
-    match cause {
-        Cause::PowerOn => 0,
-        Cause::Watchdog => 1,
-        Cause::Commanded => 2,
-        Cause::Emergency => 4,
-    }
+    cause as u64
 }
 
 // The number that a read-only parameter reads: what the rule that names it speaks of, and 0 where no rule does.

@@ -23,6 +23,7 @@ fn outcome_number(outcome: Outcome) -> u16
 }
 
 // What the digest takes in of what a tick told.
+// Kept: `replied` says of no value beside it whether it is there, but counts itself.
 pub fn told(outcome: Outcome, event: Event, replied: bool) -> u64
     ensures { result ≡ told_by outcome event replied }
 {

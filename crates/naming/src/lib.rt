@@ -10,6 +10,8 @@ use watchdog::Event;
 use wire::Form;
 
 // The letter of a mode.
+// Kept: a letter for each case is plainest as a `match`; a `From` would have to stand in the type's own crate, which
+// knows nothing of lines.
 pub fn mode_letter(mode: Mode) -> u8
     ensures { result ≡ mode_letter mode }
 {
@@ -22,6 +24,8 @@ pub fn mode_letter(mode: Mode) -> u8
 }
 
 // The letter of what the watchdog did.
+// Kept: a letter for each case is plainest as a `match`; a `From` would have to stand in the type's own crate, which
+// knows nothing of lines.
 pub fn event_letter(event: Event) -> u8
     ensures { result ≡ event_letter event }
 {
@@ -40,6 +44,8 @@ pub fn answer_digit(answer: Answer) -> u8
 }
 
 // The letter of the text line's form.
+// Kept: a letter for each case is plainest as a `match`; a `From` would have to stand in the type's own crate, which
+// knows nothing of lines.
 pub fn form_letter(form: Form) -> u8
     ensures { result ≡ form_letter form }
 {

@@ -54,9 +54,8 @@ pub fn digest_of(run: Run) -> u32 {
         let mut told = 0;
         if !matches!(b.kind, TickKind::NoTick) {
             let sent = b.transfer.as_ref().map(Transfer::sent);
-            pattern::change(&mut words, b.kind, b.drawn);
-            let lent = pattern::lent(&words, b.kind);
-            let t = unit::tick(m, b.rail, b.named, lent, sent);
+            b.change(&mut words);
+            let t = unit::tick(m, b.rail, b.named, b.lent(&words), sent);
             m = t.machine;
             told = digest::told(t.outcome, t.event, t.replied);
         }

@@ -18,6 +18,7 @@ pub enum TickKind {
 }
 
 // The kinds of the ticks of a run: all of one, or the mix of them.
+// Kept: no Option, as the mix is a way to run of its own and not the lack of a kind.
 #[derive(Clone, Copy)]
 pub enum RunKind {
     Each(TickKind),

@@ -7,6 +7,7 @@ use crate::kind::{RunKind, TickKind};
 use kinds::Kind;
 
 // A transfer: its bytes, of which `length` are sent.
+// Kept: an array with a length beside it, as the project has no heap; `sent` is what others see of it.
 #[derive(Clone, Copy)]
 pub struct Transfer {
     length: usize,
@@ -114,16 +115,6 @@ fn kind_at(kinds: RunKind, turn: u64) -> TickKind
     }
 }
 
-// The channels that a tick names.
-fn named(kind: TickKind, drawn: u16) -> u32
-    ensures { result ≡ named_of kind drawn }
-{
-    match kind {
-        TickKind::Overcurrent => drawn as u32 * 65537,
-        _ => 0,
-    }
-}
-
 // A transfer to the board of so many bytes, with a code and four bytes behind its head.
 fn framed(length: usize, code: u8, behind: [u8; 4]) -> Transfer
     ensures { result ≡ framed_of length code behind }
@@ -133,24 +124,36 @@ fn framed(length: usize, code: u8, behind: [u8; 4]) -> Transfer
     Transfer { length, bytes }
 }
 
-// The transfer of a tick, where it brings one.
-fn transfer_of(kind: TickKind, drawn: u16) -> Option<Transfer>
-    ensures { result ≡ laid_of (transfer_of kind drawn) }
-{
-    let [low, high] = drawn.to_le_bytes();
-    let transfer = match kind {
-        TickKind::Noop => framed(4, 0x02, [0; 4]),
-        TickKind::OvercurrentState => framed(4, 0x42, [0; 4]),
-        TickKind::Housekeeping => framed(4, 0x50, [0; 4]),
-        TickKind::Get => framed(6, 0x82, [(drawn % 68) as u8, 0x40, 0, 0]),
-        TickKind::Set => framed(8, 0x84, [(1 + drawn % 64) as u8, 0x40, low, high]),
-        TickKind::Group => {
-            let code = if drawn % 2 == 0 { 0x10 } else { 0x14 };
-            framed(8, code, [low, high, low, high])
+impl TickKind {
+    // The channels that a tick of the kind names.
+    fn named(self, drawn: u16) -> u32
+        ensures { result ≡ named_of self drawn }
+    {
+        match self {
+            TickKind::Overcurrent => drawn as u32 * 65537,
+            _ => 0,
         }
-        _ => return None,
-    };
-    Some(transfer)
+    }
+
+    // The transfer of a tick of the kind, where it brings one.
+    fn transfer(self, drawn: u16) -> Option<Transfer>
+        ensures { result ≡ laid_of (transfer_of self drawn) }
+    {
+        let [low, high] = drawn.to_le_bytes();
+        let transfer = match self {
+            TickKind::Noop => framed(4, 0x02, [0; 4]),
+            TickKind::OvercurrentState => framed(4, 0x42, [0; 4]),
+            TickKind::Housekeeping => framed(4, 0x50, [0; 4]),
+            TickKind::Get => framed(6, 0x82, [(drawn % 68) as u8, 0x40, 0, 0]),
+            TickKind::Set => framed(8, 0x84, [(1 + drawn % 64) as u8, 0x40, low, high]),
+            TickKind::Group => {
+                let code = if drawn % 2 == 0 { 0x10 } else { 0x14 };
+                framed(8, code, [low, high, low, high])
+            }
+            _ => return None,
+        };
+        Some(transfer)
+    }
 }
 
 // The kind of a turn's tick in a run of some kinds and what it brings, where x was drawn last.
@@ -162,11 +165,11 @@ pub fn brought_by(kinds: RunKind, turn: u64, x: u64) -> Brought
     let kind = kind_at(kinds, turn);
     Brought {
         x,
-        named: named(kind, drawn),
+        named: kind.named(drawn),
         drawn,
         rail: (15000 + drawn % 1000) as i16,
         kind,
-        transfer: transfer_of(kind, drawn),
+        transfer: kind.transfer(drawn),
     }
 }
 
@@ -184,15 +187,6 @@ fn word_count() -> usize
     kinds::word_count(Kind::Distribution)
 }
 
-// The words as a tick lends them: where it lends any, one of them has become the draw.
-pub fn change(words: &mut [u16; 130], kind: TickKind, drawn: u16)
-    ensures { words.new ≡ changed_of kind drawn words.old }
-{
-    if let TickKind::Words = kind {
-        words[drawn as usize % word_count()] = drawn;
-    }
-}
-
 // The words that the board has, of a room for words.
 pub fn counted(words: &[u16]) -> &[u16]
     ensures { result.now ≡ take word_count words.now }
@@ -200,12 +194,23 @@ pub fn counted(words: &[u16]) -> &[u16]
     wire::first(words, word_count())
 }
 
-// The words that a tick lends: all of the board or none, by its kind.
-pub fn lent(words: &[u16; 130], kind: TickKind) -> &[u16]
-    ensures { result.now ≡ lent_of kind words.now }
-{
-    match kind {
-        TickKind::Words => counted(words),
-        _ => &[],
+impl Brought {
+    // The words as the tick lends them: where it lends any, one of them has become the draw.
+    pub fn change(&self, words: &mut [u16; 130])
+        ensures { words.new ≡ changed_of self.now.kind self.now.drawn words.old }
+    {
+        if let TickKind::Words = self.kind {
+            words[self.drawn as usize % word_count()] = self.drawn;
+        }
+    }
+
+    // The words that the tick lends: all of the board or none.
+    pub fn lent<'a>(&self, words: &'a [u16; 130]) -> &'a [u16]
+        ensures { result.now ≡ lent_of self.now.kind words.now }
+    {
+        match self.kind {
+            TickKind::Words => counted(words),
+            _ => &[],
+        }
     }
 }

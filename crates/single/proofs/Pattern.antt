@@ -13,9 +13,9 @@ use Rattle.pattern.proofs.place.Reads as place
 use Rattle.pattern.proofs.Transfer.sent.Reads as sent
 use Rattle.pattern.proofs.brought_by.Reads as brought_by
 use Rattle.pattern.proofs.first_words.Reads as first_words
-use Rattle.pattern.proofs.change.Reads as change
+use Rattle.pattern.proofs.Brought.change.Reads as change
 use Rattle.pattern.proofs.counted.Reads as counted
-use Rattle.pattern.proofs.lent.Reads as lent
+use Rattle.pattern.proofs.Brought.lent.Reads as lent
 
 pub single_taken : Single taken.Post (λ κ r s. r)
 single_taken κ a r r' s s' p q = p ∙ sym q
@@ -50,7 +50,7 @@ single_brought_by κ a r r' s s' p q = p ∙ sym q
 pub single_first_words : Single first_words.Post (λ κ r s. r)
 single_first_words κ a r r' s s' p q = p ∙ sym q
 
-pub held_change : Single change.Post (λ κ r s. s.0.now)
+pub held_change : Single change.Post (λ κ r s. s.1.0.now)
 held_change κ a r r' s s' p q = p ∙ sym q
 
 pub single_counted : Single counted.Post (λ κ r s. r.now)

@@ -20,13 +20,13 @@ pub struct Profile {
     pub form: Form,
 }
 
-// Why a board last started over, or that it left emergency since.
+// Why a board last started over, or that it left emergency since; each with the number that 0x4803 shows.
 #[derive(Clone, Copy)]
 pub enum Cause {
-    PowerOn,
-    Watchdog,
-    Commanded,
-    Emergency,
+    PowerOn = 0,
+    Watchdog = 1,
+    Commanded = 2,
+    Emergency = 4,
 }
 
 // How often each kind of reset happened, and the cause of the latest.
