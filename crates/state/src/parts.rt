@@ -52,6 +52,7 @@ pub struct Measured {
     pub fresh: Fresh,
 }
 
+// All that a board keeps from one tick to the next.
 #[derive(Clone, Copy)]
 pub struct Board {
     pub phase: ModeAge,
@@ -69,12 +70,11 @@ pub struct Board {
 pub fn distribution(bid: u8, fitted: u32, forced: u32) -> Profile
     ensures { result ≡ distribution_board bid fitted forced }
 {
-    let kind = Kind::Distribution;
     Profile {
         fitted,
         forced,
         bid,
-        kind,
+        kind: Kind::Distribution,
         form: Form::Ascii,
     }
 }
@@ -83,12 +83,11 @@ pub fn distribution(bid: u8, fitted: u32, forced: u32) -> Profile
 pub fn battery(bid: u8, abf: bool) -> Profile
     ensures { result ≡ battery_board bid abf }
 {
-    let kind = Kind::Battery { abf };
     Profile {
         fitted: 0,
         forced: 0,
         bid,
-        kind,
+        kind: Kind::Battery { abf },
         form: Form::Ascii,
     }
 }
@@ -97,13 +96,9 @@ pub fn battery(bid: u8, abf: bool) -> Profile
 pub fn naming_raw(profile: Profile) -> Profile
     ensures { result ≡ naming_raw profile }
 {
-    let kind = profile.kind;
     Profile {
-        fitted: profile.fitted,
-        forced: profile.forced,
-        bid: profile.bid,
-        kind,
         form: Form::Raw,
+        ..profile
     }
 }
 
@@ -112,30 +107,12 @@ pub fn naming_raw(profile: Profile) -> Profile
 pub fn read(b: Board, out: &mut [u8])
     ensures { out.new ≡ found b.reply (length out.old) }
 {
-    let reply = b.reply;
-    reply.fill(out);
+    b.reply.fill(out);
 }
 
 // The board with its text line in a form.
 pub fn with_form(b: Board, form: Form) -> Board
     ensures { result ≡ with_form form b }
 {
-    let phase = b.phase;
-    let reply = b.reply;
-    let memory = b.memory;
-    let channels = b.channels;
-    let profile = b.profile;
-    let measured = b.measured;
-    let resets = b.resets;
-    Board {
-        phase,
-        timer: b.timer,
-        reply,
-        memory,
-        channels,
-        profile,
-        measured,
-        resets,
-        form,
-    }
+    Board { form, ..b }
 }

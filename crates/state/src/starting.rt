@@ -22,6 +22,7 @@ pub struct Started {
 }
 
 // The counts and the cause of a board that was just started.
+#[tactic(auto, unfolding(crate::specs::Start::never_reset))]
 fn never_reset() -> Resets
     ensures { result ≡ never_reset }
 {
@@ -34,70 +35,55 @@ fn never_reset() -> Resets
 }
 
 // A board in startup, which holds nothing from before but its profile, its store and its resets.
+#[tactic(auto, unfolding(crate::specs::Start::fresh_of))]
 fn fresh(profile: Profile, store: Option<Stored>, resets: Resets) -> Board
     ensures { result ≡ fresh_of profile store resets }
 {
-    let phase = ModeAge::start();
-    let reply = Reply::none();
-    let form = profile.form;
-    let kind = profile.kind;
-    let memory = Memory::loaded(kind, store);
-    let channels = Channels::clear();
-    let measured = Measured {
-        words: readings::none_measured(),
-        fresh: Fresh {
-            raw: false,
-            engineering: false,
-        },
-    };
     Board {
-        phase,
+        phase: ModeAge::start(),
         timer: 0,
-        reply,
-        memory,
-        channels,
+        reply: Reply::none(),
+        memory: Memory::loaded(profile.kind, store),
+        channels: Channels::clear(),
         profile,
-        measured,
+        measured: Measured {
+            words: readings::none_measured(),
+            fresh: Fresh {
+                raw: false,
+                engineering: false,
+            },
+        },
         resets,
-        form,
+        form: profile.form,
     }
 }
 
 // Whether the BID of a profile is one of its kind's.
+#[tactic(auto, unfolding(crate::specs::Start::bid_in_range))]
 fn bid_in_range(profile: Profile) -> bool
     ensures { result ≡ bid_in_range profile }
 {
-    if profile.bid < 1 {
-        return false;
-    }
-    let kind = profile.kind;
-    profile.bid <= kinds::last_bid(kind)
+    1 <= profile.bid && profile.bid <= kinds::last_bid(profile.kind)
 }
 
 // Whether at least one channel is fitted, on a board that has a place for any.
+#[tactic(auto, unfolding(crate::specs::Start::any_fitted))]
 fn any_fitted(places: u32, fitted: u32) -> bool
     ensures { result ≡ any_fitted places fitted }
 {
-    if places == 0 {
-        return true;
-    }
-    fitted != 0
+    places == 0 || fitted != 0
 }
 
 // Whether the channels of a profile are as its kind of board allows: at least one is fitted where any can be, each
 // fitted one has a place, and each force-enabled one is fitted.
+#[tactic(auto, unfolding(crate::specs::Start::channels_in_place))]
 fn channels_in_place(profile: Profile) -> bool
     ensures { result ≡ channels_in_place profile }
 {
-    let kind = profile.kind;
-    let places = kinds::places(kind);
-    if !any_fitted(places, profile.fitted) {
-        return false;
-    }
-    if !channels::within(profile.fitted, places) {
-        return false;
-    }
-    channels::within(profile.forced, profile.fitted)
+    let places = kinds::places(profile.kind);
+    any_fitted(places, profile.fitted)
+        && channels::within(profile.fitted, places)
+        && channels::within(profile.forced, profile.fitted)
 }
 
 // Whether the values that are stored, if any are, lie in range.
@@ -111,23 +97,18 @@ fn stored_in_range(store: Option<Stored>) -> bool
 }
 
 // Whether a profile, with what is stored, keeps the rules of a profile.
+#[tactic(auto, unfolding(crate::specs::Start::keeps_the_rules))]
 fn keeps_the_rules(profile: Profile, store: Option<Stored>) -> bool
     ensures { result ≡ keeps_the_rules profile store }
 {
-    let kind = profile.kind;
-    if !kinds::is_served(kind) {
-        return false;
-    }
-    if !bid_in_range(profile) {
-        return false;
-    }
-    if !channels_in_place(profile) {
-        return false;
-    }
-    stored_in_range(store)
+    kinds::is_served(profile.kind)
+        && bid_in_range(profile)
+        && channels_in_place(profile)
+        && stored_in_range(store)
 }
 
 // A board to stand where none was started yet: its profile has no channel and the BID 0, and would not be accepted.
+#[tactic(auto, unfolding(crate::specs::Start::unstarted_board, memory::specs::Memory::empty_store))]
 pub fn unstarted() -> Board
     ensures { result ≡ unstarted_board }
 {
@@ -140,9 +121,8 @@ pub fn start(there: Board, profile: Profile, store: Option<Stored>) -> Started
     ensures number { start_number result.answer ≡ cond (keeps_the_rules profile store) 0 8 }
 {
     if keeps_the_rules(profile, store) {
-        let board = fresh(profile, store, never_reset());
         return Started {
-            board,
+            board: fresh(profile, store, never_reset()),
             answer: Ok(()),
         };
     }
@@ -153,41 +133,41 @@ pub fn start(there: Board, profile: Profile, store: Option<Stored>) -> Started
 }
 
 // The counts and the cause after a reset by the watchdog.
+#[tactic(auto, unfolding(crate::specs::Start::by_watchdog))]
 fn by_watchdog(r: Resets) -> Resets
     ensures { result ≡ by_watchdog r }
 {
     Resets {
-        power: r.power,
         watchdog: memory::one_more(r.watchdog),
-        command: r.command,
         cause: Cause::Watchdog,
+        ..r
     }
 }
 
 // The counts and the cause after a reset by command.
+#[tactic(auto, unfolding(crate::specs::Start::by_command))]
 fn by_command(r: Resets) -> Resets
     ensures { result ≡ by_command r }
 {
     Resets {
-        power: r.power,
-        watchdog: r.watchdog,
         command: memory::one_more(r.command),
         cause: Cause::Commanded,
+        ..r
     }
 }
 
 // The board after its watchdog reset it.
+#[tactic(auto, unfolding(crate::specs::Start::watchdog_reset_of))]
 pub fn watchdog_reset(b: Board) -> Board
     ensures { result ≡ watchdog_reset_of b }
 {
-    let m = b.memory;
-    fresh(b.profile, m.store, by_watchdog(b.resets))
+    fresh(b.profile, b.memory.store, by_watchdog(b.resets))
 }
 
 // The board after 0xAA reset it.
+#[tactic(auto, unfolding(crate::specs::Start::command_reset_of))]
 pub fn command_reset(b: Board) -> Board
     ensures { result ≡ command_reset_of b }
 {
-    let m = b.memory;
-    fresh(b.profile, m.store, by_command(b.resets))
+    fresh(b.profile, b.memory.store, by_command(b.resets))
 }

@@ -7,7 +7,7 @@ use Rattle.state.proofs.starting.start.Goals as goal
 
 pub returns-then-keeps_the_rules-clause-value : goal.returns-then-keeps_the_rules-clause-value
 unfolding start_of
-returns-then-keeps_the_rules-clause-value c = rw (sym c.keeps_the_rules.ensures ∙ c.if-keeps_the_rules.true, c.fresh-board.ensures, c.never_reset.ensures)
+returns-then-keeps_the_rules-clause-value c = rw (sym c.keeps_the_rules.ensures ∙ c.if-keeps_the_rules.true, c.fresh.ensures, c.never_reset.ensures)
 
 pub returns-clause-value : goal.returns-clause-value
 unfolding start_of
