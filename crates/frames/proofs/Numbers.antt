@@ -7,11 +7,11 @@ use native.Mathlib.Omega.{arith}
 use lib.ListN.{drop}
 use lib.Seq.{drop-drop}
 use Rattle.laws.proofs.Cases.{cases}
+use Rattle.std.specs.Prelude.{Option, Some, None}
 use Rattle.frames.specs.Frames.{starts_with, opening_tag, closing_tag, frame_of}
 use Rattle.frames.specs.First.{StandsAt, Complete}
 use Rattle.frames.specs.Answers.{frame_number, holds, has_frame, scan_number}
 use Rattle.frames.specs.declared.Frame.{Frame}
-use Rattle.frames.specs.declared.Frame.TheVariants.{Found, NotThere}
 use Rattle.frames.proofs.Search.{found_frame, not_there_lem}
 
 holds_at : (tag s : List ℕ) (k : ℕ) → starts_with tag (drop k s) ≡ true → holds tag s ≡ true
@@ -69,13 +69,8 @@ pub scan_number_lem : (s : List ℕ) → frame_number (frame_of s) ≡ scan_numb
 unfolding StandsAt
 scan_number_lem s = go (frame_of s) refl
   where
-    go : (f : Frame) → frame_of s ≡ f → frame_number f ≡ scan_number s
-    go (Found start end behind) e =
-        let f = found_frame s start end behind e in
-        rw (complete_has s f.opening end f.opened.here f.closed.here (omega (arith, f.begins, f.closed.after)))
-    go NotThere e = cases (has_frame s) (λ t. absurd (not_there_lem s e (has_complete s t))) (λ f. rw f)
-
--- ---- an answer that is its definition's has the number too
-module _ {H : Type 0} where
-  pub with_scan_number : {r : Frame} (s : List ℕ) → (r ≡ frame_of s) × H → (r ≡ frame_of s) × (H × (frame_number r ≡ scan_number s))
-  with_scan_number s p = (p.0, (p.1, ap frame_number p.0 ∙ scan_number_lem s))
+    go : (o : Option Frame) → frame_of s ≡ o → frame_number o ≡ scan_number s
+    go (Some f) e =
+        let w = found_frame s f.start f.end f.behind e in
+        rw (complete_has s w.opening f.end w.opened.here w.closed.here (omega (arith, w.begins, w.closed.after)))
+    go None e = cases (has_frame s) (λ t. absurd (not_there_lem s e (has_complete s t))) (λ f. rw f)

@@ -3,16 +3,15 @@
 use Prim.Native.Nat.{ℕ, ◌+◌, ◌≤◌, ◌<◌}
 use mathlib.Core.Path.{◌≡◌, refl, ap, sym, ◌∙◌}
 use mathlib.Core.Bool.{Bool, true, false, ◌&&◌, and-false}
-use mathlib.Core.Option.{Option, none, some}
+use Rattle.std.specs.Prelude.{Option, Some, None}
 use mathlib.Core.List.{List, [], ◌∷◌}
 use native.Mathlib.Omega.{arith}
 use lib.Dec.{eqb}
 use lib.ListN.{length, drop, get_or, length-drop}
 use borrow.Author.Tests.{eq-eqb, ne_eqb}
 use Rattle.laws.proofs.Lists.{drop_step, drop_end}
-use Rattle.frames.specs.Frames.{starts_with, first_at, place_of, opening_tag, closing_tag, opened_at, closed_at, frame_of}
-use Rattle.frames.specs.declared.Place.TheVariants.{At, Nowhere}
-use Rattle.frames.specs.declared.Frame.TheVariants.{Found, NotThere}
+use Rattle.frames.specs.declared.Place.{Place}
+use Rattle.frames.specs.Frames.{starts_with, first_at, place_of, opening_tag, closing_tag, opened_at, closed_at, frame_of, found, stands}
 
 -- ---- a turn over the tag's bytes
 module _ (tag s : List ℕ) (k j : ℕ) where
@@ -35,20 +34,20 @@ starts_short [] l h = absurd (omega arith)
 starts_short (t ∷ ts) [] h = refl
 starts_short (t ∷ ts) (x ∷ l) h = ap (λ (b : Bool). eqb x t && b) (starts_short ts l (omega arith)) ∙ and-false (eqb x t)
 
-first_short : (tag : List ℕ) (i : ℕ) (l : List ℕ) → length l < length tag → first_at tag i l ≡ none
+first_short : (tag : List ℕ) (i : ℕ) (l : List ℕ) → length l < length tag → first_at tag i l ≡ None
 unfolding first_at
 first_short tag i [] h = rw (starts_short tag [] h)
 first_short tag i (x ∷ l) h = rw (starts_short tag (x ∷ l) h) (first_short tag (i + 1) l (omega arith))
 
 module _ (tag s : List ℕ) (i : ℕ) where
-  pub first_none : length s < i + length tag → i ≤ length s → first_at tag i (drop i s) ≡ none
+  pub first_none : length s < i + length tag → i ≤ length s → first_at tag i (drop i s) ≡ None
   first_none h g = first_short tag i (drop i s) (simp length-drop (omega arith))
 
-  pub first_here : starts_with tag (drop i s) ≡ true → first_at tag i (drop i s) ≡ some i
+  pub first_here : starts_with tag (drop i s) ≡ true → first_at tag i (drop i s) ≡ Some i
   unfolding first_at
   first_here e = go (drop i s) e
     where
-      go : (l : List ℕ) → starts_with tag l ≡ true → first_at tag i l ≡ some i
+      go : (l : List ℕ) → starts_with tag l ≡ true → first_at tag i l ≡ Some i
       go [] e = rw e
       go (x ∷ l) e = rw e
 
@@ -59,35 +58,41 @@ module _ (tag s : List ℕ) (i : ℕ) where
       rw (drop_step s i h, f)
 
 -- ---- what a search answers, and what its answer tells
-pub found_at : (tag s : List ℕ) (i behind : ℕ) → behind ≡ i + length tag → starts_with tag (drop i s) ≡ true → At i behind ≡ place_of (length tag) (first_at tag i (drop i s))
+pub found_at : (tag s : List ℕ) (i behind : ℕ) → behind ≡ i + length tag → starts_with tag (drop i s) ≡ true → stands i behind ≡ place_of (length tag) (first_at tag i (drop i s))
 found_at tag s i behind e t = rw (first_here tag s i t, e)
 
-pub known_nowhere : (n : ℕ) (o : Option ℕ) → place_of n o ≡ Nowhere → o ≡ none
-known_nowhere n none e = refl
-known_nowhere n (some i) e = let z : ◌≡◌ {A = ℕ} 0 1 = cc in absurd (omega arith)
+pub known_nowhere : (n : ℕ) (o : Option ℕ) → place_of n o ≡ None → o ≡ None
+known_nowhere n None e = refl
+known_nowhere n (Some i) e = let z : ◌≡◌ {A = ℕ} 0 1 = cc in absurd (omega arith)
 
-pub known_at : (n : ℕ) (o : Option ℕ) (i b : ℕ) → place_of n o ≡ At i b → (o ≡ some i) × (b ≡ i + n)
-known_at n none i b e = let z : ◌≡◌ {A = ℕ} 0 1 = cc in absurd (omega arith)
-known_at n (some j) i b e = let p : j ≡ i = cc in let q : j + n ≡ b = cc in (ap some p, omega arith)
+pub known_at : (n : ℕ) (o : Option ℕ) (p : Place) → place_of n o ≡ Some p → (o ≡ Some p.start) × (p.behind ≡ p.start + n)
+known_at n None p e = let z : ◌≡◌ {A = ℕ} 0 1 = cc in absurd (omega arith)
+known_at n (Some j) p e = let q : ◌≡◌ {A = Place} (record { start = j; behind = j + n }) p = cc in rw (← q) (refl, refl)
 
 -- ---- the three answers of a scan
 module _ (s : List ℕ) where
-  pub unopened : place_of 5 (first_at opening_tag 0 s) ≡ Nowhere → NotThere ≡ frame_of s
+  pub unopened : place_of 5 (first_at opening_tag 0 s) ≡ None → None ≡ frame_of s
   unfolding frame_of
   unopened e = sym (ap (opened_at s) (known_nowhere 5 (first_at opening_tag 0 s) e))
 
-  module _ (i a : ℕ) (o : place_of 5 (first_at opening_tag 0 s) ≡ At i a) where
-    pub unclosed : place_of 6 (first_at closing_tag a (drop a s)) ≡ Nowhere → NotThere ≡ frame_of s
+  module _ (opening : Place) (o : place_of 5 (first_at opening_tag 0 s) ≡ Some opening) where
+    abbrev i : ℕ
+    i = opening.start
+
+    abbrev a : ℕ
+    a = opening.behind
+
+    pub unclosed : place_of 6 (first_at closing_tag a (drop a s)) ≡ None → None ≡ frame_of s
     unfolding frame_of
     unclosed e =
-        let k = known_at 5 (first_at opening_tag 0 s) i a o in
-        let c : first_at closing_tag (i + 5) (drop (i + 5) s) ≡ none = rw k.1 at (known_nowhere 6 (first_at closing_tag a (drop a s)) e) in
+        let k = known_at 5 (first_at opening_tag 0 s) opening o in
+        let c : first_at closing_tag (i + 5) (drop (i + 5) s) ≡ None = rw k.1 at (known_nowhere 6 (first_at closing_tag a (drop a s)) e) in
         sym (ap (opened_at s) k.0 ∙ ap (closed_at (i + 5)) c)
 
-    pub whole : (j b : ℕ) → place_of 6 (first_at closing_tag a (drop a s)) ≡ At j b → Found a j b ≡ frame_of s
+    pub whole : (closing : Place) → place_of 6 (first_at closing_tag a (drop a s)) ≡ Some closing → found a closing.start closing.behind ≡ frame_of s
     unfolding frame_of
-    whole j b e =
-        let k = known_at 5 (first_at opening_tag 0 s) i a o in
-        let m = known_at 6 (first_at closing_tag a (drop a s)) j b e in
-        let c : first_at closing_tag (i + 5) (drop (i + 5) s) ≡ some j = rw k.1 at m.0 in
+    whole closing e =
+        let k = known_at 5 (first_at opening_tag 0 s) opening o in
+        let m = known_at 6 (first_at closing_tag a (drop a s)) closing e in
+        let c : first_at closing_tag (i + 5) (drop (i + 5) s) ≡ Some closing.start = rw k.1 at m.0 in
         rw (k.1, m.1) (sym (ap (opened_at s) k.0 ∙ ap (closed_at (i + 5)) c))

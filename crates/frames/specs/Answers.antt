@@ -1,13 +1,12 @@
 -- Document 01's number for the answer of a scan, and when it is given. 0 stands for an answer that is no refusal.
 -- Assumes nothing: these are definitions.
-use Rattle.std.specs.Prelude.{ℕ, Bool, false, cond, ◌&&◌, ◌||◌, List, [], ◌∷◌, drop}
+use Rattle.std.specs.Prelude.{ℕ, Bool, false, cond, ◌&&◌, ◌||◌, List, [], ◌∷◌, drop, Option, Some, None}
 use Rattle.frames.specs.{Frames.starts_with, Frames.opening_tag, Frames.closing_tag, declared.Frame.Frame}
-use Rattle.frames.specs.declared.Frame.TheVariants.{Found, NotThere}
 
 -- a scan that finds nothing
-abbrev pub frame_number : Frame → ℕ
-frame_number (Found start end behind) = 0
-frame_number NotThere = 10
+abbrev pub frame_number : Option Frame → ℕ
+frame_number (Some frame) = 0
+frame_number None = 10
 
 -- ---- when it is given
 

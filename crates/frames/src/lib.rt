@@ -7,14 +7,15 @@ ghost use Rattle.frames.specs.Answers.{frame_number, scan_number};
 
 // Where a tag stands: it begins at start, and behind is the place after it.
 #[derive(Clone, Copy)]
-pub enum Place {
-    At { start: usize, behind: usize },
-    Nowhere,
+struct Place {
+    start: usize,
+    behind: usize,
 }
 
 // The first place from `from` on at which a tag stands.
+// Kept: document 01 names this form of the scan, a loop over the places, in it one over the tag's bytes, and the label.
 // argued: called by `scan` alone, with a place that it was told
-fn find(s: &[u8], tag: &[u8], from: usize) -> Place
+fn find(s: &[u8], tag: &[u8], from: usize) -> Option<Place>
     requires { from ≤ length s.now }
     ensures is { result ≡ place_of (length tag.now) (first_at tag.now from (drop from s.now)) }
     ensures sits { Sits result from (length s.now) }
@@ -25,7 +26,7 @@ fn find(s: &[u8], tag: &[u8], from: usize) -> Place
     let mut behind = 0;
     'places: loop {
         if n - i < t {
-            return Place::Nowhere;
+            return None;
         }
         let mut k = 0;
         loop {
@@ -40,35 +41,29 @@ fn find(s: &[u8], tag: &[u8], from: usize) -> Place
         }
         i += 1;
     }
-    Place::At { start: i, behind }
+    Some(Place { start: i, behind })
 }
 
 // A frame: its payload is what lies from start up to end, and behind is the place after its closing tag.
 #[derive(Clone, Copy)]
-pub enum Frame {
-    Found {
-        start: usize,
-        end: usize,
-        behind: usize,
-    },
-    NotThere,
+pub struct Frame {
+    pub start: usize,
+    pub end: usize,
+    pub behind: usize,
 }
 
 // The frame in what was received, where there is a complete one.
-pub fn scan(received: &[u8]) -> Frame
+pub fn scan(received: &[u8]) -> Option<Frame>
     ensures is { result ≡ frame_of received.now }
     ensures inside { Inside result (length received.now) }
     ensures number { frame_number result ≡ scan_number received.now }
 {
-    let Place::At {
-        start: _,
-        behind: start,
-    } = find(received, b"<cmd>", 0)
-    else {
-        return Frame::NotThere;
-    };
-    let Place::At { start: end, behind } = find(received, b"</cmd>", start) else {
-        return Frame::NotThere;
-    };
-    Frame::Found { start, end, behind }
+    let opening = find(received, b"<cmd>", 0)?;
+    let start = opening.behind;
+    let closing = find(received, b"</cmd>", start)?;
+    Some(Frame {
+        start,
+        end: closing.start,
+        behind: closing.behind,
+    })
 }

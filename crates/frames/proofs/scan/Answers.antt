@@ -1,30 +1,25 @@
 -- `scan` meets its contract. Assumes nothing.
-use native.Mathlib.Omega.{arith}
-use mathlib.Core.Path.{sym, ◌∙◌}
+use mathlib.Core.Path.{sym, ap, ◌∙◌}
+use Rattle.frames.specs.Answers.{frame_number}
 use Rattle.frames.proofs.Scanning.{unopened, unclosed, whole}
-use Rattle.frames.proofs.Numbers.{with_scan_number}
+use Rattle.frames.proofs.Numbers.{scan_number_lem}
 use Rattle.frames.proofs.scan.Goals as goal
 
-pub returns-in_default : goal.returns-in_default
-returns-in_default c =
-    let s = c.args.received.now in
-    let p = with_scan_number {H = Unit {0}} s (unopened s (sym c.find.ensures.is ∙ c.in_default.is), tt) in
-    record { is = p.0; inside = p.1.0; number = p.1.1 }
+pub returns-in_err-opening-clause-is : goal.returns-in_err-opening-clause-is
+returns-in_err-opening-clause-is c = c.from_residual.ensures ∙ unopened c.args.received.now (sym c.find.ensures.is ∙ c.in_err-opening.was)
 
-pub find-requires-2 : goal.find-requires-2
-find-requires-2 c =
-    let w = rw c.in-At.is at c.find.ensures.sits in
-    omega arith
+pub returns-in_err-opening-clause-number : goal.returns-in_err-opening-clause-number
+returns-in_err-opening-clause-number c = ap frame_number (returns-in_err-opening-clause-is c) ∙ scan_number_lem c.args.received.now
 
-pub returns-in_default-find : goal.returns-in_default-find
-returns-in_default-find c =
-    let s = c.args.received.now in
-    let p = with_scan_number {H = Unit {0}} s (unclosed s _ _ (sym c.find.ensures.is ∙ c.in-At.is) (sym c.find-2.ensures.is ∙ c.in_default-find.is), tt) in
-    record { is = p.0; inside = p.1.0; number = p.1.1 }
+pub returns-in_err-closing-clause-is : goal.returns-in_err-closing-clause-is
+returns-in_err-closing-clause-is c =
+    c.from_residual-in_err-closing.ensures ∙ unclosed c.args.received.now _ (sym c.find.ensures.is ∙ c.in_ok-opening.was) (sym c.find-2.ensures.is ∙ c.in_err-closing.was)
 
-pub returns : goal.returns
-returns c =
-    let w = rw c.in-At-find.is at c.find-2.ensures.sits in
-    let s = c.args.received.now in
-    let p = with_scan_number {H = Unit {0}} s (whole s _ _ (sym c.find.ensures.is ∙ c.in-At.is) _ _ (sym c.find-2.ensures.is ∙ c.in-At-find.is), tt) in
-    record { is = p.0; inside = omega arith; number = p.1.1 }
+pub returns-in_err-closing-clause-number : goal.returns-in_err-closing-clause-number
+returns-in_err-closing-clause-number c = ap frame_number (returns-in_err-closing-clause-is c) ∙ scan_number_lem c.args.received.now
+
+pub returns-clause-is : goal.returns-clause-is
+returns-clause-is c = whole c.args.received.now _ (sym c.find.ensures.is ∙ c.in_ok-opening.was) _ (sym c.find-2.ensures.is ∙ c.in_ok-closing.was)
+
+pub returns-clause-number : goal.returns-clause-number
+returns-clause-number c = ap frame_number (returns-clause-is c) ∙ scan_number_lem c.args.received.now
