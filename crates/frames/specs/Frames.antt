@@ -26,8 +26,11 @@ first_at tag i [] = cond (starts_with tag []) (Some i) None
 first_at tag i (x ∷ s) = cond (starts_with tag (x ∷ s)) (Some i) (first_at tag (i + 1) s)
 
 -- from the opening tag's end, all up to the first closing tag after it; the place behind that tag is told
+abbrev pub lying : ℕ → ℕ → ℕ → Frame
+lying start end behind = record { start = start; end = end; behind = behind }
+
 abbrev pub found : ℕ → ℕ → ℕ → Option Frame
-found start end behind = Some (record { start = start; end = end; behind = behind })
+found start end behind = Some (lying start end behind)
 
 abbrev pub closed_at : ℕ → Option ℕ → Option Frame
 closed_at start None = None

@@ -1,44 +1,42 @@
 -- Document 01's number for each answer of a read and the place that it tells. 0 stands for an answer that is no
 -- refusal. Assumes nothing: these are definitions.
-use Rattle.std.specs.Prelude.{ℕ, Bool, true, false, cond, not, ◌&&◌, ◌||◌}
-use mathlib.Core.{List.List, List.[], Option.Option, Option.none, Option.some}
+use Rattle.std.specs.Prelude.{ℕ, Bool, true, false, cond, not, ◌&&◌, ◌||◌, List, [], Option, Some, None, Ok, Err}
 use lib.{Dec.ltb, ListN.length}
 use Rattle.wire.specs.declared.forms.Form.{Form}
 use Rattle.wire.specs.declared.forms.Form.TheVariants.{Raw, Ascii}
 use Rattle.hexadecimal.specs.{Hex.payload_of, Answers.is_of_form, Answers.bytes_in}
 use Rattle.frames.specs.{Frames.frame_of, Answers.has_frame, declared.Frame.Frame}
-use Rattle.frames.specs.declared.Frame.TheVariants.{Found, NotThere}
-use Rattle.reading.specs.{Lines.part, Lines.switch_text, Lines.same, declared.Line.Line}
-use Rattle.reading.specs.declared.Line.TheVariants.{Command, Switch, NoFrame, TooLong, NotOfForm, ScratchTooShort}
+use Rattle.reading.specs.Lines.{payload_at, Answer, switch_text, same}
+use Rattle.reading.specs.declared.Line.TheVariants.{Command, Switch}
+use Rattle.reading.specs.declared.LineRefusal.TheVariants.{NoFrame, TooLong, NotOfForm, ScratchTooShort}
 
-abbrev pub line_number : Line → ℕ
-line_number (Command start end behind) = 0
-line_number (Switch form behind) = 0
-line_number NoFrame = 10
-line_number (TooLong behind) = 11
-line_number (NotOfForm behind) = 12
-line_number (ScratchTooShort behind) = 13
+abbrev pub line_number : Answer → ℕ
+line_number (Ok line) = 0
+line_number (Err NoFrame) = 10
+line_number (Err (TooLong behind)) = 11
+line_number (Err (NotOfForm behind)) = 12
+line_number (Err (ScratchTooShort behind)) = 13
 
 -- the place behind the closing tag; 10 has none
-abbrev pub line_tells : Line → Option ℕ
-line_tells (Command start end behind) = some behind
-line_tells (Switch form behind) = some behind
-line_tells NoFrame = none
-line_tells (TooLong behind) = some behind
-line_tells (NotOfForm behind) = some behind
-line_tells (ScratchTooShort behind) = some behind
+abbrev pub line_tells : Answer → Option ℕ
+line_tells (Ok (Command start end behind)) = Some behind
+line_tells (Ok (Switch form behind)) = Some behind
+line_tells (Err NoFrame) = None
+line_tells (Err (TooLong behind)) = Some behind
+line_tells (Err (NotOfForm behind)) = Some behind
+line_tells (Err (ScratchTooShort behind)) = Some behind
 
 -- ---- when each number is given
 
 -- the payload: what stands between the tags of the frame
-abbrev pub framed_part : Frame → List ℕ → List ℕ
-framed_part NotThere s = []
-framed_part (Found start end behind) s = part start end s
+abbrev pub framed_part : Option Frame → List ℕ → List ℕ
+framed_part None s = []
+framed_part (Some frame) s = payload_at frame s
 
 -- the place behind the closing tag of the frame; with no frame there is none
-abbrev pub place_behind : Frame → Option ℕ
-place_behind NotThere = none
-place_behind (Found start end behind) = some behind
+abbrev pub place_behind : Option Frame → Option ℕ
+place_behind None = None
+place_behind (Some frame) = Some frame.behind
 
 -- the text of one of the two switches
 abbrev pub is_switch : List ℕ → Bool

@@ -1,27 +1,25 @@
--- The two tests, one after the other. Assumes nothing.
-use borrow.Author.Tests.{not-true}
-use mathlib.Core.Path.{◌≡◌, sym, ◌∙◌}
-use mathlib.Core.Bool.{true, false}
-use Rattle.reading.specs.Lines.{switch_of}
-use borrow.Author.Rules.{rules}
+-- The two texts, one after the other. Assumes nothing.
+use Rattle.wire.specs.declared.forms.Form.TheVariants.{Raw, Ascii}
+use Rattle.reading.specs.Lines.{switch_text, switch_of}
+use Rattle.reading.proofs.Same.{told_same}
 use Rattle.reading.proofs.switch_of.Goals as goal
 
-pub returns-then-is_same : goal.returns-then-is_same
+pub returns-then-eq : goal.returns-then-eq
 unfolding switch_of
-returns-then-is_same c =
-    let raw : c.is_same.result ≡ true = search rules in
-    rw (sym c.is_same.ensures ∙ raw)
+returns-then-eq c = rw (told_same c.args.payload.now (switch_text Raw) c.as_slice.ensures c.eq.ensures c.if-eq.true)
 
-pub returns-then-is_same-2 : goal.returns-then-is_same-2
+pub returns-then-eq-2 : goal.returns-then-eq-2
 unfolding switch_of
-returns-then-is_same-2 c =
-    let raw : c.is_same.result ≡ false = search (not-true, rules) in
-    let ascii : c.is_same-2.result ≡ true = search rules in
-    rw (sym c.is_same.ensures ∙ raw, sym c.is_same-2.ensures ∙ ascii)
+returns-then-eq-2 c =
+    rw (
+      told_same c.args.payload.now (switch_text Raw) c.as_slice.ensures c.eq.ensures c.if-eq.false,
+      told_same c.args.payload.now (switch_text Ascii) c.as_slice-2.ensures c.eq-2.ensures c.if-eq-2.true,
+    )
 
 pub returns : goal.returns
 unfolding switch_of
 returns c =
-    let raw : c.is_same.result ≡ false = search (not-true, rules) in
-    let ascii : c.is_same-2.result ≡ false = search (not-true, rules) in
-    rw (sym c.is_same.ensures ∙ raw, sym c.is_same-2.ensures ∙ ascii)
+    rw (
+      told_same c.args.payload.now (switch_text Raw) c.as_slice.ensures c.eq.ensures c.if-eq.false,
+      told_same c.args.payload.now (switch_text Ascii) c.as_slice-2.ensures c.eq-2.ensures c.if-eq-2.false,
+    )
