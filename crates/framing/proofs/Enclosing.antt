@@ -11,20 +11,18 @@ use lib.Seq.{sets, sets-eq, length-take-le, take-append_seam, drop-append-add, d
 use borrow.Author.Tests.{le-leb, lt-leb}
 use borrow.Rule.Slice.PartMut.{mid_of, put_mid, mid_len, put_same, same_len_mid}
 use Rattle.laws.proofs.Lists.{lt_or_le, sets_front}
-use Rattle.hexadecimal.specs.Hex.{laid, written_of}
+use Rattle.hexadecimal.specs.Hex.{laid}
 use Rattle.std.specs.Prelude.{Result, Ok, Err}
-use Rattle.hexadecimal.specs.declared.WriteRefusal.{WriteRefusal}
-use Rattle.hexadecimal.specs.declared.WriteRefusal.TheVariants.{NoRoom}
-use Rattle.framing.specs.Framing.{reply_tag, reply_end, reply_frame, framed_of, Fits, enclosed_of, enclosed_held}
-use Rattle.framing.specs.declared.Framed.{Framed}
-use Rattle.framing.specs.declared.Framed.TheVariants.{Written, OutputTooShort}
+use Rattle.framing.specs.Framing.{reply_tag, reply_end, reply_frame, framed_of, enclosed_held}
+use Rattle.framing.specs.declared.FrameRefusal.{FrameRefusal}
+use Rattle.framing.specs.declared.FrameRefusal.TheVariants.{OutputTooShort}
 
 -- ---- a text at the front of a buffer: there is the room for it, or there is not
 module _ (text : List ℕ) where
-  pub framed_fits : (room : ℕ) → length text ≤ room → framed_of text room ≡ Written (length text)
+  pub framed_fits : (room : ℕ) → length text ≤ room → framed_of text room ≡ Ok (length text)
   framed_fits room h = rw (le-leb (length text) room h)
 
-  pub framed_short : (room : ℕ) → room < length text → framed_of text room ≡ OutputTooShort
+  pub framed_short : (room : ℕ) → room < length text → framed_of text room ≡ Err OutputTooShort
   framed_short room h = rw (lt-leb (length text) room h)
 
   pub laid_fits : (held : List ℕ) → length text ≤ length held → laid text held ≡ text ++ drop (length text) held
@@ -33,17 +31,11 @@ module _ (text : List ℕ) where
   pub laid_short : (held : List ℕ) → length held < length text → laid text held ≡ held
   laid_short held h = rw (lt-leb (length text) (length held) h)
 
--- what the writing of digits answers, in framing's words
-abbrev pub framed : Result ℕ WriteRefusal → Framed
-framed (Ok n) = Written n
-framed (Err NoRoom) = OutputTooShort
+differ : {X : Type 0} {e : FrameRefusal} {n : ℕ} → ◌≡◌ {A = Result ℕ FrameRefusal} (Err e) (Ok n) → X
+differ e = let z : ◌≡◌ {A = ℕ} 0 1 = cc in absurd (omega arith)
 
-pub framed_digits : (text : List ℕ) (room : ℕ) → framed (written_of text room) ≡ framed_of text room
-framed_digits text room = go (leb (length text) room)
-  where
-    go : (b : Bool) → framed (cond b (Ok (length text)) (Err NoRoom)) ≡ cond b (Written (length text)) OutputTooShort
-    go true = refl
-    go false = refl
+same_length : {n m : ℕ} → ◌≡◌ {A = Result ℕ FrameRefusal} (Ok n) (Ok m) → n ≡ m
+same_length e = cc
 
 -- ---- the tags around a text
 
@@ -94,35 +86,31 @@ module _ (text out : List ℕ) (room : 13 ≤ length out) where
       ∙ sets_behind (reply_tag ++ text) rest reply_end (5 + length text) (omega arith) (omega arith)
       ∙ ap (λ (l : List ℕ). reply_frame text ++ l) end
 
-  -- inner is what the writing between the tags answers, and between then holds written
-  module _ (inner : Framed) (written : List ℕ) (answer : inner ≡ framed_of text (length between)) where
-    pub enclose_fits : length written ≡ length between → Fits inner (length (back written))
-    enclose_fits h =
-        rw (answer, same_len_mid 5 (length out - 8 - 5) out written h)
-        (⊎_elim
-        (λ (l : length between < length text). rw (framed_short text (length between) l) tt)
-        (λ (l : length text ≤ length between). rw (framed_fits text (length between) l) (omega (arith, between_length)))
-        (lt_or_le (length between) (length text)))
+  -- what was written between the tags, and what between then holds
+  module _ (written : List ℕ) (held : written ≡ laid text between) where
+    module _ {n : ℕ} (answer : Ok n ≡ framed_of text (length between)) where
+      told_length : (n ≡ length text) × (length text + 13 ≤ length out)
+      told_length =
+          let b = between_length in
+          ⊎_elim
+          (λ (l : length between < length text). differ (sym (answer ∙ framed_short text (length between) l)))
+          (λ (l : length text ≤ length between). (same_length (answer ∙ framed_fits text (length between) l), omega arith))
+          (lt_or_le (length between) (length text))
 
-    pub enclosed : written ≡ laid text between
-        → (enclosed_of inner ≡ framed_of (reply_frame text) (length out)) × (enclosed_held inner (back written) ≡ laid (reply_frame text) out)
-    enclosed held =
-        let n = frame_length text in
-        let b = between_length in
-        rw (answer, held)
-        (⊎_elim
-        (λ (l : length between < length text). rw (
-          framed_short text (length between) l,
-          framed_short (reply_frame text) (length out) (omega arith),
-          laid_short text between l,
-          laid_short (reply_frame text) out (omega arith),
-        )
-        (refl, put_same 5 (length out - 8 - 5) out))
-        (λ (l : length text ≤ length between). rw (
-          framed_fits text (length between) l,
-          framed_fits (reply_frame text) (length out) (omega arith),
-          laid_fits (reply_frame text) out (omega arith),
-          back_fits (omega arith),
-        )
-        (ap Written (sym n), held_fits (omega arith)))
-        (lt_or_le (length between) (length text)))
+      pub enclosed : (Ok (n + 13) ≡ framed_of (reply_frame text) (length out)) × (enclosed_held n (back written) ≡ laid (reply_frame text) out)
+      enclosed =
+          let k = frame_length text in
+          let t = told_length in
+          let h = t.1 in
+          rw (
+            t.0,
+            held,
+            framed_fits (reply_frame text) (length out) (omega arith),
+            laid_fits (reply_frame text) out (omega arith),
+            back_fits h,
+          )
+          (ap Ok (sym k), held_fits h)
+
+-- a text copied over what lay at a place
+pub copied : (out text : List ℕ) (at : ℕ) → at + length text ≤ length out → {n : ℕ} → n ≡ length text → put_mid at n out text ≡ sets out at text
+copied out text at h e = rw (e, drop-drop (length text) at out) (sym (append_assoc (take at out) text (drop (at + length text) out)) ∙ sym (sets-eq text out at h))

@@ -3,7 +3,7 @@
 use Prim.Native.Nat.{ℕ, ◌-◌, ◌≤◌, ◌<◌}
 use mathlib.Core.Path.{◌≡◌, refl, ap, sym, ◌∙◌}
 use mathlib.Core.Logic.{⊎_elim}
-use Rattle.std.specs.Prelude.{Some}
+use Rattle.std.specs.Prelude.{Some, Ok, Err}
 use mathlib.Core.List.{List, [], ◌∷◌}
 use native.Mathlib.Omega.{arith}
 use lib.ListN.{length, take, drop, get_or}
@@ -18,7 +18,7 @@ use Rattle.framing.specs.Framing.{reply_end, reply_frame, unframed, due_text, fr
 use Rattle.framing.specs.Answers.{framed_number}
 use Rattle.framing.specs.declared.Due.{Due}
 use Rattle.framing.specs.declared.Due.TheVariants.{Nothing, Reply, Echo}
-use Rattle.framing.specs.declared.Framed.TheVariants.{Written, OutputTooShort}
+use Rattle.framing.specs.declared.FrameRefusal.TheVariants.{OutputTooShort}
 use Rattle.framing.proofs.Enclosing.{frame_length, framed_fits, framed_short, laid_fits, laid_short}
 
 -- ---- what the frame holds
@@ -58,21 +58,21 @@ module _ (due : Due) (form : Form) (reply : List ℕ) where
   )
 
   -- a refusal leaves the output as it was
-  pub framing_leaves : (out : List ℕ) → framed_of text (length out) ≡ OutputTooShort → laid text out ≡ out
+  pub framing_leaves : (out : List ℕ) → framed_of text (length out) ≡ Err OutputTooShort → laid text out ≡ out
   framing_leaves out e = laid_short text out ((number_13_framing (length out)).0 (ap framed_number e))
 
   -- what is written is the text, and the bytes behind it are as they were
-  pub framing_writes : (out : List ℕ) (n : ℕ) → framed_of text (length out) ≡ Written n → (take n (laid text out) ≡ text) × (drop n (laid text out) ≡ drop n out)
+  pub framing_writes : (out : List ℕ) (n : ℕ) → framed_of text (length out) ≡ Ok n → (take n (laid text out) ≡ text) × (drop n (laid text out) ≡ drop n out)
   framing_writes out n e =
       ⊎_elim
       (λ (l : length out < length text). absurd (omega (arith, (number_13_framing (length out)).1 l, ap framed_number e)))
       (λ (l : length text ≤ length out).
-      let whole : Written (length text) ≡ Written n = sym (framed_fits text (length out) l) ∙ e in
+      let whole : Ok (length text) ≡ Ok n = sym (framed_fits text (length out) l) ∙ e in
       let same : length text ≡ n = cc in
       let rest = drop (length text) out in
       rw (laid_fits text out l) (take_at text rest n same, drop_at text rest n same ∙ ap (λ (k : ℕ). drop k out) same))
       (lt_or_le (length out) (length text))
 
 -- with nothing due no byte is written, in whatever room
-pub nothing_due : (form : Form) (reply out : List ℕ) (room : ℕ) → (framed_of (due_text Nothing form reply) room ≡ Written 0) × (laid (due_text Nothing form reply) out ≡ out)
+pub nothing_due : (form : Form) (reply out : List ℕ) (room : ℕ) → (framed_of (due_text Nothing form reply) room ≡ Ok 0) × (laid (due_text Nothing form reply) out ≡ out)
 nothing_due form reply out room = (framed_fits [] room (omega arith), laid_fits [] out (omega arith))

@@ -1,3 +1,2 @@
 pub mod Enclosing
 pub mod FramingLaws
-pub mod Numbers

@@ -1,9 +1,9 @@
 -- Document 01's number for each answer of framing. 0 stands for an answer that is no refusal. Assumes nothing: these
 -- are definitions.
-use Rattle.std.specs.Prelude.{ℕ}
-use Rattle.framing.specs.declared.Framed.{Framed}
-use Rattle.framing.specs.declared.Framed.TheVariants.{Written, OutputTooShort}
+use Rattle.std.specs.Prelude.{ℕ, Result, Ok, Err}
+use Rattle.framing.specs.declared.FrameRefusal.{FrameRefusal}
+use Rattle.framing.specs.declared.FrameRefusal.TheVariants.{OutputTooShort}
 
-abbrev pub framed_number : Framed → ℕ
-framed_number (Written n) = 0
-framed_number OutputTooShort = 13
+abbrev pub framed_number : Result ℕ FrameRefusal → ℕ
+framed_number (Ok n) = 0
+framed_number (Err OutputTooShort) = 13

@@ -1,14 +1,14 @@
 -- The frame of a reply, and what framing answers and leaves. Assumes nothing: these are definitions.
-use Rattle.std.specs.Prelude.{ℕ, ◌+◌, ◌-◌, ◌≤◌}
+use Rattle.std.specs.Prelude.{ℕ, ◌+◌, ◌-◌, Result, Ok, Err}
 use mathlib.Core.{Bool.cond, List.List, List.[], List.◌∷◌, List.◌++◌}
 use lib.{Dec.leb, ListN.length, Seq.sets}
 use Rattle.wire.specs.declared.forms.Form.{Form}
 use Rattle.wire.specs.declared.forms.Form.TheVariants.{Raw, Ascii}
 use Rattle.hexadecimal.specs.Hex.{text_of}
 use Rattle.reading.specs.Lines.{part, switch_text}
-use Rattle.framing.specs.{declared.Due.Due, declared.Framed.Framed}
+use Rattle.framing.specs.{declared.Due.Due, declared.FrameRefusal.FrameRefusal}
 use Rattle.framing.specs.declared.Due.TheVariants.{Nothing, Reply, Echo}
-use Rattle.framing.specs.declared.Framed.TheVariants.{Written, OutputTooShort}
+use Rattle.framing.specs.declared.FrameRefusal.TheVariants.{OutputTooShort}
 
 -- <rsp>
 abbrev pub reply_tag : List ℕ
@@ -37,19 +37,9 @@ due_text Reply form reply = reply_frame (written form reply)
 due_text (Echo to) form reply = reply_frame (switch_text to)
 
 -- 13 where the output is too short for all of it; what the output then holds is `hexadecimal::laid`
-abbrev pub framed_of : List ℕ → ℕ → Framed
-framed_of text room = cond (leb (length text) room) (Written (length text)) OutputTooShort
+abbrev pub framed_of : List ℕ → ℕ → Result ℕ FrameRefusal
+framed_of text room = cond (leb (length text) room) (Ok (length text)) (Err OutputTooShort)
 
--- ---- the tags around what was written from place 5 on: they are 13 characters, and nothing is touched where nothing
--- was written
-abbrev pub Fits : Framed → ℕ → Type 0
-Fits (Written n) room = n + 13 ≤ room
-Fits OutputTooShort room = Unit {0}
-
-abbrev pub enclosed_of : Framed → Framed
-enclosed_of (Written n) = Written (n + 13)
-enclosed_of OutputTooShort = OutputTooShort
-
-abbrev pub enclosed_held : Framed → List ℕ → List ℕ
-enclosed_held (Written n) held = sets (sets held 0 reply_tag) (5 + n) reply_end
-enclosed_held OutputTooShort held = held
+-- ---- the tags, which are 13 characters, around n bytes that were written from place 5 on
+abbrev pub enclosed_held : ℕ → List ℕ → List ℕ
+enclosed_held n held = sets (sets held 0 reply_tag) (5 + n) reply_end

@@ -7,8 +7,9 @@ ghost use Rattle.std.proofs.lemmas.List.Edits.{sets};
 ghost use Rattle.hexadecimal.specs.Hex.{laid};
 ghost use Rattle.hexadecimal.specs.Answers.{short_number};
 ghost use Rattle.reading.specs.Lines.{switch_text};
-ghost use Rattle.framing.specs.Framing.{reply_frame, written, due_text, framed_of, Fits, enclosed_of, enclosed_held};
+ghost use Rattle.framing.specs.Framing.{reply_frame, written, due_text, framed_of, enclosed_held};
 ghost use Rattle.framing.specs.Answers.{framed_number};
+ghost use Rattle.framing.specs.declared.FrameRefusal.TheVariants.{OutputTooShort};
 
 use hexadecimal::WriteRefusal;
 use wire::Form;
@@ -21,11 +22,18 @@ pub enum Due {
     Echo(Form),
 }
 
-// What framing answers: how many bytes were written, or that the buffer has no room for the frame.
+// Why nothing was framed: the buffer has no room for the frame.
 #[derive(Clone, Copy)]
-pub enum Framed {
-    Written(usize),
+pub enum FrameRefusal {
     OutputTooShort,
+}
+
+impl From<WriteRefusal> for FrameRefusal {
+    ghost from_gives = { λ _ refusal. refusal ≡ OutputTooShort };
+
+    fn from(_refusal: WriteRefusal) -> FrameRefusal {
+        FrameRefusal::OutputTooShort
+    }
 }
 
 // A text, at a place of a buffer.
@@ -34,109 +42,79 @@ fn lay(out: &mut [u8], at: usize, text: &[u8])
     requires { at + length text.now ≤ length out.old }
     ensures { out.new ≡ sets out.old at text.now }
 {
-    let mut i = 0;
-    while i < text.len() {
-        out[at + i] = text[i];
-        i += 1;
-    }
+    out[at..at + text.len()].copy_from_slice(text);
 }
 
-// A text, into the front of a buffer that has the room for it.
-fn copy(text: &[u8], out: &mut [u8]) -> Framed
+// A text, into the front of a buffer that has the room for it, and how many bytes it has.
+fn copy(text: &[u8], out: &mut [u8]) -> Result<usize, FrameRefusal>
     ensures answer { result ≡ framed_of text.now (length out.old) }
     ensures held { out.new ≡ laid text.now out.old }
     ensures number { framed_number result ≡ short_number (length text.now) (length out.old) }
 {
     if out.len() < text.len() {
-        return Framed::OutputTooShort;
+        return Err(FrameRefusal::OutputTooShort);
     }
     lay(out, 0, text);
-    Framed::Written(text.len())
+    Ok(text.len())
 }
 
-// A reply in a form, into the front of a buffer that has the room for it.
-fn in_form(form: Form, reply: &[u8], out: &mut [u8]) -> Framed
+// A reply in a form, into the front of a buffer that has the room for it, and how many bytes it has there.
+fn in_form(form: Form, reply: &[u8], out: &mut [u8]) -> Result<usize, FrameRefusal>
     ensures answer { result ≡ framed_of (written form reply.now) (length out.old) }
     ensures held { out.new ≡ laid (written form reply.now) out.old }
     ensures number { framed_number result ≡ short_number (length (written form reply.now)) (length out.old) }
 {
     match form {
         Form::Raw => copy(reply, out),
-        Form::Ascii => match hexadecimal::write(reply, out) {
-            Ok(n) => Framed::Written(n),
-            Err(WriteRefusal::NoRoom) => Framed::OutputTooShort,
-        },
+        Form::Ascii => Ok(hexadecimal::write(reply, out)?),
     }
 }
 
-// The text of a switch, into the front of a buffer that has the room for it.
-fn switch_text(form: Form, out: &mut [u8]) -> Framed
-    ensures answer { result ≡ framed_of (switch_text form) (length out.old) }
-    ensures held { out.new ≡ laid (switch_text form) out.old }
-    ensures number { framed_number result ≡ short_number (length (switch_text form)) (length out.old) }
+// The text of a switch.
+fn switch_text(form: Form) -> &'static [u8]
+    ensures { result.now ≡ switch_text form }
 {
     match form {
-        Form::Raw => copy(b"<cfg:raw/>", out),
-        Form::Ascii => copy(b"<cfg:ascii/>", out),
+        Form::Raw => b"<cfg:raw/>",
+        Form::Ascii => b"<cfg:ascii/>",
     }
 }
 
-// The tags and the line's end around what was written between them; where nothing fitted, nothing is touched.
+// The tags and the line's end around the n bytes that were written between them.
 // argued: called where what was written between them left room for them
-fn enclose(inner: Framed, out: &mut [u8]) -> Framed
-    requires { Fits inner (length out.old) }
-    ensures answer { result ≡ enclosed_of inner }
-    ensures held { out.new ≡ enclosed_held inner out.old }
-    ensures number { framed_number result ≡ framed_number inner }
+fn enclose(n: usize, out: &mut [u8])
+    requires { n + 13 ≤ length out.old }
+    ensures { out.new ≡ enclosed_held n out.old }
 {
-    match inner {
-        Framed::Written(n) => {
-            lay(out, 0, b"<rsp>");
-            lay(out, 5 + n, b"</rsp>\r\n");
-            Framed::Written(n + 13)
-        }
-        Framed::OutputTooShort => Framed::OutputTooShort,
-    }
+    lay(out, 0, b"<rsp>");
+    lay(out, 5 + n, b"</rsp>\r\n");
 }
 
 // The frame of a reply in a form.
-fn reply_frame(form: Form, reply: &[u8], out: &mut [u8]) -> Framed
+fn reply_frame(form: Form, reply: &[u8], out: &mut [u8]) -> Result<usize, FrameRefusal>
     ensures answer { result ≡ framed_of (reply_frame (written form reply.now)) (length out.old) }
     ensures held { out.new ≡ laid (reply_frame (written form reply.now)) out.old }
     ensures number { framed_number result ≡ short_number (length (reply_frame (written form reply.now))) (length out.old) }
 {
     let room = out.len();
     if room < 13 {
-        return Framed::OutputTooShort;
+        return Err(FrameRefusal::OutputTooShort);
     }
-    let inner = in_form(form, reply, &mut out[5..room - 8]);
-    enclose(inner, out)
-}
-
-// The frame of the echo of a switch.
-fn echo_frame(form: Form, out: &mut [u8]) -> Framed
-    ensures answer { result ≡ framed_of (reply_frame (switch_text form)) (length out.old) }
-    ensures held { out.new ≡ laid (reply_frame (switch_text form)) out.old }
-    ensures number { framed_number result ≡ short_number (length (reply_frame (switch_text form))) (length out.old) }
-{
-    let room = out.len();
-    if room < 13 {
-        return Framed::OutputTooShort;
-    }
-    let inner = switch_text(form, &mut out[5..room - 8]);
-    enclose(inner, out)
+    let n = in_form(form, reply, &mut out[5..room - 8])?;
+    enclose(n, out);
+    Ok(n + 13)
 }
 
 // Writes what is due into the front of a lent buffer: a frame, or nothing. Where the buffer is too short for the frame
-// it keeps what it held.
-pub fn frame(due: Due, form: Form, reply: &[u8], out: &mut [u8]) -> Framed
+// it keeps what it held. The text of a switch is echoed as it is, in either form.
+pub fn frame(due: Due, form: Form, reply: &[u8], out: &mut [u8]) -> Result<usize, FrameRefusal>
     ensures answer { result ≡ framed_of (due_text due form reply.now) (length out.old) }
     ensures held { out.new ≡ laid (due_text due form reply.now) out.old }
     ensures number { framed_number result ≡ short_number (length (due_text due form reply.now)) (length out.old) }
 {
     match due {
-        Due::Nothing => Framed::Written(0),
+        Due::Nothing => Ok(0),
         Due::Reply => reply_frame(form, reply, out),
-        Due::Echo(to) => echo_frame(to, out),
+        Due::Echo(to) => reply_frame(Form::Raw, switch_text(to), out),
     }
 }

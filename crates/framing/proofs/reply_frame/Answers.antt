@@ -1,32 +1,12 @@
--- The text goes between the tags, or there is no room for it. Assumes nothing.
+-- The text goes between the tags. Assumes nothing.
 use native.Mathlib.Omega.{arith}
 use mathlib.Core.Path.{sym, ◌∙◌}
-use Prim.Native.Nat.{◌<◌}
-use lib.ListN.{length}
-use Rattle.framing.specs.Framing.{reply_frame, written}
-use Rattle.framing.proofs.Enclosing.{frame_length, framed_short, laid_short, enclosed, enclose_fits}
-use Rattle.framing.proofs.Numbers.{with_framed_number}
+use Rattle.framing.specs.Framing.{written}
+use Rattle.framing.proofs.Enclosing.{enclosed}
 use Rattle.framing.proofs.reply_frame.Goals as goal
 
-pub returns-then-room-lt13 : goal.returns-then-room-lt13
-returns-then-room-lt13 c =
+pub returns-clause-held : goal.returns-clause-held
+returns-clause-held c =
     let a = c.args in
-    let text = reply_frame (written a.form a.reply.now) in
-    let short : length a.out.now < length text = omega (arith, frame_length (written a.form a.reply.now)) in
-    let p = with_framed_number text (length a.out.now) (sym (framed_short text (length a.out.now) short), sym (laid_short text a.out.now short)) in
-    record { answer = p.0; held = p.1.0; number = p.1.1 }
-
-pub enclose-requires : goal.enclose-requires
-enclose-requires c =
-    let a = c.args in
-    let f = c.in_form-inner in
-    enclose_fits (written a.form a.reply.now) a.out.now (omega arith) f.result f.new.out f.ensures.answer f.auto.out
-
-pub returns : goal.returns
-returns c =
-    let a = c.args in
-    let f = c.in_form-inner in
-    let e = c.enclose.ensures in
-    let w = enclosed (written a.form a.reply.now) a.out.now (omega arith) f.result f.new.out f.ensures.answer f.ensures.held in
-    let p = with_framed_number (reply_frame (written a.form a.reply.now)) (length a.out.now) (e.answer ∙ w.0, e.held ∙ w.1) in
-    record { answer = p.0; held = p.1.0; number = p.1.1 }
+    let f = c.in_form in
+    c.enclose.ensures ∙ (enclosed (written a.form a.reply.now) a.out.now (omega arith) f.new.out f.ensures.held (sym c.in_ok-n.was ∙ f.ensures.answer)).1
