@@ -26,9 +26,9 @@ use Rattle.state.specs.declared.parts.Resets.{Resets}
 use Rattle.answers.specs.declared.Commanded.{Commanded}
 use Rattle.commands.specs.Step.{commanded_of}
 use Rattle.board.specs.Tick.{risen_of, changed_of, tripped_of}
-use Rattle.reading.specs.Lines.{line_of}
-use Rattle.reading.specs.declared.Line.{Line}
-use Rattle.reading.specs.declared.Line.TheVariants.{Command, Switch, NoFrame, TooLong, NotOfForm, ScratchTooShort}
+use Rattle.std.specs.Prelude.{Ok, Err}
+use Rattle.reading.specs.Lines.{LineAnswer, line_of}
+use Rattle.reading.specs.declared.Line.TheVariants.{Command, Switch}
 use Rattle.unit.specs.Machine.{begun_of, after_line, heard_of}
 use Rattle.unit.specs.declared.Machine.{Machine}
 use Rattle.unit.specs.Runs.{Sample, told, happens, Call, tick, line, after_call, after, Reached, after_step2, after_step3, after_step4}
@@ -183,13 +183,10 @@ ticked m i u =
 
 -- ---- a read of the text line, and any calls
 -- a read touches neither channels nor memory
-heard : (l : Line) (m : Machine) → Sound m.board → Sound (after_line l m).board
-heard (Switch form behind) m u = record { apart = u.apart; range = u.range }
-heard (Command start end behind) m u = u
-heard NoFrame m u = u
-heard (TooLong behind) m u = u
-heard (NotOfForm behind) m u = u
-heard (ScratchTooShort behind) m u = u
+heard : (l : LineAnswer) (m : Machine) → Sound m.board → Sound (after_line l m).board
+heard (Ok (Switch form behind)) m u = record { apart = u.apart; range = u.range }
+heard (Ok (Command start end behind)) m u = u
+heard (Err refusal) m u = u
 
 -- any call
 called : (m : Machine) (call : Call) → Sound m.board → Sound (after_call m call).board

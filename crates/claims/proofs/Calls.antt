@@ -21,9 +21,9 @@ use Rattle.answers.specs.declared.Commanded.{Commanded}
 use Rattle.commands.specs.Step.{commanded_of}
 use Rattle.board.specs.Tick.{risen_of, changed_of, tripped_of, watched_as, watched_in, tick_with, allowed_count, tick_of}
 use Rattle.board.specs.declared.Ticked.{Ticked}
-use Rattle.reading.specs.Lines.{line_of}
-use Rattle.reading.specs.declared.Line.{Line}
-use Rattle.reading.specs.declared.Line.TheVariants.{Command, Switch, NoFrame, TooLong, NotOfForm, ScratchTooShort}
+use Rattle.std.specs.Prelude.{Ok, Err}
+use Rattle.reading.specs.Lines.{LineAnswer, line_of}
+use Rattle.reading.specs.declared.Line.TheVariants.{Command, Switch}
 use Rattle.unit.specs.Machine.{begun_of, after_line, heard_of}
 use Rattle.unit.specs.declared.Machine.{Machine}
 use Rattle.unit.proofs.Laws.{refused_tick_leaves}
@@ -62,13 +62,10 @@ pub record AllButForm (b c : Board) : Type 0 where
   pub is : c ≡ with_form form b
 
 -- a read of the text line switches the form, at most
-line_rests : (l : Line) (m : Machine) → AllButForm m.board (after_line l m).board
-line_rests (Switch form behind) m = record { form = form; is = refl }
-line_rests (Command start end behind) m = record { form = m.board.form; is = refl }
-line_rests NoFrame m = record { form = m.board.form; is = refl }
-line_rests (TooLong behind) m = record { form = m.board.form; is = refl }
-line_rests (NotOfForm behind) m = record { form = m.board.form; is = refl }
-line_rests (ScratchTooShort behind) m = record { form = m.board.form; is = refl }
+line_rests : (l : LineAnswer) (m : Machine) → AllButForm m.board (after_line l m).board
+line_rests (Ok (Switch form behind)) m = record { form = form; is = refl }
+line_rests (Ok (Command start end behind)) m = record { form = m.board.form; is = refl }
+line_rests (Err refusal) m = record { form = m.board.form; is = refl }
 
 -- a tick that does not happen alters nothing
 pub rests : (m : Machine) (call : Call) → is_tick (word_count m.board) call ≡ false → AllButForm m.board (after_call m call).board

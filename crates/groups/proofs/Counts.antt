@@ -33,9 +33,9 @@ use Rattle.answers.specs.Answers.{told_number}
 use Rattle.answers.specs.declared.Commanded.{Commanded}
 use Rattle.commands.specs.Step.{commanded_of}
 use Rattle.board.specs.Tick.{risen_of, changed_of, tripped_of, watched_as, watched_in, tick_with, tick_of}
-use Rattle.reading.specs.Lines.{line_of}
-use Rattle.reading.specs.declared.Line.{Line}
-use Rattle.reading.specs.declared.Line.TheVariants.{Command, Switch, NoFrame, TooLong, NotOfForm, ScratchTooShort}
+use Rattle.std.specs.Prelude.{Ok, Err}
+use Rattle.reading.specs.Lines.{LineAnswer, line_of}
+use Rattle.reading.specs.declared.Line.TheVariants.{Command, Switch}
 use Rattle.unit.specs.Machine.{begun_of, told_of, after_line, heard_of}
 use Rattle.unit.specs.declared.Machine.{Machine}
 use Rattle.unit.specs.Runs.{Sample, told, Call, tick, line, after, happens, after_step2}
@@ -160,13 +160,10 @@ unfolding told_of tells_reset tells_watchdog_reset tells_command_reset tick_of t
 ticked_counts m i c h = cases (happens (word_count m.board) i) (λ e. rw e (happened_counts m i c h _ refl)) (λ e. rw e)
 
 -- ---- a read of the text line
-heard_counts : (c : ℕ) (l : Line) (m : Machine) → count_in c (after_line l m).board ≡ count_in c m.board
-heard_counts c (Switch form behind) m = refl
-heard_counts c (Command start end behind) m = refl
-heard_counts c NoFrame m = refl
-heard_counts c (TooLong behind) m = refl
-heard_counts c (NotOfForm behind) m = refl
-heard_counts c (ScratchTooShort behind) m = refl
+heard_counts : (c : ℕ) (l : LineAnswer) (m : Machine) → count_in c (after_line l m).board ≡ count_in c m.board
+heard_counts c (Ok (Switch form behind)) m = refl
+heard_counts c (Ok (Command start end behind)) m = refl
+heard_counts c (Err refusal) m = refl
 
 -- a read leaves each count, as a switch touches the form alone
 line_counts : (c : ℕ) (received : List ℕ) (room : ℕ) (m : Machine) → count_in c (heard_of received room m).machine.board ≡ count_in c m.board

@@ -32,9 +32,9 @@ use Rattle.answers.specs.declared.Commanded.{Commanded}
 use Rattle.commands.specs.Step.{commanded_of}
 use Rattle.board.specs.Tick.{risen_of, changed_of, tripped_of, watched_as, watched_in, tick_with, allowed_count, tick_of}
 use Rattle.board.proofs.Happened.{command_profile}
-use Rattle.reading.specs.Lines.{line_of}
-use Rattle.reading.specs.declared.Line.{Line}
-use Rattle.reading.specs.declared.Line.TheVariants.{Command, Switch, NoFrame, TooLong, NotOfForm, ScratchTooShort}
+use Rattle.std.specs.Prelude.{Ok, Err}
+use Rattle.reading.specs.Lines.{LineAnswer, line_of}
+use Rattle.reading.specs.declared.Line.TheVariants.{Command, Switch}
 use Rattle.unit.specs.Machine.{begun_of, told_of, after_line, heard_of}
 use Rattle.unit.specs.declared.Machine.{Machine}
 use Rattle.unit.specs.Runs.{Call, tick, line, after_call, after, Reached}
@@ -141,13 +141,10 @@ ticked rail named words sent s p b u =
     (λ not_allowed. rw not_allowed u)
 
 -- a read of the text line touches no channel
-heard : (p : Profile) (l : Line) (m : Machine) → Stands p m.board → Stands p (after_line l m).board
-heard p (Switch form behind) m u = record { profile = u.profile; sound = u.sound }
-heard p (Command start end behind) m u = u
-heard p NoFrame m u = u
-heard p (TooLong behind) m u = u
-heard p (NotOfForm behind) m u = u
-heard p (ScratchTooShort behind) m u = u
+heard : (p : Profile) (l : LineAnswer) (m : Machine) → Stands p m.board → Stands p (after_line l m).board
+heard p (Ok (Switch form behind)) m u = record { profile = u.profile; sound = u.sound }
+heard p (Ok (Command start end behind)) m u = u
+heard p (Err refusal) m u = u
 
 -- any call
 called : (p : Profile) (m : Machine) (call : Call) → Stands p m.board → Stands p (after_call m call).board

@@ -4,7 +4,7 @@ use Rattle.std.specs.Prelude.{ℕ, min, length, take}
 use mathlib.Core.{List.List, List.[], List.◌∷◌, List.◌++◌}
 use Rattle.wire.specs.{Replies.found, declared.forms.Form.Form}
 use Rattle.hexadecimal.specs.Hex.{laid}
-use Rattle.reading.specs.{Lines.payload_in, declared.Line.Line}
+use Rattle.reading.specs.Lines.{LineAnswer, payload_in}
 use Rattle.framing.specs.Framing.{framed_of}
 use Rattle.unit.specs.{Machine.due_of, declared.Machine.Machine}
 use Rattle.script.specs.Printing.{hex_of}
@@ -14,7 +14,7 @@ use Rattle.speaking.specs.Speaking.{heard_line, framed_line, blank, span_of}
 
 -- ---- the text line, with a scratch buffer or an output of so many bytes, all 0xEE before
 
-unfoldable pub answer_line : Line → Form → List ℕ → List ℕ → List ℕ
+unfoldable pub answer_line : LineAnswer → Form → List ℕ → List ℕ → List ℕ
 answer_line line form received scratch =
     heard_line line (payload_in form received scratch (span_of line).start (span_of line).end) scratch
 

@@ -7,7 +7,7 @@ ghost use Rattle.speaking.specs.Speaking.{blank};
 ghost use Rattle.looking.specs.Looking.{answer_line, framing_line, read_line, look_line};
 
 use lines::Look;
-use reading::Line;
+use reading::{Line, LineRefusal};
 use script::printing::{bytes, put};
 use unit::Machine;
 
@@ -25,7 +25,7 @@ fn read(m: Machine, count: usize, out: &mut [u8]) -> usize
 // What a read of the text line prints.
 pub fn answer<'a>(
     m: Machine,
-    line: Line,
+    line: Result<Line, LineRefusal>,
     received: &'a [u8],
     scratch: &'a [u8],
     out: &mut [u8],

@@ -16,7 +16,7 @@ use Rattle.frames.specs.Frames.{lying, starts_with, frame_of}
 use Rattle.frames.specs.First.{FrameAt}
 use Rattle.frames.specs.declared.Frame.{Frame}
 use Rattle.frames.proofs.Search.{found_frame, frame_found, not_there_lem, none_complete}
-use Rattle.reading.specs.Lines.{payload_at, Answer, part, switch_text, same, switch_of, spelt, ascii_line, in_form, command_line, switching, line_in, line_of}
+use Rattle.reading.specs.Lines.{payload_at, LineAnswer, part, switch_text, same, switch_of, spelt, ascii_line, in_form, command_line, switching, line_in, line_of}
 use Rattle.reading.specs.Given.{Plain, Handed, GivenWhen}
 use Rattle.reading.specs.declared.Line.TheVariants.{Command, Switch}
 use Rattle.reading.specs.declared.LineRefusal.TheVariants.{NoFrame, TooLong, NotOfForm, ScratchTooShort}
@@ -119,7 +119,7 @@ module _ (form : Form) (s : List ℕ) (room : ℕ) where
         le-ltb 256 (length (part start end s)) p.short,
       )
 
-  pub given_only : (line : Answer) → GivenWhen form s room line → line ≡ line_of form s room
+  pub given_only : (line : LineAnswer) → GivenWhen form s room line → line ≡ line_of form s room
   unfolding line_of command_line ascii_line
   given_only (Err NoFrame) n = rw (none_complete s n)
   given_only (Ok (Switch to behind)) (start, end, f, q) = rw (frame_found s start end behind f, q, text_switched to)

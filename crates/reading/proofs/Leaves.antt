@@ -18,7 +18,7 @@ use Rattle.frames.specs.Frames.{lying, opening_tag, closing_tag, frame_of}
 use Rattle.frames.specs.First.{StandsAt, FrameAt, Complete}
 use Rattle.frames.specs.declared.Frame.{Frame}
 use Rattle.frames.proofs.Search.{frame_found}
-use Rattle.reading.specs.Lines.{payload_at, Answer, part, switch_of, spelt, ascii_line, in_form, command_line, switching, line_in, line_of, held_in, command_held, switch_held, held_by, line_held, payload_in}
+use Rattle.reading.specs.Lines.{payload_at, LineAnswer, part, switch_of, spelt, ascii_line, in_form, command_line, switching, line_in, line_of, held_in, command_held, switch_held, held_by, line_held, payload_in}
 use Rattle.reading.specs.Given.{Plain, GivenWhen}
 use Rattle.reading.specs.Answers.{line_number, line_tells}
 use Rattle.reading.specs.declared.Line.TheVariants.{Command, Switch}
@@ -28,7 +28,7 @@ use Rattle.reading.proofs.Given.{no_switch, given, given_only}
 -- ---- the scratch buffer
 
 -- every answer but a command in ASCII form leaves it
-abbrev Left : Answer → Form → List ℕ → List ℕ → Type 0
+abbrev Left : LineAnswer → Form → List ℕ → List ℕ → Type 0
 Left (Ok (Command start end behind)) Raw held after = after ≡ held
 Left (Ok (Command start end behind)) Ascii held after = Unit {0}
 Left (Ok (Switch to behind)) form held after = after ≡ held
@@ -72,7 +72,7 @@ module _ (held : List ℕ) where
   pub refused_leaves : (form : Form) (s : List ℕ) → (line_number (line_of form s (length held)) ≡ 0 → ⊥) → line_held form s held ≡ held
   refused_leaves form s n = go (line_of form s (length held)) n (left form s)
     where
-      go : (line : Answer) → (line_number line ≡ 0 → ⊥) → Left line form held (line_held form s held) → line_held form s held ≡ held
+      go : (line : LineAnswer) → (line_number line ≡ 0 → ⊥) → Left line form held (line_held form s held) → line_held form s held ≡ held
       go (Ok (Command start end behind)) n l = absurd (n refl)
       go (Ok (Switch to behind)) n l = absurd (n refl)
       go (Err NoFrame) n l = l
@@ -82,13 +82,13 @@ module _ (held : List ℕ) where
 
   -- a switch
   pub switch_leaves : (form to : Form) (s : List ℕ) (behind : ℕ) → line_of form s (length held) ≡ Ok (Switch to behind) → line_held form s held ≡ held
-  switch_leaves form to s behind e = subst (λ (line : Answer). Left line form held (line_held form s held)) e (left form s)
+  switch_leaves form to s behind e = subst (λ (line : LineAnswer). Left line form held (line_held form s held)) e (left form s)
 
   -- a command in raw form
   pub raw_leaves : (s : List ℕ) → line_held Raw s held ≡ held
   raw_leaves s = go (line_of Raw s (length held)) (left Raw s)
     where
-      go : (line : Answer) → Left line Raw held (line_held Raw s held) → line_held Raw s held ≡ held
+      go : (line : LineAnswer) → Left line Raw held (line_held Raw s held) → line_held Raw s held ≡ held
       go (Ok (Command start end behind)) l = l
       go (Ok (Switch to behind)) l = l
       go (Err NoFrame) l = l
@@ -120,14 +120,14 @@ payload_spelt s held start end behind p bytes q l =
 -- ---- numbers and places
 
 -- the refusal of a number, with the place that it tells
-abbrev pub refusal : ℕ → ℕ → Answer
+abbrev pub refusal : ℕ → ℕ → LineAnswer
 refusal n behind = cond (eqb n 10) (Err NoFrame) (cond (eqb n 11) (Err (TooLong behind)) (cond (eqb n 12) (Err (NotOfForm behind)) (Err (ScratchTooShort behind))))
 
 -- a number is told only where its line of `GivenWhen` holds
 pub number_given : (form : Form) (s : List ℕ) (room : ℕ) → (line_number (line_of form s room) ≡ 0 → ⊥) → (behind : ℕ) × GivenWhen form s room (refusal (line_number (line_of form s room)) behind)
 number_given form s room n = go (line_of form s room) n (given form s room)
   where
-    go : (line : Answer) → (line_number line ≡ 0 → ⊥) → GivenWhen form s room line → (behind : ℕ) × GivenWhen form s room (refusal (line_number line) behind)
+    go : (line : LineAnswer) → (line_number line ≡ 0 → ⊥) → GivenWhen form s room line → (behind : ℕ) × GivenWhen form s room (refusal (line_number line) behind)
     go (Ok (Command start end behind)) n g = absurd (n refl)
     go (Ok (Switch to behind)) n g = absurd (n refl)
     go (Err NoFrame) n g = (0, g)
@@ -136,7 +136,7 @@ number_given form s room n = go (line_of form s room) n (given form s room)
     go (Err (ScratchTooShort behind)) n g = (behind, g)
 
 -- and each line of it that holds gives its number
-pub given_number : (form : Form) (s : List ℕ) (room : ℕ) (line : Answer) → GivenWhen form s room line → line_number (line_of form s room) ≡ line_number line
+pub given_number : (form : Form) (s : List ℕ) (room : ℕ) (line : LineAnswer) → GivenWhen form s room line → line_number (line_of form s room) ≡ line_number line
 given_number form s room line g = sym (ap line_number (given_only form s room line g))
 
 -- so 10 is told exactly where no frame is complete

@@ -18,7 +18,7 @@ use Rattle.frames.specs.Frames.{lying, frame_of}
 use Rattle.frames.specs.Answers.{frame_number, has_frame, scan_number}
 use Rattle.frames.specs.declared.Frame.{Frame}
 use Rattle.frames.proofs.Numbers.{scan_number_lem}
-use Rattle.reading.specs.Lines.{payload_at, Answer, part, switch_text, same, switch_of, spelt, ascii_line, in_form, command_line, switching, line_in, line_of}
+use Rattle.reading.specs.Lines.{payload_at, LineAnswer, part, switch_text, same, switch_of, spelt, ascii_line, in_form, command_line, switching, line_in, line_of}
 use Rattle.reading.specs.Answers.{line_number, line_tells, framed_part, place_behind, is_switch, in_ascii, command_number, reading_number}
 
 -- ---- 11 to 13, and the place

@@ -6,11 +6,11 @@ use Rattle.wire.specs.declared.forms.Form.{Form}
 use Rattle.wire.specs.declared.forms.Form.TheVariants.{Raw, Ascii}
 use Rattle.hexadecimal.specs.{Hex.payload_of, Answers.is_of_form, Answers.bytes_in}
 use Rattle.frames.specs.{Frames.frame_of, Answers.has_frame, declared.Frame.Frame}
-use Rattle.reading.specs.Lines.{payload_at, Answer, switch_text, same}
+use Rattle.reading.specs.Lines.{payload_at, LineAnswer, switch_text, same}
 use Rattle.reading.specs.declared.Line.TheVariants.{Command, Switch}
 use Rattle.reading.specs.declared.LineRefusal.TheVariants.{NoFrame, TooLong, NotOfForm, ScratchTooShort}
 
-abbrev pub line_number : Answer → ℕ
+abbrev pub line_number : LineAnswer → ℕ
 line_number (Ok line) = 0
 line_number (Err NoFrame) = 10
 line_number (Err (TooLong behind)) = 11
@@ -18,7 +18,7 @@ line_number (Err (NotOfForm behind)) = 12
 line_number (Err (ScratchTooShort behind)) = 13
 
 -- the place behind the closing tag; 10 has none
-abbrev pub line_tells : Answer → Option ℕ
+abbrev pub line_tells : LineAnswer → Option ℕ
 line_tells (Ok (Command start end behind)) = Some behind
 line_tells (Ok (Switch form behind)) = Some behind
 line_tells (Err NoFrame) = None

@@ -5,7 +5,7 @@ use Rattle.wire.specs.declared.forms.Form.{Form}
 use Rattle.wire.specs.declared.forms.Form.TheVariants.{Raw, Ascii}
 use Rattle.hexadecimal.specs.Hex.{payload_of}
 use Rattle.frames.specs.First.{FrameAt, Complete}
-use Rattle.reading.specs.Lines.{part, Answer, switch_text}
+use Rattle.reading.specs.Lines.{part, LineAnswer, switch_text}
 use Rattle.reading.specs.declared.Line.TheVariants.{Command, Switch}
 use Rattle.reading.specs.declared.LineRefusal.TheVariants.{NoFrame, TooLong, NotOfForm, ScratchTooShort}
 
@@ -30,7 +30,7 @@ abbrev pub Handed : Form → List ℕ → ℕ → ℕ → ℕ → ℕ → ℕ �
 Handed Raw payload room start end from to = (from ≡ start) × (to ≡ end)
 Handed Ascii payload room start end from to = (bytes : List ℕ) × (payload_of payload ≡ Some bytes) × (length bytes ≤ room) × (from ≡ 0) × (to ≡ length bytes)
 
-abbrev pub GivenWhen : Form → List ℕ → ℕ → Answer → Type 0
+abbrev pub GivenWhen : Form → List ℕ → ℕ → LineAnswer → Type 0
 GivenWhen form s room (Err NoFrame) = Complete s → ⊥  -- 10
 GivenWhen form s room (Ok (Switch to behind)) =
     (start : ℕ) × (end : ℕ) × FrameAt s start end behind × (part start end s ≡ switch_text to)

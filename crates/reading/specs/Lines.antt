@@ -20,8 +20,8 @@ abbrev pub payload_at : Frame → List ℕ → List ℕ
 payload_at frame s = part frame.start frame.end s
 
 -- a read of the text line: what the frame there is, or why it is refused
-abbrev pub Answer : Type 0
-Answer = Result Line LineRefusal
+abbrev pub LineAnswer : Type 0
+LineAnswer = Result Line LineRefusal
 
 -- ---- the form switch
 
@@ -42,21 +42,21 @@ switch_of payload = cond (same payload (switch_text Raw)) (Some Raw) (cond (same
 
 -- in ASCII form: the bytes that the pairs spell, from the front of the scratch buffer on; 12 where they are not of the
 -- form, 13 where there is no room
-abbrev pub spelt : ℕ → Result ℕ PayloadRefusal → Answer
+abbrev pub spelt : ℕ → Result ℕ PayloadRefusal → LineAnswer
 spelt behind (Ok n) = Ok (Command 0 n behind)
 spelt behind (Err PayloadRefusal.NotOfForm) = Err (NotOfForm behind)
 spelt behind (Err PayloadRefusal.TooShort) = Err (ScratchTooShort behind)
 
-unfoldable pub ascii_line : ℕ → List ℕ → ℕ → Answer
+unfoldable pub ascii_line : ℕ → List ℕ → ℕ → LineAnswer
 ascii_line behind payload room = spelt behind (read_of (payload_of payload) room)
 
 -- in raw form: what was received, from the opening tag's end up to the closing tag
-abbrev pub in_form : Form → List ℕ → Frame → ℕ → Answer
+abbrev pub in_form : Form → List ℕ → Frame → ℕ → LineAnswer
 in_form Raw payload frame room = Ok (Command frame.start frame.end frame.behind)
 in_form Ascii payload frame room = ascii_line frame.behind payload room
 
 -- 11 comes before 12 and 13
-unfoldable pub command_line : Form → List ℕ → Frame → ℕ → Answer
+unfoldable pub command_line : Form → List ℕ → Frame → ℕ → LineAnswer
 command_line form payload frame room = cond (ltb 256 (length payload)) (Err (TooLong frame.behind)) (in_form form payload frame room)
 
 -- what the scratch buffer holds after it
@@ -69,15 +69,15 @@ command_held form payload held = cond (ltb 256 (length payload)) held (held_in f
 
 -- ---- the read, by the form in force, with so much room in the scratch buffer
 
-abbrev pub switching : Option Form → Form → List ℕ → Frame → ℕ → Answer
+abbrev pub switching : Option Form → Form → List ℕ → Frame → ℕ → LineAnswer
 switching (Some new) form payload frame room = Ok (Switch new frame.behind)
 switching None form payload frame room = command_line form payload frame room
 
-abbrev pub line_in : Option Frame → Form → List ℕ → ℕ → Answer
+abbrev pub line_in : Option Frame → Form → List ℕ → ℕ → LineAnswer
 line_in None form s room = Err NoFrame  -- 10
 line_in (Some frame) form s room = switching (switch_of (payload_at frame s)) form (payload_at frame s) frame room
 
-unfoldable pub line_of : Form → List ℕ → ℕ → Answer
+unfoldable pub line_of : Form → List ℕ → ℕ → LineAnswer
 line_of form s room = line_in (frame_of s) form s room
 
 -- a switch leaves the scratch buffer, and so does a line with no frame

@@ -3,14 +3,14 @@
 -- every input. Words, transfers, received bytes and sheets are lent read-only and cannot change; a scratch buffer and
 -- an output buffer can. What a refused sheet prints is laid into a buffer by a call of its own. Assumes nothing: these
 -- are definitions and the statement of the claim.
-use Rattle.std.specs.Prelude.{ℕ, ◌<◌, length}
+use Rattle.std.specs.Prelude.{ℕ, ◌<◌, length, Ok}
 use mathlib.Core.{Path.◌≡◌, Logic.◌⊎◌, List.List, Option.some}
 use Rattle.hexadecimal.specs.Hex.{laid}
 use Rattle.watchdog.specs.declared.Event.TheVariants.{NoEvent}
 use Rattle.memory.specs.{Memory.empty_store, Memory.Store}
 use Rattle.wire.specs.declared.forms.Form.{Form}
 use Rattle.state.specs.{Parts.word_count, Parts.with_form, Start.start_number, declared.parts.Profile.Profile}
-use Rattle.reading.specs.{Answers.line_number, Given.GivenWhen, Lines.line_held, declared.Line.Line}
+use Rattle.reading.specs.{Answers.line_number, Given.GivenWhen, Lines.LineAnswer, Lines.line_held}
 use Rattle.reading.specs.declared.Line.TheVariants.{Command, Switch}
 use Rattle.framing.specs.{Answers.framed_number, Framing.framed_of}
 use Rattle.framing.specs.declared.Due.TheVariants.{Echo}
@@ -48,12 +48,12 @@ pub record Nine : Type 0 where
 -- profile, and its echo is due
 pub record Reads : Type 0 where
   pub given : (m : Machine) (received scratch : List ℕ) → GivenWhen m.board.form received (length scratch) (heard_of received (length scratch) m).line
-  pub only : (m : Machine) (received scratch : List ℕ) (line : Line) → GivenWhen m.board.form received (length scratch) line → (heard_of received (length scratch) m).line ≡ line
+  pub only : (m : Machine) (received scratch : List ℕ) (line : LineAnswer) → GivenWhen m.board.form received (length scratch) line → (heard_of received (length scratch) m).line ≡ line
   pub leaves : (m : Machine) (received scratch : List ℕ) → (line_number (heard_of received (length scratch) m).line ≡ 0 → ⊥)
       → ((heard_of received (length scratch) m).machine ≡ m) × (line_held m.board.form received scratch ≡ scratch)
-  pub command : (m : Machine) (received scratch : List ℕ) (start end behind : ℕ) → (heard_of received (length scratch) m).line ≡ Command start end behind
+  pub command : (m : Machine) (received scratch : List ℕ) (start end behind : ℕ) → (heard_of received (length scratch) m).line ≡ Ok (Command start end behind)
       → (heard_of received (length scratch) m).machine ≡ m
-  pub switch : (m : Machine) (received scratch : List ℕ) (to : Form) (behind : ℕ) → (heard_of received (length scratch) m).line ≡ Switch to behind
+  pub switch : (m : Machine) (received scratch : List ℕ) (to : Form) (behind : ℕ) → (heard_of received (length scratch) m).line ≡ Ok (Switch to behind)
       → (heard_of received (length scratch) m).machine ≡ record { board = with_form to m.board; due = Echo to }
 
 -- 13, of framing: an output that is too short for the frame; it stays, and the machine is not handed back at all

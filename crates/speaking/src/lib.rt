@@ -6,8 +6,8 @@ ghost use Rattle.std.specs.Prelude.{◌≡◌, min, ◌++◌};
 ghost use Rattle.script.specs.Printing.{page, typed, field_of};
 ghost use Rattle.speaking.specs.Speaking.{form_name, command_text, line_text, whole_text, heard_line, framed_text, framed_line, blank, span_of};
 
-use framing::Framed;
-use reading::Line;
+use framing::FrameRefusal;
+use reading::{Line, LineRefusal};
 use script::printing::{field, put, string, text};
 use wire::Form;
 
@@ -46,20 +46,21 @@ fn switched(out: &mut [u8], form: Form, behind: usize) -> usize
 }
 
 // What a read answers.
-fn answer(line: Line, payload: &[u8], out: &mut [u8]) -> usize
+#[tactic(auto, unfolding(crate::specs::Speaking::line_text))]
+fn answer(line: Result<Line, LineRefusal>, payload: &[u8], out: &mut [u8]) -> usize
     ensures { page out.new result ≡ typed (page out.old 0) (line_text line payload.now) }
 {
     match line {
-        Line::Command {
+        Ok(Line::Command {
             start: _,
             end: _,
             behind,
-        } => command(out, behind, payload),
-        Line::Switch { form, behind } => switched(out, form, behind),
-        Line::NoFrame => text(out, 0, b"refused 10"),
-        Line::TooLong { behind } => told(out, b"refused 11", behind),
-        Line::NotOfForm { behind } => told(out, b"refused 12", behind),
-        Line::ScratchTooShort { behind } => told(out, b"refused 13", behind),
+        }) => command(out, behind, payload),
+        Ok(Line::Switch { form, behind }) => switched(out, form, behind),
+        Err(LineRefusal::NoFrame) => text(out, 0, b"refused 10"),
+        Err(LineRefusal::TooLong { behind }) => told(out, b"refused 11", behind),
+        Err(LineRefusal::NotOfForm { behind }) => told(out, b"refused 12", behind),
+        Err(LineRefusal::ScratchTooShort { behind }) => told(out, b"refused 13", behind),
     }
 }
 
@@ -72,7 +73,7 @@ fn whole(out: &mut [u8], start: usize, buffer: &[u8]) -> usize
 }
 
 // The line of a read of the text line.
-pub fn heard(line: Line, payload: &[u8], scratch: &[u8], out: &mut [u8]) -> usize
+pub fn heard(line: Result<Line, LineRefusal>, payload: &[u8], scratch: &[u8], out: &mut [u8]) -> usize
     ensures { page out.new result ≡ typed (page out.old 0) (heard_line line payload.now scratch.now) }
 {
     let at = answer(line, payload, out);
@@ -80,17 +81,18 @@ pub fn heard(line: Line, payload: &[u8], scratch: &[u8], out: &mut [u8]) -> usiz
 }
 
 // What a framing answers.
-fn framing(answer: Framed, out: &mut [u8]) -> usize
+#[tactic(auto, unfolding(crate::specs::Speaking::framed_text))]
+fn framing(answer: Result<usize, FrameRefusal>, out: &mut [u8]) -> usize
     ensures { page out.new result ≡ typed (page out.old 0) (framed_text answer) }
 {
     match answer {
-        Framed::Written(n) => told(out, b"written", n),
-        Framed::OutputTooShort => text(out, 0, b"refused 13"),
+        Ok(n) => told(out, b"written", n),
+        Err(FrameRefusal::OutputTooShort) => text(out, 0, b"refused 13"),
     }
 }
 
 // The line of a framing.
-pub fn framed(answer: Framed, buffer: &[u8], out: &mut [u8]) -> usize
+pub fn framed(answer: Result<usize, FrameRefusal>, buffer: &[u8], out: &mut [u8]) -> usize
     ensures { page out.new result ≡ typed (page out.old 0) (framed_line answer buffer.now) }
 {
     let at = framing(answer, out);
@@ -119,19 +121,16 @@ pub struct Span {
 }
 
 // The span of what a read of the text line answers.
-pub fn span_of(line: Line) -> Span
+pub fn span_of(line: Result<Line, LineRefusal>) -> Span
     ensures { result ≡ span_of line }
 {
     match line {
-        Line::Command {
+        Ok(Line::Command {
             start,
             end,
             behind: _,
-        } => Span { start, end },
-        Line::Switch { form: _, behind: _ } => Span { start: 0, end: 0 },
-        Line::NoFrame => Span { start: 0, end: 0 },
-        Line::TooLong { behind: _ } => Span { start: 0, end: 0 },
-        Line::NotOfForm { behind: _ } => Span { start: 0, end: 0 },
-        Line::ScratchTooShort { behind: _ } => Span { start: 0, end: 0 },
+        }) => Span { start, end },
+        Ok(Line::Switch { form: _, behind: _ }) => Span { start: 0, end: 0 },
+        Err(_) => Span { start: 0, end: 0 },
     }
 }

@@ -8,7 +8,7 @@ use native.Mathlib.Omega.{arith}
 use lib.IntN.{ℤ}
 use lib.ListN.{length}
 use Rattle.memory.specs.Memory.{Store}
-use Rattle.std.specs.Prelude.{Ok}
+use Rattle.std.specs.Prelude.{Ok, Err}
 use Rattle.laws.proofs.Cases.{cases}
 use Rattle.wire.specs.Replies.{shown}
 use Rattle.wire.specs.declared.reply.Reply as reply
@@ -34,12 +34,10 @@ use Rattle.commands.proofs.Told.{stepwise}
 use Rattle.board.specs.Tick.{risen_of, changed_of, tripped_of, watched_as, watched_in, tick_with, allowed_count, tick_of}
 use Rattle.board.proofs.Happened.{told, found, own_reply, profile_after, InForm, form_after}
 use Rattle.reading.specs.Answers.{line_number}
-use Rattle.reading.specs.Lines.{line_of, switch_text}
-use Rattle.reading.specs.declared.Line.{Line}
-use Rattle.reading.specs.declared.Line.TheVariants.{Command, Switch, NoFrame, TooLong, NotOfForm, ScratchTooShort}
+use Rattle.reading.specs.Lines.{LineAnswer, line_of, switch_text}
+use Rattle.reading.specs.declared.Line.TheVariants.{Command, Switch}
 use Rattle.framing.specs.Framing.{reply_frame, written, framed_of}
 use Rattle.framing.specs.declared.Due.TheVariants.{Nothing, Echo}
-use Rattle.framing.specs.declared.Framed.TheVariants.{Written}
 use Rattle.framing.proofs.FramingLaws.{nothing_due}
 use Rattle.unit.specs.declared.Machine.{Machine}
 use Rattle.unit.specs.Machine.{begun_of, due_by, due_after, told_of, after_line, heard_of, due_of}
@@ -81,7 +79,7 @@ module _ (rail : ℤ) (named : ℕ) (words : List ℕ) (sent : Bool) (s : List �
 
     -- no byte is written for a tick whose own answer says that no reply of it waits, however old the reply that does
     pub silent_tick_frames_nothing : (told_of rail named words sent s m).replied ≡ false
-        → (out : List ℕ) (room : ℕ) → (framed_of (due_of after) room ≡ Written 0) × (laid (due_of after) out ≡ out)
+        → (out : List ℕ) (room : ℕ) → (framed_of (due_of after) room ≡ Ok 0) × (laid (due_of after) out ≡ out)
     unfolding due_of
     silent_tick_frames_nothing quiet out room =
         rw (due_told ∙ ap due_by quiet) (nothing_due after.board.form (shown after.board.reply) out room)
@@ -136,27 +134,24 @@ module _ (rail : ℤ) (named : ℕ) (words : List ℕ) (sent : Bool) (s : List �
 -- ---- the text line
 module _ (received : List ℕ) (room : ℕ) (m : Machine) where
   -- a switch takes at the read, changes nothing else of the board, and its echo is what framing then says
-  pub switch_takes : (to : Form) (behind : ℕ) → (heard_of received room m).line ≡ Switch to behind
+  pub switch_takes : (to : Form) (behind : ℕ) → (heard_of received room m).line ≡ Ok (Switch to behind)
       → ((heard_of received room m).machine ≡ record { board = with_form to m.board; due = Echo to }) × (due_of (heard_of received room m).machine ≡ reply_frame (switch_text to))
   unfolding heard_of due_of
-  switch_takes to behind e = (ap (λ (line : Line). after_line line m) e, ap (λ (line : Line). due_of (after_line line m)) e)
+  switch_takes to behind e = (ap (λ (line : LineAnswer). after_line line m) e, ap (λ (line : LineAnswer). due_of (after_line line m)) e)
 
   -- a refused read leaves the machine, and so does a command, which the read only hands on
-  pub read_leaves : ((to : Form) (behind : ℕ) → (heard_of received room m).line ≡ Switch to behind → ⊥) → (heard_of received room m).machine ≡ m
+  pub read_leaves : ((to : Form) (behind : ℕ) → (heard_of received room m).line ≡ Ok (Switch to behind) → ⊥) → (heard_of received room m).machine ≡ m
   unfolding heard_of
   read_leaves n = go (line_of m.board.form received room) n
     where
-      go : (line : Line) → ((to : Form) (behind : ℕ) → line ≡ Switch to behind → ⊥) → after_line line m ≡ m
-      go (Switch to behind) n = absurd (n to behind refl)
-      go (Command start end behind) n = refl
-      go NoFrame n = refl
-      go (TooLong behind) n = refl
-      go (NotOfForm behind) n = refl
-      go (ScratchTooShort behind) n = refl
+      go : (line : LineAnswer) → ((to : Form) (behind : ℕ) → line ≡ Ok (Switch to behind) → ⊥) → after_line line m ≡ m
+      go (Ok (Switch to behind)) n = absurd (n to behind refl)
+      go (Ok (Command start end behind)) n = refl
+      go (Err refusal) n = refl
 
-  pub command_leaves : (start end behind : ℕ) → (heard_of received room m).line ≡ Command start end behind → (heard_of received room m).machine ≡ m
+  pub command_leaves : (start end behind : ℕ) → (heard_of received room m).line ≡ Ok (Command start end behind) → (heard_of received room m).machine ≡ m
   unfolding heard_of
-  command_leaves start end behind e = ap (λ (line : Line). after_line line m) e
+  command_leaves start end behind e = ap (λ (line : LineAnswer). after_line line m) e
 
   pub refused_line_leaves : (line_number (heard_of received room m).line ≡ 0 → ⊥) → (heard_of received room m).machine ≡ m
   refused_line_leaves n = read_leaves (λ to behind e. n (ap line_number e))

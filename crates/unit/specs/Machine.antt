@@ -10,8 +10,8 @@ use Rattle.state.specs.declared.starting.Started.{Started}
 use Rattle.answers.specs.declared.Outcome.{Outcome}
 use Rattle.answers.specs.declared.Outcome.TheVariants.{WrongWordCount, NoTransfer, Answered}
 use Rattle.board.specs.{Tick.tick_of, declared.Ticked.Ticked}
-use Rattle.reading.specs.{Lines.line_of, declared.Line.Line}
-use Rattle.reading.specs.declared.Line.TheVariants.{Command, Switch, NoFrame, TooLong, NotOfForm, ScratchTooShort}
+use Rattle.reading.specs.Lines.{LineAnswer, line_of}
+use Rattle.reading.specs.declared.Line.TheVariants.{Command, Switch}
 use Rattle.framing.specs.{Framing.due_text, declared.Due.Due}
 use Rattle.framing.specs.declared.Due.TheVariants.{Nothing, Reply, Echo}
 use Rattle.unit.specs.{declared.Machine.Machine, declared.Begun.Begun, declared.Told.Told, declared.Heard.Heard}
@@ -63,15 +63,12 @@ told_of rail named words sent s m = told_by (tick_of rail named words sent s m.b
 -- ---- the text line
 
 -- a switch takes at the read, and its echo is to be said; any other answer leaves the machine
-abbrev pub after_line : Line → Machine → Machine
-after_line (Switch form behind) m = record { board = with_form form m.board; due = Echo form }
-after_line (Command start end behind) m = m
-after_line NoFrame m = m
-after_line (TooLong behind) m = m
-after_line (NotOfForm behind) m = m
-after_line (ScratchTooShort behind) m = m
+abbrev pub after_line : LineAnswer → Machine → Machine
+after_line (Ok (Switch form behind)) m = record { board = with_form form m.board; due = Echo form }
+after_line (Ok (Command start end behind)) m = m
+after_line (Err refusal) m = m
 
-abbrev pub heard_by : Line → Machine → Heard
+abbrev pub heard_by : LineAnswer → Machine → Heard
 heard_by line m = record { machine = after_line line m; line = line }
 
 -- the read is by the form in force

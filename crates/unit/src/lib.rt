@@ -17,9 +17,9 @@ ghost use Rattle.board.specs.Tick.{tick_number};
 ghost use Rattle.unit.specs.Machine.{no_machine, begun_of, due_by, tells_it_happened, due_after, told_of, after_line, heard_of, due_of};
 
 use answers::Outcome;
-use framing::{Due, Framed};
+use framing::{Due, FrameRefusal};
 use memory::Stored;
-use reading::Line;
+use reading::{Line, LineRefusal};
 use state::{Board, Profile, StartRefusal};
 use watchdog::Event;
 
@@ -52,7 +52,7 @@ pub struct Told {
 #[derive(Clone, Copy)]
 pub struct Heard {
     pub machine: Machine,
-    pub line: Line,
+    pub line: Result<Line, LineRefusal>,
 }
 
 // What stands where no machine was started yet, and is there only to be started: as a machine it has no channel and the
@@ -154,23 +154,20 @@ pub fn bus_read(m: Machine, out: &mut [u8])
 }
 
 // The machine after its text line was read: a switch takes at once, and its echo is due.
-fn after_line(m: Machine, line: Line) -> Machine
+fn after_line(m: Machine, line: Result<Line, LineRefusal>) -> Machine
     ensures { result ≡ after_line line m }
 {
     match line {
-        Line::Switch { form, behind: _ } => Machine {
+        Ok(Line::Switch { form, behind: _ }) => Machine {
             board: state::with_form(m.board, form),
             due: Due::Echo(form),
         },
-        Line::Command {
+        Ok(Line::Command {
             start: _,
             end: _,
             behind: _,
-        } => m,
-        Line::NoFrame => m,
-        Line::TooLong { behind: _ } => m,
-        Line::NotOfForm { behind: _ } => m,
-        Line::ScratchTooShort { behind: _ } => m,
+        }) => m,
+        Err(_) => m,
     }
 }
 
@@ -210,7 +207,7 @@ pub fn payload<'a>(
 // Frames what the text line has to say into the front of a lent buffer: the reply of the latest tick, the echo of a
 // switch since then, or nothing. Where the buffer is too short it keeps what it held. Nothing is used up: the same call
 // says the same again.
-pub fn frame(m: Machine, out: &mut [u8]) -> Framed
+pub fn frame(m: Machine, out: &mut [u8]) -> Result<usize, FrameRefusal>
     ensures answer { result ≡ framed_of (due_of m) (length out.old) }
     ensures held { out.new ≡ laid (due_of m) out.old }
     ensures number { framed_number result ≡ short_number (length (due_of m)) (length out.old) }
