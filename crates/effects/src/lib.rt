@@ -1,6 +1,6 @@
 // What each command does once the decoder let it through, part by part: to some parts of a board, to its memory, and
 // how its reply is laid out.
-#![tactic(auto)]
+#![tactic(auto, unfolding(answers::specs::Answers::accepted_of, answers::specs::Answers::accepted_with, answers::specs::Answers::refused_of, state::specs::Start::command_reset_of, state::specs::Start::fresh_of, crate::specs::Effects::switched_mode_of, crate::specs::Effects::housekeeping_of, crate::specs::Effects::engineering_housekeeping_of, crate::specs::Effects::battery_housekeeping_of, crate::specs::Effects::engineering_battery_housekeeping_of, crate::specs::Effects::faults_of, crate::specs::Effects::parameter_answered, crate::specs::Effects::abf_of, crate::specs::Effects::reported_of, crate::specs::Effects::remembered_of, crate::specs::Effects::saved_in, crate::specs::Effects::restarted_of, crate::specs::Effects::run_of,))]
 
 ghost use Rattle.std.specs.Prelude.{◌≡◌};
 ghost use Rattle.answers.specs.Answers.{accepted_of, refused_of};
@@ -21,7 +21,6 @@ use state::{Board, Fresh};
 use switching::{cancelled, channel_off, channel_on, group_off, group_on, group_state};
 
 // Accepted, with a mode and channels of its own; the timer is fed.
-#[tactic(auto, unfolding(answers::specs::Answers::accepted_of, answers::specs::Answers::accepted_with))]
 fn accepted(b: Board, phase: ModeAge, channels: Channels) -> Obeyed
     ensures { result ≡ obeyed_in (accepted_of any_code (with_phase phase (with_channels channels b))) }
 {
@@ -37,7 +36,6 @@ fn accepted(b: Board, phase: ModeAge, channels: Channels) -> Obeyed
 }
 
 // Answered with 0 or with 4 to 7, and nothing but the timer changes: it is fed, which 3 would not do.
-#[tactic(auto, unfolding(answers::specs::Answers::refused_of))]
 pub fn only_fed(b: Board, answer: Answer) -> Obeyed
     ensures { result ≡ obeyed_in (refused_of answer any_code b) }
 {
@@ -55,7 +53,6 @@ pub fn only_fed(b: Board, answer: Answer) -> Obeyed
 }
 
 // 0x30 and 0x32: the mode, and with it the channels, where the change is available.
-#[tactic(auto, unfolding(crate::specs::Effects::switched_mode_of))]
 fn switched_mode(b: Board, asked: Option<ModeAge>) -> Obeyed
     ensures { result ≡ obeyed_in (switched_mode_of any_code asked b) }
 {
@@ -69,7 +66,6 @@ fn switched_mode(b: Board, asked: Option<ModeAge>) -> Obeyed
 }
 
 // 0x50, and 0x60 on a battery board: the measured words are no longer new as raw readings.
-#[tactic(auto, unfolding(crate::specs::Effects::housekeeping_of, answers::specs::Answers::accepted_with, answers::specs::Answers::refused_of))]
 fn housekeeping(b: Board) -> Obeyed
     ensures { result ≡ obeyed_in (housekeeping_of any_code b) }
 {
@@ -79,7 +75,6 @@ fn housekeeping(b: Board) -> Obeyed
 }
 
 // 0x52, and 0x62 on a battery board: the measured words are no longer new as engineering readings.
-#[tactic(auto, unfolding(crate::specs::Effects::engineering_housekeeping_of, answers::specs::Answers::accepted_with, answers::specs::Answers::refused_of))]
 fn engineering_housekeeping(b: Board) -> Obeyed
     ensures { result ≡ obeyed_in (engineering_housekeeping_of any_code b) }
 {
@@ -99,7 +94,6 @@ fn saved(b: Board, checksum: u16) -> Obeyed
 }
 
 // 0xAA: as a board is that starts over, with no reply.
-#[tactic(auto, unfolding(crate::specs::Effects::restarted_of, state::specs::Start::command_reset_of, state::specs::Start::fresh_of))]
 fn restarted(b: Board) -> Obeyed
     ensures { result ≡ obeyed_in (restarted_of b) }
 {
@@ -120,7 +114,6 @@ fn restarted(b: Board) -> Obeyed
 
 // A command that changes neither mode, channels nor memory: of those parts the timer alone is another, and after 0x50,
 // 0x52, 0x60 and 0x62 what is new.
-#[tactic(auto, unfolding(crate::specs::Effects::reported_of, crate::specs::Effects::housekeeping_of, crate::specs::Effects::engineering_housekeeping_of, crate::specs::Effects::faults_of, crate::specs::Effects::parameter_answered, crate::specs::Effects::abf_of, crate::specs::Effects::battery_housekeeping_of, crate::specs::Effects::engineering_battery_housekeeping_of, answers::specs::Answers::accepted_of, answers::specs::Answers::accepted_with, answers::specs::Answers::refused_of))]
 fn reported(b: Board, layout: Layout) -> Obeyed
     ensures { result ≡ obeyed_in (reported_of any_code layout b) }
 {
@@ -136,7 +129,6 @@ fn reported(b: Board, layout: Layout) -> Obeyed
 }
 
 // What a command that the decoder let through leaves of those parts.
-#[tactic(auto, unfolding(crate::specs::Effects::run_of, crate::specs::Effects::parameter_answered, crate::specs::Effects::remembered_of, answers::specs::Answers::accepted_of, answers::specs::Answers::accepted_with, answers::specs::Answers::refused_of))]
 pub fn run(b: Board, rail: i16, limits: Limits, c: Command) -> Obeyed
     ensures { result ≡ obeyed_in (run_of rail limits any_code c b) }
 {

@@ -1,4 +1,6 @@
 // The commands on channels: 0x10, 0x12, 0x14, 0x16, 0x18 and 0x04.
+#![tactic(auto, unfolding(answers::specs::Answers::accepted_of, answers::specs::Answers::accepted_with, crate::specs::Effects::is_nominal, crate::specs::Effects::switched_of, crate::specs::Effects::group_on_of, crate::specs::Effects::group_off_of, crate::specs::Effects::group_state_of, crate::specs::Effects::channel_on_of, crate::specs::Effects::channel_off_of, crate::specs::Effects::cancelled_of,))]
+
 ghost use Rattle.std.specs.Prelude.{◌≡◌};
 ghost use Rattle.effects.specs.Effects.{switched_of, cancelled_of, group_on_of, group_off_of, group_state_of, channel_on_of, channel_off_of};
 ghost use Rattle.effects.specs.Parts.{any_code, obeyed_in};
@@ -12,7 +14,6 @@ use modes::Mode;
 use state::Board;
 
 // One of the five from 0x10 to 0x18: available in nominal alone, and then right or wrong by the channel it names.
-#[tactic(auto, unfolding(crate::specs::Effects::is_nominal, crate::specs::Effects::switched_of, answers::specs::Answers::accepted_of, answers::specs::Answers::accepted_with))]
 fn switched(b: Board, right: bool, channels: Channels) -> Obeyed
     ensures { result ≡ obeyed_in (switched_of any_code right channels b) }
 {
@@ -26,7 +27,6 @@ fn switched(b: Board, right: bool, channels: Channels) -> Obeyed
 }
 
 // 0x10 group on.
-#[tactic(auto, unfolding(crate::specs::Effects::group_on_of))]
 pub fn group_on(b: Board, g: Group) -> Obeyed
     ensures { result ≡ obeyed_in (group_on_of any_code g b) }
 {
@@ -35,7 +35,6 @@ pub fn group_on(b: Board, g: Group) -> Obeyed
 }
 
 // 0x12 group off.
-#[tactic(auto, unfolding(crate::specs::Effects::group_off_of))]
 pub fn group_off(b: Board, g: Group) -> Obeyed
     ensures { result ≡ obeyed_in (group_off_of any_code g b) }
 {
@@ -46,7 +45,6 @@ pub fn group_off(b: Board, g: Group) -> Obeyed
 }
 
 // 0x14 group state.
-#[tactic(auto, unfolding(crate::specs::Effects::group_state_of))]
 pub fn group_state(b: Board, g: Group) -> Obeyed
     ensures { result ≡ obeyed_in (group_state_of any_code g b) }
 {
@@ -57,7 +55,6 @@ pub fn group_state(b: Board, g: Group) -> Obeyed
 }
 
 // 0x16: one channel on.
-#[tactic(auto, unfolding(crate::specs::Effects::channel_on_of))]
 pub fn channel_on(b: Board, one: u8) -> Obeyed
     ensures { result ≡ obeyed_in (channel_on_of any_code one b) }
 {
@@ -67,7 +64,6 @@ pub fn channel_on(b: Board, one: u8) -> Obeyed
 }
 
 // 0x18: one channel off.
-#[tactic(auto, unfolding(crate::specs::Effects::channel_off_of))]
 pub fn channel_off(b: Board, one: u8) -> Obeyed
     ensures { result ≡ obeyed_in (channel_off_of any_code one b) }
 {
@@ -79,7 +75,6 @@ pub fn channel_off(b: Board, one: u8) -> Obeyed
 }
 
 // 0x04, in every mode but startup: no channel that a command may switch off stays on.
-#[tactic(auto, unfolding(crate::specs::Effects::cancelled_of, answers::specs::Answers::accepted_of, answers::specs::Answers::accepted_with))]
 pub fn cancelled(b: Board) -> Obeyed
     ensures { result ≡ obeyed_in (cancelled_of any_code b) }
 {
