@@ -46,6 +46,7 @@ pub fn with_channel(set: u32, c: u8) -> u32
 }
 
 // A channel's count after a tick in which it trips or does not: one more where it trips, and never above 65,535.
+// Kept: whether it trips is the truth value of `count_one`, and the contracts of this crate stay word for word.
 fn counted(count: u16, trips: bool) -> u16
     ensures { result ≡ count_one trips count }
 {

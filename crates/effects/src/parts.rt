@@ -8,6 +8,7 @@ use value::ParamValue;
 
 // Mode and age, timer, channels, and whether the words are new, as a transfer leaves them; what the tick tells of it,
 // and whether a reply was made. What else a restart changes is left to `state`.
+// Kept: nothing stands beside `replied`; the reply itself is laid in the board's buffer, by its layout.
 #[derive(Clone, Copy)]
 pub struct Obeyed {
     pub phase: ModeAge,
@@ -19,6 +20,7 @@ pub struct Obeyed {
 }
 
 // What a command does to the settings and to what is stored of them; a restart loads them with all else.
+// Kept: seven things that can happen, of which the board does each in its own way; none is the lack of another.
 #[derive(Clone, Copy)]
 pub enum MemoryChange {
     AsBefore,

@@ -14,6 +14,7 @@ use modes::Mode;
 use state::Board;
 
 // One of the five from 0x10 to 0x18: available in nominal alone, and then right or wrong by the channel it names.
+// Kept: `right` is what `may_switch_on` and `may_switch_off` answer, and their contracts say a truth value.
 fn switched(b: Board, right: bool, channels: Channels) -> Obeyed
     ensures { result ≡ obeyed_in (switched_of any_code right channels b) }
 {
@@ -35,6 +36,8 @@ pub fn group_on(b: Board, g: Group) -> Obeyed
 }
 
 // 0x12 group off.
+// Kept: it and 0x14 differ in what happens to the channels; a function of both would be told that by a closure of three
+// lines, which are all that each of them has.
 pub fn group_off(b: Board, g: Group) -> Obeyed
     ensures { result ≡ obeyed_in (group_off_of any_code g b) }
 {

@@ -7,6 +7,7 @@ ghost use Rattle.kinds.specs.Kinds.{board_of, is_in, is_served};
 
 // A kind of board: the battery board with whether its ABF is placed, the integrated board with whether it has a
 // daughterboard.
+// Kept: three boards, of which two come in two makes; none is the lack of another.
 #[derive(Clone, Copy, PartialEq, Eq)]
 pub enum Kind {
     Distribution,
@@ -15,6 +16,8 @@ pub enum Kind {
 }
 
 // The STID of a kind of board.
+// Kept: each function down to `places` is a column of the table. A variant that carries something has no number of its
+// own, and a row of all columns would be put together for the one that is asked for.
 pub fn stid(kind: Kind) -> u8
     ensures { result ≡ (board_of kind).stid }
 {

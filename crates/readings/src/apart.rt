@@ -89,6 +89,8 @@ fn patterns(readings: [Engineering; 122]) -> [u16; 122]
 }
 
 // A reply with raw readings behind what it shows: of those that count, the ones from one place to before another.
+// Kept: how many readings count goes by the kind of board, and the array is that of the board with the most; the two
+// come from the profile and from the board, and meet here.
 pub fn append_raw(reply: Reply, raws: [Raw; 130], count: usize, from: usize, to: usize) -> Reply
     ensures { result ≡ wire-replies.after reply (wire-replies.words (drop from (take to (take count (raw_words raws))))) }
 {

@@ -16,6 +16,8 @@ pub fn vip_row(word: usize) -> Row
 }
 
 // The row of a word of a channel's block, which has dividers of its own.
+// Kept: it and `vip_row` are two lists of the page; one function would be given the two rows in which they differ at
+// each call, and is no plainer.
 fn channel_row(word: usize) -> Row
     ensures { result ≡ channel_row word }
 {

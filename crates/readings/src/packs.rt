@@ -6,6 +6,7 @@ use crate::layout::{row_at, vip_row};
 use crate::table::Row;
 
 // A word is told by a row of Table 3-12, by the curve of Table 3-13, or, if it is a status word, as it is.
+// Kept: three ways, each with an answer of its own; none is the lack of another.
 #[derive(Clone, Copy)]
 pub enum Way {
     ByRow(Row),

@@ -71,6 +71,7 @@ fn is_vipd(row: Row) -> bool
 }
 
 // The number that a word stands for.
+// Kept: `vipd` is the truth value by which `number_of` reads the word; the word is there either way.
 #[tactic(auto, unfolding(crate::specs::Table::number_of))]
 fn number(word: u16, vipd: bool) -> i64
     ensures { result ≡ number_of vipd (raw_of word) }
