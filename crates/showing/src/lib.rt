@@ -16,6 +16,7 @@ use watchdog::Event;
 use wire::Reply;
 
 // A space and one character.
+#[tactic(auto, unfolding(script::specs::Printing::typed))]
 fn letter(out: &mut [u8], at: usize, c: u8) -> usize
     ensures { page out.new result ≡ typed (page out.old at) (letter_of c) }
 {
@@ -24,6 +25,7 @@ fn letter(out: &mut [u8], at: usize, c: u8) -> usize
 }
 
 // A space and the bytes that a reply shows.
+#[tactic(auto, unfolding(crate::specs::Showing::reply_text))]
 fn reply(out: &mut [u8], at: usize, r: Reply) -> usize
     ensures { page out.new result ≡ typed (page out.old at) (reply_text r) }
 {
@@ -33,6 +35,7 @@ fn reply(out: &mut [u8], at: usize, r: Reply) -> usize
 }
 
 // The reply that was made in a tick.
+#[tactic(auto, unfolding(crate::specs::Showing::made_text))]
 fn made(out: &mut [u8], at: usize, replied: bool, r: Reply) -> usize
     ensures { page out.new result ≡ typed (page out.old at) (made_text replied r) }
 {
@@ -43,6 +46,7 @@ fn made(out: &mut [u8], at: usize, replied: bool, r: Reply) -> usize
 }
 
 // The mode, its age, the timer, and the channels that are on and latched.
+#[tactic(auto, using(script::proofs::Turns::typed_append), unfolding(script::specs::Printing::typed, crate::specs::Showing::front_text))]
 fn front(out: &mut [u8], phase: ModeAge, timer: u64, c: Channels) -> usize
     ensures { page out.new result ≡ typed (page out.old 0) (front_text phase timer c) }
 {
@@ -54,6 +58,7 @@ fn front(out: &mut [u8], phase: ModeAge, timer: u64, c: Channels) -> usize
 }
 
 // The tick line, with the letters of what the watchdog did and of the answer.
+#[tactic(auto, using(script::proofs::Turns::typed_append), unfolding(script::specs::Printing::typed, crate::specs::Showing::tick_line))]
 fn tick_line(b: Board, event: u8, answer: u8, replied: bool, out: &mut [u8]) -> usize
     ensures { page out.new result ≡ typed (page out.old 0) (tick_line event answer replied b) }
 {
@@ -65,6 +70,7 @@ fn tick_line(b: Board, event: u8, answer: u8, replied: bool, out: &mut [u8]) -> 
 }
 
 // What a tick prints: its line, or that it was refused.
+#[tactic(auto, unfolding(crate::specs::Showing::ticked_line))]
 pub fn ticked(b: Board, outcome: Outcome, event: Event, replied: bool, out: &mut [u8]) -> usize
     ensures { page out.new result ≡ typed (page out.old 0) (ticked_line outcome event replied b) }
 {
@@ -77,6 +83,7 @@ pub fn ticked(b: Board, outcome: Outcome, event: Event, replied: bool, out: &mut
 }
 
 // The cause of the last reset and the three counts of resets.
+#[tactic(auto, using(script::proofs::Turns::typed_append), unfolding(script::specs::Printing::typed, crate::specs::Showing::resets_text))]
 fn resets(out: &mut [u8], start: usize, r: Resets) -> usize
     ensures { page out.new result ≡ typed (page out.old start) (resets_text r) }
 {
@@ -88,6 +95,7 @@ fn resets(out: &mut [u8], start: usize, r: Resets) -> usize
 }
 
 // The stored save count, where something is stored.
+#[tactic(auto, unfolding(crate::specs::Showing::stored_text))]
 fn stored(out: &mut [u8], at: usize, s: Option<Stored>) -> usize
     ensures { page out.new result ≡ typed (page out.old at) (stored_text s) }
 {
@@ -98,6 +106,7 @@ fn stored(out: &mut [u8], at: usize, s: Option<Stored>) -> usize
 }
 
 // What the memory shows and holds.
+#[tactic(auto, using(script::proofs::Turns::typed_append), unfolding(script::specs::Printing::typed, crate::specs::Showing::memory_text))]
 fn memory(out: &mut [u8], start: usize, m: Memory) -> usize
     ensures { page out.new result ≡ typed (page out.old start) (memory_text m) }
 {
@@ -127,6 +136,7 @@ fn measured(out: &mut [u8], at: usize, m: Measured, count: usize) -> usize
 }
 
 // The state line.
+#[tactic(auto, using(script::proofs::Turns::typed_append), unfolding(script::specs::Printing::typed, crate::specs::Showing::state_line))]
 pub fn state(b: Board, out: &mut [u8]) -> usize
     ensures { page out.new result ≡ typed (page out.old 0) (state_line b) }
 {
