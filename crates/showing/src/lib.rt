@@ -20,7 +20,7 @@ use wire::Reply;
 fn letter(out: &mut [u8], at: usize, c: u8) -> usize
     ensures { page out.new result ≡ typed (page out.old at) (letter_of c) }
 {
-    let place = put(out, at, 32);
+    let place = put(out, at, b' ');
     put(out, place, c)
 }
 
@@ -29,9 +29,7 @@ fn letter(out: &mut [u8], at: usize, c: u8) -> usize
 fn reply(out: &mut [u8], at: usize, r: Reply) -> usize
     ensures { page out.new result ≡ typed (page out.old at) (reply_text r) }
 {
-    let bytes = r.bytes;
-    let len = r.len;
-    string(out, at, wire::first(&bytes, len))
+    string(out, at, wire::first(&r.bytes, r.len))
 }
 
 // The reply that was made in a tick.
@@ -66,7 +64,7 @@ fn tick_line(b: Board, event: u8, answer: u8, replied: bool, out: &mut [u8]) -> 
     at = letter(out, at, event);
     at = letter(out, at, answer);
     at = made(out, at, replied, b.reply);
-    put(out, at, 10)
+    put(out, at, b'\n')
 }
 
 // What a tick prints: its line, or that it was refused.
@@ -87,8 +85,7 @@ pub fn ticked(b: Board, outcome: Outcome, event: Event, replied: bool, out: &mut
 fn resets(out: &mut [u8], start: usize, r: Resets) -> usize
     ensures { page out.new result ≡ typed (page out.old start) (resets_text r) }
 {
-    let cause = r.cause;
-    let mut at = field(out, start, answers::cause_number(cause), 2);
+    let mut at = field(out, start, answers::cause_number(r.cause), 2);
     at = field(out, at, r.power as u64, 4);
     at = field(out, at, r.watchdog as u64, 4);
     field(out, at, r.command as u64, 4)
@@ -110,29 +107,24 @@ fn stored(out: &mut [u8], at: usize, s: Option<Stored>) -> usize
 fn memory(out: &mut [u8], start: usize, m: Memory) -> usize
     ensures { page out.new result ≡ typed (page out.old start) (memory_text m) }
 {
-    let shown = m.shown;
-    let settings = image::bytes(m.current);
-    let mut at = field(out, start, shown.save_count as u64, 4);
-    at = field(out, at, shown.checksum as u64, 4);
+    let mut at = field(out, start, m.shown.save_count as u64, 4);
+    at = field(out, at, m.shown.checksum as u64, 4);
     at = stored(out, at, m.store);
-    string(out, at, &settings)
+    string(out, at, &image::bytes(m.current))
 }
 
 // The overcurrent counts.
 fn counts(out: &mut [u8], at: usize, c: Channels) -> usize
     ensures { page out.new result ≡ typed (page out.old at) (32 ∷ row 4 c.counts) }
 {
-    let all = c.counts();
-    words(out, at, &all)
+    words(out, at, &c.counts())
 }
 
 // The words, as many as count.
 fn measured(out: &mut [u8], at: usize, m: Measured, count: usize) -> usize
     ensures { page out.new result ≡ typed (page out.old at) (32 ∷ row 4 (take count (raw_words m.words))) }
 {
-    let raws = m.words;
-    let all = readings::words(raws);
-    words(out, at, wire::first(&all, count))
+    words(out, at, wire::first(&readings::words(m.words), count))
 }
 
 // The state line.
@@ -140,15 +132,12 @@ fn measured(out: &mut [u8], at: usize, m: Measured, count: usize) -> usize
 pub fn state(b: Board, out: &mut [u8]) -> usize
     ensures { page out.new result ≡ typed (page out.old 0) (state_line b) }
 {
-    let profile = b.profile;
-    let kind = profile.kind;
-    let count = kinds::word_count(kind);
-    let form = b.form;
-    let mut at = put(out, 0, naming::form_letter(form));
+    let count = kinds::word_count(b.profile.kind);
+    let mut at = put(out, 0, naming::form_letter(b.form));
     at = resets(out, at, b.resets);
     at = memory(out, at, b.memory);
     at = counts(out, at, b.channels);
     at = measured(out, at, b.measured, count);
     at = reply(out, at, b.reply);
-    put(out, at, 10)
+    put(out, at, b'\n')
 }

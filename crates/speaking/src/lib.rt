@@ -22,6 +22,7 @@ fn form_name(form: Form, out: &mut [u8]) -> usize
 }
 
 // A word, and a number behind it.
+#[tactic(auto, using(script::proofs::Turns::typed_append))]
 fn told(out: &mut [u8], what: &[u8], n: usize) -> usize
     ensures { page out.new result ≡ typed (page out.old 0) (what.now ++ field_of 4 n) }
 {
@@ -30,6 +31,7 @@ fn told(out: &mut [u8], what: &[u8], n: usize) -> usize
 }
 
 // A command's place, and its payload behind it.
+#[tactic(auto, using(script::proofs::Turns::typed_append), unfolding(script::specs::Printing::typed, crate::specs::Speaking::command_text))]
 fn command(out: &mut [u8], behind: usize, payload: &[u8]) -> usize
     ensures { page out.new result ≡ typed (page out.old 0) (command_text behind payload.now) }
 {
@@ -38,6 +40,7 @@ fn command(out: &mut [u8], behind: usize, payload: &[u8]) -> usize
 }
 
 // A form's name, and the place behind the switch to it.
+#[tactic(auto, using(script::proofs::Turns::typed_append))]
 fn switched(out: &mut [u8], form: Form, behind: usize) -> usize
     ensures { page out.new result ≡ typed (page out.old 0) (form_name form ++ field_of 4 behind) }
 {
@@ -65,14 +68,16 @@ fn answer(line: Result<Line, LineRefusal>, payload: &[u8], out: &mut [u8]) -> us
 }
 
 // A space, the whole of a lent buffer, and the line's end.
+#[tactic(auto, using(script::proofs::Turns::typed_append), unfolding(script::specs::Printing::typed))]
 fn whole(out: &mut [u8], start: usize, buffer: &[u8]) -> usize
     ensures { page out.new result ≡ typed (page out.old start) (whole_text buffer.now) }
 {
     let at = string(out, start, buffer);
-    put(out, at, 10)
+    put(out, at, b'\n')
 }
 
 // The line of a read of the text line.
+#[tactic(auto, using(script::proofs::Turns::typed_append), unfolding(crate::specs::Speaking::heard_line))]
 pub fn heard(line: Result<Line, LineRefusal>, payload: &[u8], scratch: &[u8], out: &mut [u8]) -> usize
     ensures { page out.new result ≡ typed (page out.old 0) (heard_line line payload.now scratch.now) }
 {
@@ -92,6 +97,7 @@ fn framing(answer: Result<usize, FrameRefusal>, out: &mut [u8]) -> usize
 }
 
 // The line of a framing.
+#[tactic(auto, using(script::proofs::Turns::typed_append), unfolding(crate::specs::Speaking::framed_line))]
 pub fn framed(answer: Result<usize, FrameRefusal>, buffer: &[u8], out: &mut [u8]) -> usize
     ensures { page out.new result ≡ typed (page out.old 0) (framed_line answer buffer.now) }
 {
@@ -100,6 +106,7 @@ pub fn framed(answer: Result<usize, FrameRefusal>, buffer: &[u8], out: &mut [u8]
 }
 
 // A buffer that nothing was written to.
+#[tactic(auto, unfolding(crate::specs::Speaking::blank))]
 pub fn untouched() -> [u8; 1024]
     ensures { result ≡ blank }
 {
@@ -110,7 +117,7 @@ pub fn untouched() -> [u8; 1024]
 pub fn within(count: usize) -> usize
     ensures { result ≡ min count 1024 }
 {
-    if count < 1024 { count } else { 1024 }
+    count.min(1024)
 }
 
 // Where a command's payload lies; with any other answer there is none.
