@@ -109,9 +109,8 @@ pub fn received(bench: Bench, machine: Machine, bytes: &[u8], room: usize, out: 
     ensures { left result out.new ≡ received_of out.old bench machine bytes.now (take room blank) }
 {
     let mut buffer = speaking::untouched();
-    let n = speaking::within(room);
-    let heard = unit::read_line(machine, bytes, &mut buffer[..n]);
-    let scratch = wire::first(&buffer, n);
+    let scratch = &mut buffer[..speaking::within(room)];
+    let heard = unit::read_line(machine, bytes, scratch);
     Ran {
         bench: Bench {
             machine: Some(heard.machine),

@@ -16,13 +16,14 @@ fn read(m: Machine, count: usize, out: &mut [u8]) -> usize
     ensures { page out.new result ≡ typed (page out.old 0) (read_line m count) }
 {
     let mut buffer = speaking::untouched();
-    let n = speaking::within(count);
-    unit::bus_read(m, &mut buffer[..n]);
-    let at = bytes(out, 0, wire::first(&buffer, n));
-    put(out, at, 10)
+    let found = &mut buffer[..speaking::within(count)];
+    unit::bus_read(m, found);
+    let at = bytes(out, 0, found);
+    put(out, at, b'\n')
 }
 
 // What a read of the text line prints.
+#[tactic(auto, unfolding(crate::specs::Looking::answer_line))]
 pub fn answer<'a>(
     m: Machine,
     line: Result<Line, LineRefusal>,
@@ -32,9 +33,13 @@ pub fn answer<'a>(
 ) -> usize
     ensures { page out.new result ≡ typed (page out.old 0) (answer_line line m.board.form received.now scratch.now) }
 {
-    let span = speaking::span_of(line);
-    let payload = unit::payload(m, received, scratch, span.start, span.end);
-    speaking::heard(line, payload, scratch, out)
+    match line {
+        Ok(Line::Command { start, end, behind: _ }) => {
+            let payload = unit::payload(m, received, scratch, start, end);
+            speaking::heard(line, payload, scratch, out)
+        }
+        Ok(Line::Switch { form: _, behind: _ }) | Err(_) => speaking::heard(line, &[], scratch, out),
+    }
 }
 
 // What a framing prints.
@@ -42,12 +47,13 @@ fn framed(m: Machine, room: usize, out: &mut [u8]) -> usize
     ensures { page out.new result ≡ typed (page out.old 0) (framing_line m (take room blank)) }
 {
     let mut buffer = speaking::untouched();
-    let n = speaking::within(room);
-    let framed = unit::frame(m, &mut buffer[..n]);
-    speaking::framed(framed, wire::first(&buffer, n), out)
+    let output = &mut buffer[..speaking::within(room)];
+    let framed = unit::frame(m, output);
+    speaking::framed(framed, output, out)
 }
 
 // What a line prints that changes nothing.
+#[tactic(auto, unfolding(crate::specs::Looking::look_line))]
 pub fn looked(m: Machine, look: Look, out: &mut [u8]) -> usize
     ensures { page out.new result ≡ typed (page out.old 0) (look_line m look) }
 {

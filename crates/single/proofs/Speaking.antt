@@ -6,7 +6,6 @@ use Rattle.speaking.proofs.heard.Reads as heard
 use Rattle.speaking.proofs.framed.Reads as framed
 use Rattle.speaking.proofs.untouched.Reads as untouched
 use Rattle.speaking.proofs.within.Reads as within
-use Rattle.speaking.proofs.span_of.Reads as Span_of
 
 pub single_heard : Single heard.Post (λ κ r s. r)
 single_heard κ a r r' s s' p q = place_same (p ∙ sym q)
@@ -25,6 +24,3 @@ single_untouched κ a r r' s s' p q = p ∙ sym q
 
 pub single_within : Single within.Post (λ κ r s. r)
 single_within κ a r r' s s' p q = p ∙ sym q
-
-pub single_span_of : Single Span_of.Post (λ κ r s. r)
-single_span_of κ a r r' s s' p q = p ∙ sym q

@@ -5,7 +5,6 @@ use Rattle.wire.specs.declared.forms.Form.{Form}
 use Rattle.reading.specs.{Lines.LineAnswer, declared.Line.Line, declared.LineRefusal.LineRefusal}
 use Rattle.framing.specs.declared.FrameRefusal.{FrameRefusal}
 use Rattle.script.specs.Printing.{hex_of, field_of}
-use Rattle.speaking.specs.declared.Span.{Span}
 
 -- form raw; form ascii
 abbrev pub form_name : Form → List ℕ
@@ -47,9 +46,3 @@ framed_line answer buffer = framed_text answer ++ whole_text buffer
 -- a buffer before it is lent: each byte is 0xEE
 unfoldable pub blank : List ℕ
 blank = replicate 1024 0xEE
-
--- where a command's payload lies
-abbrev pub span_of : LineAnswer → Span
-span_of (Ok (Line.Command start end behind)) = record { start = start; end = end }
-span_of (Ok (Line.Switch form behind)) = record { start = 0; end = 0 }
-span_of (Err refusal) = record { start = 0; end = 0 }

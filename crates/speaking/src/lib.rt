@@ -4,7 +4,7 @@
 
 ghost use Rattle.std.specs.Prelude.{◌≡◌, min, ◌++◌};
 ghost use Rattle.script.specs.Printing.{page, typed, field_of};
-ghost use Rattle.speaking.specs.Speaking.{form_name, command_text, line_text, whole_text, heard_line, framed_text, framed_line, blank, span_of};
+ghost use Rattle.speaking.specs.Speaking.{form_name, command_text, line_text, whole_text, heard_line, framed_text, framed_line, blank};
 
 use framing::FrameRefusal;
 use reading::{Line, LineRefusal};
@@ -118,26 +118,4 @@ pub fn within(count: usize) -> usize
     ensures { result ≡ min count 1024 }
 {
     count.min(1024)
-}
-
-// Where a command's payload lies; with any other answer there is none.
-#[derive(Clone, Copy)]
-pub struct Span {
-    pub start: usize,
-    pub end: usize,
-}
-
-// The span of what a read of the text line answers.
-pub fn span_of(line: Result<Line, LineRefusal>) -> Span
-    ensures { result ≡ span_of line }
-{
-    match line {
-        Ok(Line::Command {
-            start,
-            end,
-            behind: _,
-        }) => Span { start, end },
-        Ok(Line::Switch { form: _, behind: _ }) => Span { start: 0, end: 0 },
-        Err(_) => Span { start: 0, end: 0 },
-    }
 }
