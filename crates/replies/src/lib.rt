@@ -12,18 +12,12 @@ use readings::{Engineering, Raw};
 use value::ValueBytes;
 use wire::Reply;
 
-// The 5-byte reply: the bytes that every reply starts with, and all of most replies.
-pub fn short(board: Header, code: u8, stat: u8) -> Reply
-    ensures { result ≡ reply_of (short_reply board code stat) }
-{
-    Reply::short(board.stid, board.ivid, code, board.bid, stat)
-}
-
-// The 6 bytes that every longer reply starts with: a reserved byte stands behind STAT.
-fn longer(board: Header, code: u8, stat: u8) -> Reply
-    ensures { result ≡ reply_of (laid_out (head board code stat ++ reserved)) }
-{
-    short(board, code, stat).append_bytes(&[0u8; 1])
+// What a reply starts with: what its board is called by, the code that it answers, and its status.
+#[derive(Clone, Copy)]
+pub struct Head {
+    pub board: Header,
+    pub code: u8,
+    pub stat: u8,
 }
 
 // The four channel words: of the channels on and then of those latched, 0 to 15 and then 16 to 31.
@@ -39,61 +33,6 @@ fn channel_words(on: u32, latched: u32) -> [u16; 4]
     ]
 }
 
-// The reply of 0x42: the channel words, then the overcurrent count of each channel.
-pub fn faults(board: Header, code: u8, stat: u8, on: u32, latched: u32, counts: [u16; 32]) -> Reply
-    ensures { result ≡ reply_of (faults_reply board code stat on latched counts) }
-{
-    let four = channel_words(on, latched);
-    longer(board, code, stat)
-        .append_words(&four)
-        .append_words(&counts)
-}
-
-// The reply of 0x50, of raw readings and of nothing else: the first five of those that count, the channel words, then
-// the others.
-pub fn raw_housekeeping(
-    board: Header,
-    code: u8,
-    stat: u8,
-    on: u32,
-    latched: u32,
-    raws: [Raw; 130],
-    count: usize,
-) -> Reply
-    ensures { result ≡ reply_of (housekeeping_reply board code stat on latched (take count (raw_words raws))) }
-{
-    let four = channel_words(on, latched);
-    let front = readings::append_raw(longer(board, code, stat), raws, count, 0, 5);
-    readings::append_raw(front.append_words(&four), raws, count, 5, count)
-}
-
-// The reply of 0x52, of engineering readings and of nothing else, in the same layout.
-pub fn engineering_housekeeping(
-    board: Header,
-    code: u8,
-    stat: u8,
-    on: u32,
-    latched: u32,
-    units: [Engineering; 122],
-) -> Reply
-    ensures { result ≡ reply_of (housekeeping_reply board code stat on latched (engineering_words units)) }
-{
-    let four = channel_words(on, latched);
-    let front = readings::append_engineering(longer(board, code, stat), units, 0, 5);
-    readings::append_engineering(front.append_words(&four), units, 5, 122)
-}
-
-// The reply of 0x82, 0x84 and 0x86: the id, then as many bytes as the value has.
-pub fn parameter(board: Header, code: u8, stat: u8, id: u16, value: ValueBytes) -> Reply
-    ensures { result ≡ reply_of (parameter_reply board code stat id (take value.len value.bytes)) }
-{
-    let id_bytes = id.to_le_bytes();
-    let bytes = value.bytes;
-    longer(board, code, stat)
-        .append_bytes(&id_bytes)
-        .append_bytes(wire::first(&bytes, value.len))
-}
-
 // The byte that tells whether the ABF is placed.
 fn abf_byte(placed: bool) -> u8
     ensures { result ≡ abf_byte placed }
@@ -101,25 +40,85 @@ fn abf_byte(placed: bool) -> u8
     if placed { 0xAB } else { 0x00 }
 }
 
-// The reply of 0x44: whether the ABF is placed, told twice.
-pub fn abf(board: Header, code: u8, stat: u8, placed: bool) -> Reply
-    ensures { result ≡ reply_of (abf_reply board code stat placed) }
-{
-    let told = abf_byte(placed);
-    let both = [told, told];
-    longer(board, code, stat).append_bytes(&both)
-}
+impl Head {
+    // The 5-byte reply: the bytes that every reply starts with, and all of most replies.
+    pub fn short(self) -> Reply
+        ensures { result ≡ reply_of (short_reply self.board self.code self.stat) }
+    {
+        Reply::short(
+            self.board.stid,
+            self.board.ivid,
+            self.code,
+            self.board.bid,
+            self.stat,
+        )
+    }
 
-// The reply of 0x60, of raw readings and of nothing else: those that count, in a row.
-pub fn raw_battery(board: Header, code: u8, stat: u8, raws: [Raw; 130], count: usize) -> Reply
-    ensures { result ≡ reply_of (battery_reply board code stat (take count (raw_words raws))) }
-{
-    readings::append_raw(longer(board, code, stat), raws, count, 0, count)
-}
+    // The 6 bytes that every longer reply starts with: a reserved byte stands behind STAT.
+    fn longer(self) -> Reply
+        ensures { result ≡ reply_of (laid_out (head self.board self.code self.stat ++ reserved)) }
+    {
+        self.short().append_bytes(&[0u8; 1])
+    }
 
-// The reply of 0x62, of engineering readings and the status words, in the same layout.
-pub fn engineering_battery(board: Header, code: u8, stat: u8, raws: [Raw; 130]) -> Reply
-    ensures { result ≡ reply_of (battery_reply board code stat (told_by packs raws)) }
-{
-    readings::append_packs(longer(board, code, stat), raws)
+    // The reply of 0x42: the channel words, then the overcurrent count of each channel.
+    pub fn faults(self, on: u32, latched: u32, counts: [u16; 32]) -> Reply
+        ensures { result ≡ reply_of (faults_reply self.board self.code self.stat on latched counts) }
+    {
+        let four = channel_words(on, latched);
+        self.longer().append_words(&four).append_words(&counts)
+    }
+
+    // The reply of 0x50, of raw readings and of nothing else: the first five of those that count, the channel words, then
+    // the others.
+    pub fn raw_housekeeping(self, on: u32, latched: u32, raws: [Raw; 130], count: usize) -> Reply
+        ensures { result ≡ reply_of (housekeeping_reply self.board self.code self.stat on latched (take count (raw_words raws))) }
+    {
+        let four = channel_words(on, latched);
+        let front = readings::append_raw(self.longer(), raws, count, 0, 5);
+        readings::append_raw(front.append_words(&four), raws, count, 5, count)
+    }
+
+    // The reply of 0x52, of engineering readings and of nothing else, in the same layout.
+    pub fn engineering_housekeeping(self, on: u32, latched: u32, units: [Engineering; 122]) -> Reply
+        ensures { result ≡ reply_of (housekeeping_reply self.board self.code self.stat on latched (engineering_words units)) }
+    {
+        let four = channel_words(on, latched);
+        let front = readings::append_engineering(self.longer(), units, 0, 5);
+        readings::append_engineering(front.append_words(&four), units, 5, 122)
+    }
+
+    // The reply of 0x82, 0x84 and 0x86: the id, then as many bytes as the value has.
+    pub fn parameter(self, id: u16, value: ValueBytes) -> Reply
+        ensures { result ≡ reply_of (parameter_reply self.board self.code self.stat id (take value.len value.bytes)) }
+    {
+        let id_bytes = id.to_le_bytes();
+        let bytes = value.bytes;
+        self.longer()
+            .append_bytes(&id_bytes)
+            .append_bytes(wire::first(&bytes, value.len))
+    }
+
+    // The reply of 0x44: whether the ABF is placed, told twice.
+    pub fn abf(self, placed: bool) -> Reply
+        ensures { result ≡ reply_of (abf_reply self.board self.code self.stat placed) }
+    {
+        let told = abf_byte(placed);
+        let both = [told, told];
+        self.longer().append_bytes(&both)
+    }
+
+    // The reply of 0x60, of raw readings and of nothing else: those that count, in a row.
+    pub fn raw_battery(self, raws: [Raw; 130], count: usize) -> Reply
+        ensures { result ≡ reply_of (battery_reply self.board self.code self.stat (take count (raw_words raws))) }
+    {
+        readings::append_raw(self.longer(), raws, count, 0, count)
+    }
+
+    // The reply of 0x62, of engineering readings and the status words, in the same layout.
+    pub fn engineering_battery(self, raws: [Raw; 130]) -> Reply
+        ensures { result ≡ reply_of (battery_reply self.board self.code self.stat (told_by packs raws)) }
+    {
+        readings::append_packs(self.longer(), raws)
+    }
 }

@@ -9,7 +9,7 @@ use Rattle.readings.specs.declared.apart.Engineering.{Engineering}
 use Rattle.readings.specs.Readings.{engineering_words}
 use Rattle.replies.proofs.Parts.{after_words, housekeeping_row_lem}
 use borrow.Author.Rules.{rules}
-use Rattle.replies.proofs.engineering_housekeeping.Goals as goal
+use Rattle.replies.proofs.Head.engineering_housekeeping.Goals as goal
 
 pub returns : goal.returns
 unfolding engineering_words

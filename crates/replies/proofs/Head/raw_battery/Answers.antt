@@ -2,7 +2,7 @@
 use Rattle.wire.proofs.Room.{after_reply_of}
 use Rattle.readings.specs.Readings.{raw_words}
 use Rattle.replies.proofs.Parts.{take_again, battery_row}
-use Rattle.replies.proofs.raw_battery.Goals as goal
+use Rattle.replies.proofs.Head.raw_battery.Goals as goal
 
 pub returns : goal.returns
 returns c =

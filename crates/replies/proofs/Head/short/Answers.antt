@@ -5,7 +5,7 @@ use Rattle.wire.specs.Numbers.{bytes_of}
 use Rattle.wire.specs.Replies.{reply_of, reply_code, short, laid_out}
 use Rattle.wire.proofs.LittleEndian.{cons_eq}
 use Rattle.replies.specs.Layouts.{short_reply}
-use Rattle.replies.proofs.short.Goals as goal
+use Rattle.replies.proofs.Head.short.Goals as goal
 
 pub returns : goal.returns
 unfolding short_reply laid_out bytes_of short reply_code

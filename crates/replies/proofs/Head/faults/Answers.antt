@@ -9,7 +9,7 @@ use Rattle.wire.proofs.Room.{after_reply_of}
 use Rattle.replies.specs.Layouts.{channel_words}
 use Rattle.replies.proofs.Parts.{start, after_words, same_row, faults_row}
 use borrow.Author.Rules.{rules}
-use Rattle.replies.proofs.faults.Goals as goal
+use Rattle.replies.proofs.Head.faults.Goals as goal
 
 pub returns : goal.returns
 unfolding channel_words
@@ -26,4 +26,4 @@ returns c =
       faults_row,
       drop_step a.counts 0 (omega arith),
     )
-    (same_row (start a.board a.code a.stat) (cons_eq (omega arith) (cons_eq (omega arith) (cons_eq (omega arith) (cons_eq (omega arith) refl)))))
+    (same_row (start a.self.board a.self.code a.self.stat) (cons_eq (omega arith) (cons_eq (omega arith) (cons_eq (omega arith) (cons_eq (omega arith) refl)))))

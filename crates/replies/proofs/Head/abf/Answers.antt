@@ -1,7 +1,7 @@
 -- The six bytes, and the same byte twice.
 use Rattle.wire.proofs.Room.{after_reply_of}
 use Rattle.replies.proofs.Parts.{abf_parts}
-use Rattle.replies.proofs.abf.Goals as goal
+use Rattle.replies.proofs.Head.abf.Goals as goal
 
 pub returns : goal.returns
 returns c = rw (

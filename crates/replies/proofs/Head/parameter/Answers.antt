@@ -4,7 +4,7 @@ use mir.Syntax.{w16}
 use Rattle.wire.proofs.LittleEndian.{to_le_bytes_lem}
 use Rattle.wire.proofs.Room.{after_reply_of}
 use Rattle.replies.proofs.Parts.{parameter_parts}
-use Rattle.replies.proofs.parameter.Goals as goal
+use Rattle.replies.proofs.Head.parameter.Goals as goal
 
 pub returns : goal.returns
 returns c =

@@ -2,7 +2,7 @@
 use Rattle.wire.proofs.Room.{after_reply_of}
 use Rattle.readings.specs.Readings.{raw_words}
 use Rattle.replies.proofs.Parts.{after_words, take_again, housekeeping_row_lem}
-use Rattle.replies.proofs.raw_housekeeping.Goals as goal
+use Rattle.replies.proofs.Head.raw_housekeeping.Goals as goal
 
 pub returns : goal.returns
 returns c =
