@@ -13,10 +13,11 @@ ghost use Rattle.answering.specs.Answering.{stat_told, reply_to, alters, is_rest
 
 use answers::{Outcome, Received, header, stat, value_read};
 use channels::Channels;
-use command::{Header, Layout};
+use command::Layout;
 use effects::MemoryChange;
 use kinds::Kind;
 use memory::Memory;
+use replies::Head;
 use state::{Board, Measured};
 use wire::Reply;
 
@@ -25,8 +26,7 @@ fn stat_told(outcome: Outcome) -> u8
     ensures { result ≡ stat_told outcome }
 {
     match outcome {
-        Outcome::WrongWordCount => 0,
-        Outcome::NoTransfer => 0,
+        Outcome::WrongWordCount | Outcome::NoTransfer => 0,
         Outcome::Answered(answer) => stat(answer),
     }
 }
@@ -35,49 +35,51 @@ fn stat_told(outcome: Outcome) -> u8
 fn new_where(fresh: bool) -> u8
     ensures { result ≡ new_where fresh }
 {
-    if fresh {
-        return 0x80;
-    }
-    0x00
+    if fresh { 0x80 } else { 0x00 }
 }
 
 // The reply of 0x50 of a board with these channels and the first of these words, as many as its kind has.
-fn housekeeping(own: Header, code: u8, kind: Kind, c: Channels, m: Measured) -> Reply
-    ensures { result ≡ reply_of (housekeeping_reply own code (new_where m.fresh.raw) c.on c.latched (take (board_of kind).words (raw_words m.words))) }
+fn housekeeping(head: Head, kind: Kind, c: Channels, m: Measured) -> Reply
+    ensures { result ≡ reply_of (housekeeping_reply head.board head.code (new_where m.fresh.raw) c.on c.latched (take (board_of kind).words (raw_words m.words))) }
 {
-    let words = m.words;
-    let count = kinds::word_count(kind);
-    let stat = new_where(m.fresh.raw);
-    replies::raw_housekeeping(own, code, stat, c.on(), c.latched(), words, count)
+    Head {
+        stat: new_where(m.fresh.raw),
+        ..head
+    }
+    .raw_housekeeping(c.on(), c.latched(), m.words, kinds::word_count(kind))
 }
 
 // The reply of 0x52 of a board with these channels and these words, in the units of their fields.
-fn engineering_housekeeping(own: Header, code: u8, c: Channels, m: Measured) -> Reply
-    ensures { result ≡ reply_of (housekeeping_reply own code (new_where m.fresh.engineering) c.on c.latched (engineering_words (places.converted_by places.layout m.words))) }
+fn engineering_housekeeping(head: Head, c: Channels, m: Measured) -> Reply
+    ensures { result ≡ reply_of (housekeeping_reply head.board head.code (new_where m.fresh.engineering) c.on c.latched (engineering_words (places.converted_by places.layout m.words))) }
 {
-    let words = m.words;
-    let units = readings::convert_all(words);
-    let stat = new_where(m.fresh.engineering);
-    replies::engineering_housekeeping(own, code, stat, c.on(), c.latched(), units)
+    Head {
+        stat: new_where(m.fresh.engineering),
+        ..head
+    }
+    .engineering_housekeeping(c.on(), c.latched(), readings::convert_all(m.words))
 }
 
 // The reply of 0x60 of a board with the first of these words, as many as its kind has.
-fn battery_housekeeping(own: Header, code: u8, kind: Kind, m: Measured) -> Reply
-    ensures { result ≡ reply_of (battery_reply own code (new_where m.fresh.raw) (take (board_of kind).words (raw_words m.words))) }
+fn battery_housekeeping(head: Head, kind: Kind, m: Measured) -> Reply
+    ensures { result ≡ reply_of (battery_reply head.board head.code (new_where m.fresh.raw) (take (board_of kind).words (raw_words m.words))) }
 {
-    let words = m.words;
-    let count = kinds::word_count(kind);
-    let stat = new_where(m.fresh.raw);
-    replies::raw_battery(own, code, stat, words, count)
+    Head {
+        stat: new_where(m.fresh.raw),
+        ..head
+    }
+    .raw_battery(m.words, kinds::word_count(kind))
 }
 
 // The reply of 0x62 of a board with these words, each in the way of its field.
-fn engineering_battery_housekeeping(own: Header, code: u8, m: Measured) -> Reply
-    ensures { result ≡ reply_of (battery_reply own code (new_where m.fresh.engineering) (told_by packs m.words)) }
+fn engineering_battery_housekeeping(head: Head, m: Measured) -> Reply
+    ensures { result ≡ reply_of (battery_reply head.board head.code (new_where m.fresh.engineering) (told_by packs m.words)) }
 {
-    let words = m.words;
-    let stat = new_where(m.fresh.engineering);
-    replies::engineering_battery(own, code, stat, words)
+    Head {
+        stat: new_where(m.fresh.engineering),
+        ..head
+    }
+    .engineering_battery(m.words)
 }
 
 // The reply of a board whose memory is as after the command and whose words are as new as before it, with the board's
@@ -85,36 +87,30 @@ fn engineering_battery_housekeeping(own: Header, code: u8, m: Measured) -> Reply
 pub fn reply_to(b: Board, received: Received, outcome: Outcome, layout: Layout) -> Reply
     ensures { result ≡ reply_to received.code outcome layout b }
 {
-    let own = header(b.profile);
     let c = b.channels;
-    let profile = b.profile;
-    let kind = profile.kind;
+    let kind = b.profile.kind;
+    let head = Head {
+        board: header(b.profile),
+        code: received.code,
+        stat: 0x80,
+    };
     match layout {
-        Layout::Short => replies::short(own, received.code, stat_told(outcome)),
-        Layout::Faults => replies::faults(
-            own,
-            received.code,
-            0x80,
-            c.on(),
-            c.latched(),
-            c.counts(),
-        ),
-        Layout::Housekeeping => housekeeping(own, received.code, kind, c, b.measured),
+        Layout::Short => Head {
+            stat: stat_told(outcome),
+            ..head
+        }
+        .short(),
+        Layout::Faults => head.faults(c.on(), c.latched(), c.counts()),
+        Layout::Housekeeping => housekeeping(head, kind, c, b.measured),
         Layout::Parameter(id) => {
             let value = value_read(b.profile, b.memory, b.resets, id);
-            replies::parameter(own, received.code, 0x80, id, value)
+            head.parameter(id, value)
         }
-        Layout::EngineeringHousekeeping => {
-            engineering_housekeeping(own, received.code, c, b.measured)
-        }
-        Layout::AbfPlacedState => {
-            replies::abf(own, received.code, 0x80, kinds::abf_placed(kind))
-        }
-        Layout::BatteryHousekeeping => {
-            battery_housekeeping(own, received.code, kind, b.measured)
-        }
+        Layout::EngineeringHousekeeping => engineering_housekeeping(head, c, b.measured),
+        Layout::AbfPlacedState => head.abf(kinds::abf_placed(kind)),
+        Layout::BatteryHousekeeping => battery_housekeeping(head, kind, b.measured),
         Layout::EngineeringBatteryHousekeeping => {
-            engineering_battery_housekeeping(own, received.code, b.measured)
+            engineering_battery_housekeeping(head, b.measured)
         }
     }
 }
@@ -123,30 +119,14 @@ pub fn reply_to(b: Board, received: Received, outcome: Outcome, layout: Layout) 
 pub fn is_altering(change: MemoryChange) -> bool
     ensures { result ≡ alters change }
 {
-    match change {
-        MemoryChange::AsBefore => false,
-        MemoryChange::Set(_, _) => true,
-        MemoryChange::ResetOne(_) => true,
-        MemoryChange::Defaults => true,
-        MemoryChange::Load => true,
-        MemoryChange::Save(_) => true,
-        MemoryChange::Restart => false,
-    }
+    !matches!(change, MemoryChange::AsBefore | MemoryChange::Restart)
 }
 
 // Whether the board starts over.
 pub fn is_restart(change: MemoryChange) -> bool
     ensures { result ≡ is_restart change }
 {
-    match change {
-        MemoryChange::AsBefore => false,
-        MemoryChange::Set(_, _) => false,
-        MemoryChange::ResetOne(_) => false,
-        MemoryChange::Defaults => false,
-        MemoryChange::Load => false,
-        MemoryChange::Save(_) => false,
-        MemoryChange::Restart => true,
-    }
+    matches!(change, MemoryChange::Restart)
 }
 
 // The memory of a kind of board after a command that does not start it over. A save that is refused leaves it.
@@ -154,12 +134,11 @@ pub fn memory_after(kind: Kind, m: Memory, change: MemoryChange) -> Memory
     ensures { result ≡ memory_after kind change m }
 {
     match change {
-        MemoryChange::AsBefore => m,
+        MemoryChange::AsBefore | MemoryChange::Restart => m,
         MemoryChange::Set(id, v) => m.set(id, v),
         MemoryChange::ResetOne(id) => m.reset_one(kind, id),
         MemoryChange::Defaults => m.to_defaults(kind),
         MemoryChange::Load => m.load(kind),
         MemoryChange::Save(checksum) => m.save(checksum).unwrap_or(m),
-        MemoryChange::Restart => m,
     }
 }
