@@ -22,15 +22,11 @@ pub enum Asked {
 }
 
 // Whether a mode is startup.
+#[tactic(auto, unfolding(crate::specs::Checks::is_startup))]
 fn is_startup(mode: Mode) -> bool
     ensures { result ≡ is_startup mode }
 {
-    match mode {
-        Mode::Startup => true,
-        Mode::Nominal => false,
-        Mode::Safety => false,
-        Mode::Emergency => false,
-    }
+    mode == Mode::Startup
 }
 
 // What a transfer that the decoder refused comes to.

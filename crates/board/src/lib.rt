@@ -129,14 +129,11 @@ fn watch(happens: bool, timer: u64, timeout: u64) -> Event
 }
 
 // Whether the watchdog resets the board.
+#[tactic(auto, unfolding(crate::specs::Parts::is_reset))]
 fn is_reset(event: Event) -> bool
     ensures { result ≡ is_reset event }
 {
-    match event {
-        Event::NoEvent => false,
-        Event::PeripheralReset => false,
-        Event::WatchdogReset => true,
-    }
+    event == Event::WatchdogReset
 }
 
 // How many words a board of a profile has.
