@@ -27,7 +27,8 @@ use Rattle.settings.proofs.Ranges.{Fit}
 use Rattle.settings.proofs.Rows.{int8s, uint8s, int16s, uint16s, uint32s}
 use Rattle.settings.proofs.Stores.{Sized}
 use Rattle.settings.proofs.Walks.{ids_by_type}
-use Rattle.image.specs.Image.{got_bytes, parameter_bytes, in_row, image_of, itself, numbers_of, settings_of}
+use Rattle.wire.specs.Numbers.{itself}
+use Rattle.image.specs.Image.{got_bytes, parameter_bytes, in_row, image_of, numbers_of, settings_of}
 use Rattle.image.proofs.Writing.{row_append, length_row, widths, width_in}
 
 -- ---- the values of one type: f gives the bytes of an id, p the number that a value's bytes spell, and g the value

@@ -4,10 +4,9 @@ use mathlib.Core.List.{List, [], ◌∷◌, ◌++◌}
 use Prim.Native.Nat.{ℕ, zero, suc, ◌+◌, ◌*◌, ◌≤◌, ◌<◌}
 use native.Mathlib.Numerals.{add-one}
 use native.Mathlib.Omega.{arith}
-use lib.ListN.{length, take, drop, get_or, set, length-set}
-use lib.Seq.{take-suc-set, take_all, drop-drop, get_or-drop}
+use lib.ListN.{length, take, drop, set, length-set}
+use lib.Seq.{take-suc-set, take_all, drop-drop}
 use Rattle.wire.specs.Numbers.{number}
-use Rattle.wire.proofs.LittleEndian.{number_one}
 use Rattle.image.specs.Image.{numbers_of}
 
 module _ {A : Type 0} (f : ℕ → A) (w : ℕ) where
@@ -48,12 +47,3 @@ module _ {A : Type 0} (f : ℕ → A) (w : ℕ) where
 -- ---- where a number stands in the image, and where among those of its type
 pub number_place : (w base i : ℕ) (image : List ℕ) → number w (drop (base + w * i) image) ≡ number w (drop (w * i) (drop base image))
 number_place w base i image = ap (number w) (sym (drop-drop (w * i) base image))
-
-pub byte_first : (i : ℕ) (image : List ℕ) → get_or image i 0 ≡ number 1 (drop (1 * i) image)
-byte_first i image =
-    let e : 1 * i ≡ i = omega arith in
-    let z : i + 0 ≡ i = omega arith in
-    rw e (sym (number_one (drop i image) ∙ get_or-drop i image 0 0 ∙ ap (λ (k : ℕ). get_or image k 0) z))
-
-pub byte_place : (base i : ℕ) (image : List ℕ) → get_or image (base + i) 0 ≡ number 1 (drop (1 * i) (drop base image))
-byte_place base i image = sym (get_or-drop base image i 0) ∙ byte_first i (drop base image)

@@ -4,10 +4,9 @@ use mathlib.Core.List.{List, [], ◌∷◌, ◌++◌, append_assoc, append-nil}
 use Prim.Native.Nat.{ℕ, ◌+◌, ◌-◌, ◌≤◌, ◌<◌}
 use native.Mathlib.Numerals.{add-one}
 use native.Mathlib.Omega.{arith}
-use lib.ListN.{length, take, drop, get_or, set, replicate, length-append, take-append-drop}
-use lib.Seq.{sets, sets-eq, length-sets, get_or-take, length-take-le, take_at, take_all, take-suc}
+use lib.ListN.{length, take, drop, get_or, replicate, length-append, take-append-drop}
+use lib.Seq.{sets, sets-eq, length-sets, length-take-le, take_at, take_all, take-suc}
 use lib.IntN.{ℤ}
-use Rattle.laws.proofs.Lists.{drop_step, sets_turn}
 use Rattle.wire.proofs.LittleEndian.{length_bytes_of}
 use Rattle.wire.specs.Numbers.{bytes_of}
 use Rattle.value.specs.Types.{width, type_of}
@@ -23,13 +22,6 @@ use Rattle.settings.specs.declared.Settings.{Settings}
 use Rattle.settings.proofs.Walks.{ids_count}
 use Rattle.image.specs.Image.{got_bytes, parameter_bytes, in_row, image_of}
 use Rattle.image.specs.Room.{roomed}
-
--- ---- one byte of a value, at its place
-pub stored : (out bytes : List ℕ) (at n i : ℕ) → i < n → n ≤ length bytes
-    → sets (set out (at + i) (get_or bytes i 0)) (at + (i + 1)) (drop (i + 1) (take n bytes)) ≡ sets out (at + i) (drop i (take n bytes))
-stored out bytes at n i h h' =
-    let e : at + (i + 1) ≡ at + i + 1 = omega arith in
-    rw e (sets_turn out (at + i) (drop_step (take n bytes) i (omega (arith, length-take-le n bytes h'))) (sym (get_or-take n bytes i 0 h)))
 
 -- ---- the bytes of a value, in their room
 length_wire : (v : ParamValue) → length (wire_bytes v) ≡ width (type_of v)

@@ -2,7 +2,7 @@
 -- Assumes nothing: these are definitions.
 use Rattle.std.specs.Prelude.{ℕ, zero, suc, List, [], ◌∷◌, ◌++◌}
 use lib.{ListN.drop}
-use Rattle.wire.specs.Numbers.{number, signed}
+use Rattle.wire.specs.Numbers.{number, signed, itself}
 use Rattle.crc.specs.Division.{checksum_of}
 use Rattle.value.specs.Values.{wire_bytes}
 use Rattle.settings.specs.{Table.ids, Values.get_of, declared.Got.Got, declared.Settings.Settings}
@@ -35,9 +35,6 @@ settings_checksum s = checksum_of (image_of s)
 unfoldable pub numbers_of : {A : Type 0} → (ℕ → A) → ℕ → ℕ → List ℕ → List A
 numbers_of f w zero bytes = []
 numbers_of f w (suc n) bytes = f (number w bytes) ∷ numbers_of f w n (drop w bytes)
-
-abbrev pub itself : ℕ → ℕ
-itself x = x
 
 -- the settings whose image some bytes are: 21 int8, 3 uint8, 42 int16, 68 uint16 and 6 uint32, as the ids rise.
 -- A byte past the end counts as 0, and bytes past the image are not looked at.

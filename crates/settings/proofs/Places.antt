@@ -1,8 +1,12 @@
 -- What is known of an id by the place of its value. Assumes nothing.
 use mathlib.Core.Path.{◌≡◌, refl, ap, ◌∙◌, subst}
+use mathlib.Core.Bool.{Bool, true, ◌&&◌, ◌||◌}
 use mathlib.Core.List.{List, map}
 use Prim.Native.Nat.{ℕ, ◌+◌, ◌-◌, ◌≤◌, ◌<◌}
 use native.Mathlib.Omega.{arith}
+use lib.Dec.{ltb}
+use borrow.Author.Tests.{ltb-true}
+use Rattle.laws.proofs.Cases.{cases}
 use lib.ListN.{get_or, get_or-map}
 use lib.IntN.{pos, nat_abs}
 use Rattle.value.specs.Types.{code_of}
@@ -16,7 +20,7 @@ use Rattle.settings.specs.Places.{place_as, place_of}
 use Rattle.settings.specs.declared.Got.{Got}
 use Rattle.settings.specs.declared.Settings.{Settings}
 use Rattle.settings.specs.Values.{numbers, setting_of, got_value, get_of}
-use Rattle.settings.proofs.Rows.{count_of, held, shown, int8s, uint8s, int16s, uint16s, uint32s}
+use Rattle.settings.proofs.Rows.{and_true, count_of, held, shown, int8s, uint8s, int16s, uint16s, uint32s}
 
 -- the id is a parameter of the type, and the place is within the type's array
 pub record At (id i : ℕ) (t : ValueType) : Type 0 where
@@ -86,6 +90,35 @@ nowhere id a b c d e f g h i j = go (place_of id) (stands id)
     go (Place.ReadOnly Uint64) w = let k = shown id Uint64 w in absurd (omega arith)
     go (Place.ReadOnly Double) w = let k = shown id Double w in absurd (omega arith)
     go Place.Unknown w = refl
+
+-- so every id from lo to hi is unknown, where the blocks lie apart from these
+abbrev apart : ℕ → ℕ → ℕ → ℕ → Bool
+apart lo hi first last = ltb last lo || ltb hi first
+
+abbrev pub gap : ℕ → ℕ → Bool
+gap lo hi =
+    apart lo hi 0x1000 0x1014 && (apart lo hi 0x2000 0x2002 && (apart lo hi 0x3000 0x3029 && (apart lo hi 0x4000 0x4043 && (apart lo hi 0x6000 0x6005
+    && (apart lo hi 0x1800 0x1800 && (apart lo hi 0x2800 0x2803 && (apart lo hi 0x3800 0x3801 && (apart lo hi 0x4800 0x4813 && apart lo hi 0x6800 0x6814))))))))
+
+out : (lo hi first last id : ℕ) → apart lo hi first last ≡ true → lo ≤ id → id ≤ hi → Out first last id
+out lo hi first last id e p q a b =
+    cases (ltb last lo)
+    (λ t. let h = ltb-true last lo t in omega arith)
+    (λ f. let h = ltb-true hi first (rw f at e) in omega arith)
+
+pub in_gap : (id lo hi : ℕ) → lo ≤ id → id ≤ hi → gap lo hi ≡ true → Place.Unknown ≡ place_of id
+in_gap id lo hi p q e =
+    let a = and_true _ _ e in
+    let b = and_true _ _ a.1 in
+    let c = and_true _ _ b.1 in
+    let d = and_true _ _ c.1 in
+    let f = and_true _ _ d.1 in
+    let g = and_true _ _ f.1 in
+    let h = and_true _ _ g.1 in
+    let i = and_true _ _ h.1 in
+    let j = and_true _ _ i.1 in
+    nowhere id (out lo hi _ _ id a.0 p q) (out lo hi _ _ id b.0 p q) (out lo hi _ _ id c.0 p q) (out lo hi _ _ id d.0 p q) (out lo hi _ _ id f.0 p q)
+    (out lo hi _ _ id g.0 p q) (out lo hi _ _ id h.0 p q) (out lo hi _ _ id i.0 p q) (out lo hi _ _ id j.0 p q) (out lo hi _ _ id j.1 p q)
 
 -- ---- what is read of an id by what it is
 pub gets : (s : Settings) (id : ℕ) (t : ValueType) → parameter_of id ≡ Parameter.ReadWrite t → get_of s id ≡ got_value t (setting_of s id)

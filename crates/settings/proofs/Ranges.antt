@@ -1,13 +1,14 @@
 -- A number is brought into its range at the nearer end. Assumes nothing.
-use mathlib.Core.Path.{◌≡◌, refl}
+use mathlib.Core.Path.{◌≡◌, refl, sym, subst}
 use mathlib.Core.Bool.{Bool, true, false, ◌&&◌}
 use Prim.Native.Nat.{ℕ, ◌≤◌, ◌<◌}
 use native.Mathlib.Omega.{arith}
-use borrow.Author.Tests.{le-leb}
-use lib.IntN.{ℤ, pos, negsuc}
-use lib.Signed.{lt_z, le_z, mag}
+use borrow.Author.Tests.{le-leb, leb-true}
+use lib.Dec.{T}
+use lib.IntN.{ℤ, pos, negsuc, nat_abs}
+use lib.Signed.{lt_z, le_z, mag, non_neg}
 use mir.Syntax.{w8, w16}
-use mir.Val.{SFits}
+use mir.Val.{Fits, SFits}
 use Rattle.laws.proofs.Signed.{order, no_lt, yes_le}
 use Rattle.value.specs.declared.ValueType.{ValueType}
 use Rattle.value.specs.declared.ValueType.TheVariants.{Int8, Uint8, Int16, Uint16, Uint32}
@@ -57,6 +58,15 @@ uint16_fits x h = record { low = le-leb 0 x (omega arith); high = le-leb x 0xFFF
 
 pub uint32_fits : (x : ℕ) → x < 0x100000000 → Fit Uint32 (pos x)
 uint32_fits x h = record { low = le-leb 0 x (omega arith); high = le-leb x 0xFFFFFFFF (omega arith) }
+
+-- and a number that fits its type is one that the code's type holds
+pub int16_holds : (z : ℤ) → Fit Int16 z → SFits w16 z
+int16_holds (pos n) f = let h = leb-true n 0x7FFF f.high in record { sfits = omega arith }
+int16_holds (negsuc n) f = let h = leb-true n 0x7FFF f.low in record { sfits = omega arith }
+
+pub uint16_holds : (z : ℤ) → Fit Uint16 z → T (non_neg z) × Fits w16 (nat_abs z)
+uint16_holds (pos n) f = let h = leb-true n 0xFFFF f.high in (tt, record { fits = omega arith })
+uint16_holds (negsuc n) f = absurd (subst T (sym f.low) tt)
 
 -- where the rows give no range, a number of the type is kept
 pub any_kept : (id : ℕ) (t : ValueType) (z : ℤ) → parameter_of id ≡ Parameter.ReadWrite t → range_of id ≡ any → Fit t z → clamp_of id z ≡ z

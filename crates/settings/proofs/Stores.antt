@@ -18,6 +18,7 @@ use Rattle.value.specs.declared.ParamValue.{ParamValue}
 use Rattle.settings.specs.declared.Parameter.{Parameter}
 use Rattle.settings.specs.declared.Settings.{Settings}
 use Rattle.settings.specs.Table.{same, lowest, parameter_of, inside_of, clamp_of, default_of}
+use Rattle.settings.specs.Places.{place_in, place_as, place_of}
 use Rattle.settings.specs.Values.{number_in, numbers, number_as, setting_of, stored, stored_n, with_number, store_as, set_of, reset_as, reset_of}
 use Rattle.settings.proofs.Rows.{count_of, held}
 use Rattle.settings.proofs.Places.{At, at, number_at}
@@ -78,6 +79,34 @@ set_off s id v n = go (parameter_of id) refl
     go (Parameter.ReadWrite t) e = no t e (same t (type_of v)) refl
     go (Parameter.ReadOnly t) e = refl
     go Parameter.Unknown e = refl
+
+-- nor where the id's place is none of its type
+pub set_apart : (s : Settings) (id : ℕ) (v : ParamValue) → ((i : ℕ) → place_of id ≡ place_in (type_of v) i → ⊥) → set_of s id v ≡ s
+unfolding set_of place_of
+set_apart s id v n = go (parameter_of id) refl
+  where
+    no : (t : ValueType) → parameter_of id ≡ Parameter.ReadWrite t → (x : Bool) → same t (type_of v) ≡ x → cond x (with_number s t (id - code_of t) (clamp_of id (number_in v))) s ≡ s
+    no t e true q = absurd (n (id - code_of t) (ap (place_as id) e ∙ ap (λ (u : ValueType). place_in u (id - code_of t)) (same_type t (type_of v) q)))
+    no t e false q = refl
+
+    go : (p : Parameter) → parameter_of id ≡ p → store_as s id p (type_of v) (clamp_of id (number_in v)) ≡ s
+    go (Parameter.ReadWrite t) e = no t e (same t (type_of v)) refl
+    go (Parameter.ReadOnly t) e = refl
+    go Parameter.Unknown e = refl
+
+-- and a value of a type that no parameter has is stored nowhere
+pub set_elsewhere : (s : Settings) (id : ℕ) (v : ParamValue) → ((x : ℤ) → v ≡ ParamValue.Int8 x → ⊥) → ((x : ℕ) → v ≡ ParamValue.Uint8 x → ⊥)
+    → ((x : ℤ) → v ≡ ParamValue.Int16 x → ⊥) → ((x : ℕ) → v ≡ ParamValue.Uint16 x → ⊥) → ((x : ℕ) → v ≡ ParamValue.Uint32 x → ⊥) → set_of s id v ≡ s
+set_elsewhere s id (ParamValue.Int8 x) a b c d e = absurd (a x refl)
+set_elsewhere s id (ParamValue.Uint8 x) a b c d e = absurd (b x refl)
+set_elsewhere s id (ParamValue.Int16 x) a b c d e = absurd (c x refl)
+set_elsewhere s id (ParamValue.Uint16 x) a b c d e = absurd (d x refl)
+set_elsewhere s id (ParamValue.Int32 x) a b c d e = set_off s id (ParamValue.Int32 x) (λ p q. omega arith)
+set_elsewhere s id (ParamValue.Uint32 x) a b c d e = absurd (e x refl)
+set_elsewhere s id (ParamValue.Float x) a b c d e = set_off s id (ParamValue.Float x) (λ p q. omega arith)
+set_elsewhere s id (ParamValue.Int64 x) a b c d e = set_off s id (ParamValue.Int64 x) (λ p q. omega arith)
+set_elsewhere s id (ParamValue.Uint64 x) a b c d e = set_off s id (ParamValue.Uint64 x) (λ p q. omega arith)
+set_elsewhere s id (ParamValue.Double x) a b c d e = set_off s id (ParamValue.Double x) (λ p q. omega arith)
 
 -- ---- the numbers after one was stored
 map_set : (xs : List ℕ) (i x : ℕ) → map pos (set xs i x) ≡ set (map pos xs) i (pos x)

@@ -1,10 +1,10 @@
 // The read/write parameters of Table 3-25: what an id is, and its value read, set and reset.
 #![tactic(auto)]
 
-ghost use Rattle.std.specs.Prelude.{◌≡◌, ◌+◌, ◌<◌, pos};
-ghost use Rattle.settings.specs.Table.{lies, parameter_of, low_of, high_of, clamp_of, inside_of, from};
-ghost use Rattle.settings.specs.Values.{get_of, set_of, reset_of, defaults_of, all_inside, in_range_of};
-ghost use Rattle.settings.specs.Places.{place_of};
+ghost use Rattle.std.specs.Prelude.{◌≡◌};
+ghost use Rattle.settings.specs.Table.{parameter_of, low_of, high_of, clamp_of, inside_of};
+ghost use Rattle.settings.specs.Values.{get_of, set_of, reset_of, defaults_of, in_range_of};
+ghost use Rattle.settings.specs.Places.{place_of, HasEnds};
 ghost use Rattle.settings.specs.Answers.{set_number, get_number, settable_number, known_number};
 
 mod tables;
@@ -50,51 +50,23 @@ enum Place {
     Unknown,
 }
 
-// Whether an id is one from the first to the last.
-fn is_from_to(id: u16, first: u16, last: u16) -> bool
-    ensures { result ≡ lies first last id }
-{
-    if id < first {
-        return false;
-    }
-    id <= last
-}
-
 // Where an id's value stands; the ids of a type have no gaps, so the place is how far the id is past the type's first.
 fn place_of(id: u16) -> Place
     ensures { result ≡ place_of id }
 {
-    if is_from_to(id, 0x1000, 0x1014) {
-        return Place::Int8((id - 0x1000) as usize);
+    match id {
+        0x1000..=0x1014 => Place::Int8((id - 0x1000) as usize),
+        0x2000..=0x2002 => Place::Uint8((id - 0x2000) as usize),
+        0x3000..=0x3029 => Place::Int16((id - 0x3000) as usize),
+        0x4000..=0x4043 => Place::Uint16((id - 0x4000) as usize),
+        0x6000..=0x6005 => Place::Uint32((id - 0x6000) as usize),
+        0x1800 => Place::ReadOnly(ValueType::Int8),
+        0x2800..=0x2803 => Place::ReadOnly(ValueType::Uint8),
+        0x3800..=0x3801 => Place::ReadOnly(ValueType::Int16),
+        0x4800..=0x4813 => Place::ReadOnly(ValueType::Uint16),
+        0x6800..=0x6814 => Place::ReadOnly(ValueType::Uint32),
+        _ => Place::Unknown,
     }
-    if is_from_to(id, 0x2000, 0x2002) {
-        return Place::Uint8((id - 0x2000) as usize);
-    }
-    if is_from_to(id, 0x3000, 0x3029) {
-        return Place::Int16((id - 0x3000) as usize);
-    }
-    if is_from_to(id, 0x4000, 0x4043) {
-        return Place::Uint16((id - 0x4000) as usize);
-    }
-    if is_from_to(id, 0x6000, 0x6005) {
-        return Place::Uint32((id - 0x6000) as usize);
-    }
-    if is_from_to(id, 0x1800, 0x1800) {
-        return Place::ReadOnly(ValueType::Int8);
-    }
-    if is_from_to(id, 0x2800, 0x2803) {
-        return Place::ReadOnly(ValueType::Uint8);
-    }
-    if is_from_to(id, 0x3800, 0x3801) {
-        return Place::ReadOnly(ValueType::Int16);
-    }
-    if is_from_to(id, 0x4800, 0x4813) {
-        return Place::ReadOnly(ValueType::Uint16);
-    }
-    if is_from_to(id, 0x6800, 0x6814) {
-        return Place::ReadOnly(ValueType::Uint32);
-    }
-    Place::Unknown
 }
 
 // What an id is, and its type where it is a parameter.
@@ -155,146 +127,86 @@ pub fn get(s: Settings, id: u16) -> Got
     }
 }
 
-// The low end of the range of the id 0x3000 + i.
-fn int16_low(i: usize) -> i16
-    requires { i < 42 }
-    ensures { result ≡ low_of (0x3000 + i) }
-{
-    tables::INT16_LOW[i]
+// The ends of a parameter's range.
+#[derive(Clone, Copy)]
+struct Ends {
+    low: i32,
+    high: i32,
 }
 
-// The high end of the range of the id 0x3000 + i.
-fn int16_high(i: usize) -> i16
-    requires { i < 42 }
-    ensures { result ≡ high_of (0x3000 + i) }
+// The ends of the range of an int16 or a uint16 parameter, the only types with a range narrower than the type; where
+// Table 3-25 gives no end, the type's own end stands.
+fn ends_of(id: u16) -> Ends
+    requires { HasEnds id }
+    ensures low { result.low ≡ low_of id }
+    ensures high { result.high ≡ high_of id }
 {
-    tables::INT16_HIGH[i]
-}
-
-// The low end of the range of the id 0x4000 + i.
-fn uint16_low(i: usize) -> u16
-    requires { i < 68 }
-    ensures { pos result ≡ low_of (0x4000 + i) }
-{
-    tables::UINT16_LOW[i]
-}
-
-// The high end of the range of the id 0x4000 + i.
-fn uint16_high(i: usize) -> u16
-    requires { i < 68 }
-    ensures { pos result ≡ high_of (0x4000 + i) }
-{
-    tables::UINT16_HIGH[i]
-}
-
-// An int16 value for the id 0x3000 + i, taken as the nearer end where it lies outside the id's range.
-fn clamp_int16(i: usize, x: i16) -> i16
-    requires { i < 42 }
-    ensures { result ≡ clamp_of (0x3000 + i) x }
-{
-    let low = int16_low(i);
-    let high = int16_high(i);
-    if x < low {
-        return low;
+    match id {
+        0x3000..=0x3002 => Ends { low: -2000, high: 3000 },
+        0x3003..=0x3005 => Ends { low: -2000, high: 3400 },
+        0x3006..=0x300B => Ends { low: 30, high: 32767 },
+        0x300C..=0x3029 => Ends { low: -32768, high: 32767 },
+        0x4002..=0x4021 => Ends { low: 0, high: 20000 },
+        0x4022..=0x4041 => Ends { low: 50, high: 20000 },
+        _ => Ends { low: 0, high: 65535 },
     }
-    if high < x {
-        return high;
+}
+
+// A number for such a parameter, taken as the nearer end where it lies outside the parameter's range.
+fn clamped(id: u16, x: i32) -> i32
+    requires { HasEnds id }
+    ensures { result ≡ clamp_of id x }
+{
+    let ends = ends_of(id);
+    if x < ends.low {
+        return ends.low;
+    }
+    if ends.high < x {
+        return ends.high;
     }
     x
 }
 
-// A uint16 value for the id 0x4000 + i, taken as the nearer end where it lies outside the id's range.
-fn clamp_uint16(i: usize, x: u16) -> u16
-    requires { i < 68 }
-    ensures { pos result ≡ clamp_of (0x4000 + i) (pos x) }
+// Whether a number lies in the range of such a parameter.
+fn is_inside(id: u16, x: i32) -> bool
+    requires { HasEnds id }
+    ensures { result ≡ inside_of id x }
 {
-    let least = uint16_low(i);
-    let most = uint16_high(i);
-    if x < least {
-        return least;
-    }
-    if most < x {
-        return most;
-    }
-    x
-}
-
-// The settings with an int8 value stored for the id; as they were where the id is no read/write parameter of that type.
-fn set_int8(mut s: Settings, id: u16, x: i8) -> Settings
-    ensures { result ≡ set_of s id (ParamValue.Int8 x) }
-{
-    if is_from_to(id, 0x1000, 0x1014) {
-        let i = (id - 0x1000) as usize;
-        s.i8s[i] = x;
-    }
-    s
-}
-
-// The settings with a uint8 value stored for the id; as they were where the id is no read/write parameter of that type.
-fn set_uint8(mut s: Settings, id: u16, x: u8) -> Settings
-    ensures { result ≡ set_of s id (ParamValue.Uint8 x) }
-{
-    if is_from_to(id, 0x2000, 0x2002) {
-        let i = (id - 0x2000) as usize;
-        s.u8s[i] = x;
-    }
-    s
-}
-
-// The settings with an int16 value stored for the id; as they were where the id is no read/write parameter of that
-// type.
-fn set_int16(mut s: Settings, id: u16, x: i16) -> Settings
-    ensures { result ≡ set_of s id (ParamValue.Int16 x) }
-{
-    if is_from_to(id, 0x3000, 0x3029) {
-        let i = (id - 0x3000) as usize;
-        s.i16s[i] = clamp_int16(i, x);
-    }
-    s
-}
-
-// The settings with a uint16 value stored for the id; as they were where the id is no read/write parameter of that
-// type.
-fn set_uint16(mut s: Settings, id: u16, x: u16) -> Settings
-    ensures { result ≡ set_of s id (ParamValue.Uint16 x) }
-{
-    if is_from_to(id, 0x4000, 0x4043) {
-        let i = (id - 0x4000) as usize;
-        s.u16s[i] = clamp_uint16(i, x);
-    }
-    s
-}
-
-// The settings with a uint32 value stored for the id; as they were where the id is no read/write parameter of that
-// type.
-fn set_uint32(mut s: Settings, id: u16, x: u32) -> Settings
-    ensures { result ≡ set_of s id (ParamValue.Uint32 x) }
-{
-    if is_from_to(id, 0x6000, 0x6005) {
-        let i = (id - 0x6000) as usize;
-        s.u32s[i] = x;
-    }
-    s
+    let ends = ends_of(id);
+    ends.low <= x && x <= ends.high
 }
 
 // The settings with a value stored for the id, at the nearer end of the id's range where it lies outside; a value of
 // another type than the id's, and an id that is read-only or unknown, change nothing: whether a set is refused is told
 // by `parameter_of`, asked before.
-pub fn set(s: Settings, id: u16, value: ParamValue) -> Settings
+pub fn set(mut s: Settings, id: u16, value: ParamValue) -> Settings
     ensures { result ≡ set_of s id value }
 {
+    let place = place_of(id);
     match value {
-        ParamValue::Int8(x) => set_int8(s, id, x),
-        ParamValue::Uint8(x) => set_uint8(s, id, x),
-        ParamValue::Int16(x) => set_int16(s, id, x),
-        ParamValue::Uint16(x) => set_uint16(s, id, x),
-        ParamValue::Int32(_) => s,
-        ParamValue::Uint32(x) => set_uint32(s, id, x),
-        ParamValue::Float(_) => s,
-        ParamValue::Int64(_) => s,
-        ParamValue::Uint64(_) => s,
-        ParamValue::Double(_) => s,
+        ParamValue::Int8(x) => match place {
+            Place::Int8(i) => s.i8s[i] = x,
+            _ => {}
+        },
+        ParamValue::Uint8(x) => match place {
+            Place::Uint8(i) => s.u8s[i] = x,
+            _ => {}
+        },
+        ParamValue::Int16(x) => match place {
+            Place::Int16(i) => s.i16s[i] = clamped(id, x as i32) as i16,
+            _ => {}
+        },
+        ParamValue::Uint16(x) => match place {
+            Place::Uint16(i) => s.u16s[i] = clamped(id, x as i32) as u16,
+            _ => {}
+        },
+        ParamValue::Uint32(x) => match place {
+            Place::Uint32(i) => s.u32s[i] = x,
+            _ => {}
+        },
+        _ => {}
     }
+    s
 }
 
 // The settings with one parameter at its default on a kind of board, brought into range; an id that is read-only or
@@ -310,72 +222,19 @@ pub fn reset_one(s: Settings, kind: Kind, id: u16) -> Settings
     }
 }
 
-// Whether an int16 value lies in the range of the id 0x3000 + i.
-fn int16_inside(i: usize, x: i16) -> bool
-    requires { i < 42 }
-    ensures { result ≡ inside_of (0x3000 + i) x }
-{
-    if x < int16_low(i) {
-        return false;
-    }
-    if int16_high(i) < x {
-        return false;
-    }
-    true
-}
-
-// Whether a uint16 value lies in the range of the id 0x4000 + i.
-fn uint16_inside(i: usize, x: u16) -> bool
-    requires { i < 68 }
-    ensures { result ≡ inside_of (0x4000 + i) (pos x) }
-{
-    if x < uint16_low(i) {
-        return false;
-    }
-    if uint16_high(i) < x {
-        return false;
-    }
-    true
-}
-
-// Whether all int16 values lie in range.
-fn int16s_in_range(s: Settings) -> bool
-    ensures { result ≡ all_inside s (from 0x3000 42) }
-{
-    let xs = s.i16s;
-    let mut i = 0;
-    while i < 42 {
-        if int16_inside(i, xs[i]) {
-            i += 1;
-        } else {
-            return false;
-        }
-    }
-    true
-}
-
-// Whether all uint16 values lie in range.
-fn uint16s_in_range(s: Settings) -> bool
-    ensures { result ≡ all_inside s (from 0x4000 68) }
-{
-    let xs = s.u16s;
-    let mut i = 0;
-    while i < 68 {
-        if uint16_inside(i, xs[i]) {
-            i += 1;
-        } else {
-            return false;
-        }
-    }
-    true
-}
-
 // Whether every value lies in range; only int16 and uint16 parameters have a range narrower than their type.
 pub fn in_range(s: Settings) -> bool
     ensures { result ≡ in_range_of s }
 {
-    if int16s_in_range(s) {
-        return uint16s_in_range(s);
+    for (i, x) in s.i16s.iter().enumerate() {
+        if !is_inside(0x3000 + i as u16, *x as i32) {
+            return false;
+        }
     }
-    false
+    for (i, x) in s.u16s.iter().enumerate() {
+        if !is_inside(0x4000 + i as u16, *x as i32) {
+            return false;
+        }
+    }
+    true
 }

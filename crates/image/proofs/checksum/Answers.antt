@@ -6,4 +6,4 @@ use Rattle.image.proofs.checksum.Goals as goal
 
 pub returns : goal.returns
 unfolding settings_checksum
-returns c = c.checksum.ensures ∙ ap checksum_of c.bytes-image.ensures
+returns c = c.checksum.ensures ∙ ap checksum_of c.bytes.ensures
