@@ -33,6 +33,7 @@ pub struct Ran {
 }
 
 // A bench on which nothing was started.
+#[tactic(auto, unfolding(crate::specs::Benches::empty_bench))]
 pub fn none() -> Bench
     ensures { result ≡ empty_bench }
 {
@@ -44,6 +45,7 @@ pub fn none() -> Bench
 }
 
 // Starts a machine, if its profile and its stored settings keep the rules; else what was on the bench stays there.
+#[tactic(auto, unfolding(crate::specs::Benches::started_of))]
 pub fn started(bench: Bench, start: Start, image: &[u8], out: &mut [u8]) -> Ran
     ensures { left result out.new ≡ started_of out.old bench (begun_of (there bench.machine) (profile_of start.board) (store_of start.stored image.now)) }
 {
