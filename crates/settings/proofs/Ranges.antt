@@ -47,14 +47,8 @@ high_of_lem n (negsuc a) h = refl
 pub int8_fits : (z : ℤ) → SFits w8 z → Fit Int8 z
 int8_fits z f = record { low = low_of_lem 0x7F z (omega (arith, f.sfits)); high = high_of_lem 0x7F z (omega (arith, f.sfits)) }
 
-pub int16_fits : (z : ℤ) → SFits w16 z → Fit Int16 z
-int16_fits z f = record { low = low_of_lem 0x7FFF z (omega (arith, f.sfits)); high = high_of_lem 0x7FFF z (omega (arith, f.sfits)) }
-
 pub uint8_fits : (x : ℕ) → x < 0x100 → Fit Uint8 (pos x)
 uint8_fits x h = record { low = le-leb 0 x (omega arith); high = le-leb x 0xFF (omega arith) }
-
-pub uint16_fits : (x : ℕ) → x < 0x10000 → Fit Uint16 (pos x)
-uint16_fits x h = record { low = le-leb 0 x (omega arith); high = le-leb x 0xFFFF (omega arith) }
 
 pub uint32_fits : (x : ℕ) → x < 0x100000000 → Fit Uint32 (pos x)
 uint32_fits x h = record { low = le-leb 0 x (omega arith); high = le-leb x 0xFFFFFFFF (omega arith) }

@@ -1,15 +1,15 @@
 -- What the rows say of every id, each by one computed test of the table. Assumes nothing.
 use mathlib.Core.Path.{◌≡◌, refl, sym, ap, ◌∙◌, subst}
 use mathlib.Core.Bool.{Bool, true, false, cond, ◌&&◌}
-use mathlib.Core.List.{List, [], ◌∷◌, ◌++◌, map}
+use mathlib.Core.List.{List, [], ◌∷◌, ◌++◌}
 use Prim.Native.Nat.{ℕ, zero, suc, ◌+◌, ◌-◌, ◌≤◌, ◌<◌}
 use native.Mathlib.Nat.{not-suc-le-zero, add-zero}
 use native.Mathlib.Omega.{arith}
-use borrow.Author.Tests.{leb-true, ltb-true, le-leb}
+use borrow.Author.Tests.{leb-true, ltb-true}
 use lib.Dec.{T, leb, ltb}
-use lib.IntN.{ℤ, pos, nat_abs}
+use lib.IntN.{ℤ}
 use lib.Signed.{le_z}
-use lib.ListN.{get_or, get_or-map, replicate, get_or-replicate}
+use lib.ListN.{get_or, replicate, get_or-replicate}
 use Rattle.kinds.specs.declared.Kind.{Kind}
 use Rattle.value.specs.Types.{code_of}
 use Rattle.value.specs.declared.ValueType.{ValueType}
@@ -29,11 +29,6 @@ same_on f lo n a e id h h' =
     let k : lo + (id - lo) ≡ id = omega arith in
     ap f (sym k) ∙ sym (column_at f lo n (id - lo) a (omega arith)) ∙ ap (λ (l : List _). get_or l (id - lo) a) e ∙ get_or-replicate n (id - lo) a a (omega arith)
 
--- where none of its numbers is negative
-pub column_of : (f : ℕ → ℤ) (lo n : ℕ) → map pos (column (λ id. nat_abs (f id)) lo n) ≡ column f lo n → (k : ℕ) → k < n → pos (get_or (column (λ id. nat_abs (f id)) lo n) k 0) ≡ f (lo + k)
-column_of f lo n e k h =
-    sym (get_or-map pos (column (λ id. nat_abs (f id)) lo n) k 0) ∙ ap (λ (l : List ℤ). get_or l k (pos 0)) e ∙ column_at f lo n k (pos 0) h
-
 -- ---- an id lies between two others
 pub and_true : (a b : Bool) → a && b ≡ true → (a ≡ true) × (b ≡ true)
 and_true true b h = (refl, h)
@@ -42,13 +37,6 @@ and_true false b h = absurd (subst T (sym h) tt)
 pub lies_yes : (a b id : ℕ) → lies a b id ≡ true → (a ≤ id) × (id ≤ b)
 unfolding lies
 lies_yes a b id h = let u = and_true (leb a id) (leb id b) h in (leb-true a id u.0, leb-true id b u.1)
-
-pub yes_lies : (a b id : ℕ) → a ≤ id → id ≤ b → lies a b id ≡ true
-unfolding lies
-yes_lies a b id h h' = rw (le-leb a id h, le-leb id b h')
-
-pub lies_no : (a b id : ℕ) → lies a b id ≡ false → a ≤ id → id ≤ b → ⊥
-lies_no a b id e h h' = subst T (sym (yes_lies a b id h h') ∙ e) tt
 
 -- ---- what every row passes
 -- how many ids of a type are read/write, and how many are only read

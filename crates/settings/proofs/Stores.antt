@@ -59,13 +59,6 @@ set_at s v {id} {i} {t} a e =
     let p : id - code_of t ≡ i = omega (arith, a.id_is) in
     rw (a.is, e, same_itself t) (ap (λ (j : ℕ). with_number s t j (clamp_of id (number_in v))) p)
 
-pub placed : (s : Settings) (t : ValueType) (z : ℤ) {i j : ℕ} → i ≡ j → with_number s t i z ≡ with_number s t j z
-placed s t z e = ap (λ (k : ℕ). with_number s t k z) e
-
--- the number that was clamped for one id is that of another where the two are one
-pub moved : (z : ℤ) {a b : ℕ} {r : ℤ} → r ≡ clamp_of a z → a ≡ b → clamp_of b z ≡ r
-moved z h e = ap (λ (id : ℕ). clamp_of id z) (sym e) ∙ sym h
-
 -- a value changes nothing where the id is not among the ids of its type
 pub set_off : (s : Settings) (id : ℕ) (v : ParamValue) → (code_of (type_of v) ≤ id → id < code_of (type_of v) + count_of (type_of v) → ⊥) → set_of s id v ≡ s
 unfolding set_of

@@ -46,12 +46,6 @@ from_step lo n i h =
     let f : suc (lo + i) ≡ lo + (i + 1) = omega arith in
     rw (e, f)
 
-pub from_start : (lo n : ℕ) → from (lo + 0) (n - 0) ≡ from lo n
-from_start lo n =
-    let e : lo + 0 ≡ lo = omega arith in
-    let f : n - 0 ≡ n = omega arith in
-    rw (e, f)
-
 pub from_end : (lo n i : ℕ) → n ≤ i → from lo (n - i) ≡ []
 unfolding from column
 from_end lo n i h = let e : n - i ≡ 0 = omega arith in rw e
