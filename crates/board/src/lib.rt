@@ -155,9 +155,9 @@ fn is_allowed(number: usize, count: usize) -> bool
 }
 
 // One tick: the rail in millivolts, the channels that reported overcurrent, the words lent, and no transfer or one.
-// Any number of words but 0 and the board's own is refused, and every part
-// of the board stays as it was. A refused tick has no way out of its own, and the board is changed in place and leaves
-// at one place only: it is large, and the compiler copies it wherever two ways meet.
+// Any number of words but 0 and the board's own is refused, and every part of the board stays as it was.
+// Kept: a refused tick has no way out of its own, and the board is changed in place and leaves at one place only, since
+// it is large, and the compiler copies it wherever two ways meet.
 pub fn tick(
     mut b: Board,
     rail: i16,

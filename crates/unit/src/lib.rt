@@ -99,16 +99,12 @@ fn due_by(replied: bool) -> Due
 fn happened(outcome: Outcome) -> bool
     ensures { result ≡ tells_it_happened outcome }
 {
-    match outcome {
-        Outcome::WrongWordCount => false,
-        Outcome::NoTransfer => true,
-        Outcome::Answered(_) => true,
-    }
+    !matches!(outcome, Outcome::WrongWordCount)
 }
 
 // What the text line has to say after a tick: the reply made in it that still waits, and else nothing. A tick that did
-// not happen leaves what was due. A test, and not a case for each outcome, since with those the compiler copies the
-// board once more.
+// not happen leaves what was due.
+// Kept: a test, and not a case for each outcome, since with those the compiler copies the board once more.
 fn due_after(outcome: Outcome, replied: bool, due: Due) -> Due
     ensures { result ≡ due_after outcome replied due }
 {
@@ -120,8 +116,7 @@ fn due_after(outcome: Outcome, replied: bool, due: Due) -> Due
 }
 
 // One tick: the rail in millivolts, the channels that reported overcurrent, the words lent, and no transfer or one.
-// Words that are neither none nor as many as the board has are refused,
-// and the machine stays as it was.
+// Words that are neither none nor as many as the board has are refused, and the machine stays as it was.
 pub fn tick(
     m: Machine,
     rail: i16,
