@@ -41,9 +41,9 @@ fn refused_by(r: Refusal) -> Asked
         Refusal::NotThisBoard => Asked::Refusal(Answer::NotThisBoard),
         Refusal::CodeNotListed => Asked::Refusal(Answer::CodeNotListed),
         Refusal::TooShort => Asked::Refusal(Answer::TooShort),
-        Refusal::WrongKey => Asked::Refusal(Answer::Wrong),
-        Refusal::WrongParameter => Asked::Refusal(Answer::Wrong),
-        Refusal::NotANumber => Asked::Refusal(Answer::Wrong),
+        Refusal::WrongKey | Refusal::WrongParameter | Refusal::NotANumber => {
+            Asked::Refusal(Answer::Wrong)
+        }
     }
 }
 
@@ -55,8 +55,7 @@ pub fn asked_of(kind: Kind, bid: u8, mode: Mode, transfer: Option<&[u8]>) -> Ask
     let Some(bytes) = transfer else {
         return Asked::Silence(Outcome::NoTransfer);
     };
-    let in_startup = is_startup(mode);
-    match command::decode(kind, bid, in_startup, bytes) {
+    match command::decode(kind, bid, is_startup(mode), bytes) {
         Ok(c) => Asked::Run(c),
         Err(r) => refused_by(r),
     }

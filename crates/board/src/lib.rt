@@ -42,8 +42,7 @@ struct Settled {
 fn channels_after(before: Mode, after: Mode, p: Profile, c: Channels, named: u32) -> Channels
     ensures { result ≡ overcurrent_at named (entering_of before after p c) }
 {
-    let entered = change::entering(before, after, p, c);
-    entered.overcurrent(named)
+    change::entering(before, after, p, c).overcurrent(named)
 }
 
 // What steps 1 to 3 make of these parts: mode and timer are a tick older, then the table may change the mode with all
@@ -76,14 +75,11 @@ fn settle_where(happens: bool, b: Board, rail: i16, named: u32, limits: Limits) 
     if happens {
         return settle(b, rail, named, limits);
     }
-    let phase = b.phase;
-    let channels = b.channels;
-    let resets = b.resets;
     Settled {
-        phase,
+        phase: b.phase,
         timer: b.timer,
-        channels,
-        resets,
+        channels: b.channels,
+        resets: b.resets,
     }
 }
 
@@ -123,9 +119,10 @@ fn watch(happens: bool, timer: u64, timeout: u64) -> Event
     ensures { result ≡ cond happens (watched_of timer timeout) NoEvent }
 {
     if happens {
-        return watchdog::watched(timer, timeout);
+        watchdog::watched(timer, timeout)
+    } else {
+        Event::NoEvent
     }
-    Event::NoEvent
 }
 
 // Whether the watchdog resets the board.
@@ -140,18 +137,15 @@ fn is_reset(event: Event) -> bool
 fn words_of(p: Profile) -> usize
     ensures { result ≡ (board_of p.kind).words }
 {
-    let kind = p.kind;
-    kinds::word_count(kind)
+    kinds::word_count(p.kind)
 }
 
 // Whether a tick of a board with that number of words may bring so many.
+#[tactic(auto, unfolding(crate::specs::Tick::allowed_count))]
 fn is_allowed(number: usize, count: usize) -> bool
     ensures { result ≡ allowed_count number count }
 {
-    if count == 0 {
-        return true;
-    }
-    count == number
+    count == 0 || count == number
 }
 
 // One tick: the rail in millivolts, the channels that reported overcurrent, the words lent, and no transfer or one.
@@ -172,16 +166,12 @@ pub fn tick(
     let happens = is_allowed(number, words.len());
     let limits = b.memory.limits();
     let settled = settle_where(happens, b, rail, overcurrent, limits);
-    let phase = settled.phase;
-    let channels = settled.channels;
-    let resets = settled.resets;
-    b.phase = phase;
+    b.phase = settled.phase;
     b.timer = settled.timer;
-    b.channels = channels;
-    b.resets = resets;
+    b.channels = settled.channels;
+    b.resets = settled.resets;
     if words.len() == number {
-        let measured = brought(words);
-        b.measured = measured;
+        b.measured = brought(words);
     }
     let mut outcome = untold(happens);
     let mut replied = false;

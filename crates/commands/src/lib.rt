@@ -22,14 +22,9 @@ fn timer_answered(answer: Answer, timer: u64) -> u64
     ensures { result ≡ timer_answered answer timer }
 {
     match answer {
-        Answer::Accepted => timer,
-        Answer::FewerThanFourBytes => timer,
-        Answer::InStartup => timer,
-        Answer::NotThisBoard => timer,
-        Answer::CodeNotListed => 0,
-        Answer::TooShort => 0,
-        Answer::NotAvailable => 0,
-        Answer::Wrong => 0,
+        Answer::Accepted | Answer::FewerThanFourBytes | Answer::InStartup | Answer::NotThisBoard =>
+            timer,
+        Answer::CodeNotListed | Answer::TooShort | Answer::NotAvailable | Answer::Wrong => 0,
     }
 }
 
@@ -37,25 +32,22 @@ fn timer_answered(answer: Answer, timer: u64) -> u64
 fn refused(b: Board, answer: Answer) -> Obeyed
     ensures { result ≡ obeyed_in (refused_with answer any_code b) }
 {
-    let mut told = only_fed(b, answer);
-    let timer = timer_answered(answer, b.timer);
-    told.timer = timer;
-    told
+    Obeyed {
+        timer: timer_answered(answer, b.timer),
+        ..only_fed(b, answer)
+    }
 }
 
 // Where no reply is made nothing has changed.
 fn silent(b: Board, outcome: Outcome) -> Obeyed
     ensures { result ≡ obeyed_in (silent_of outcome b) }
 {
-    let phase = b.phase.kept();
-    let channels = b.channels;
-    let fresh = b.measured.fresh;
     Obeyed {
-        phase,
+        phase: b.phase.kept(),
         timer: b.timer,
-        channels,
+        channels: b.channels,
         outcome,
-        fresh,
+        fresh: b.measured.fresh,
         replied: false,
     }
 }
@@ -76,8 +68,7 @@ fn layout(asked: Asked) -> Layout
     ensures { result ≡ layout_asked asked }
 {
     match asked {
-        Asked::Silence(_) => Layout::Short,
-        Asked::Refusal(_) => Layout::Short,
+        Asked::Silence(_) | Asked::Refusal(_) => Layout::Short,
         Asked::Run(c) => layout_of(c),
     }
 }
@@ -87,8 +78,7 @@ fn memory_change(asked: Asked) -> MemoryChange
     ensures { result ≡ memory_change_asked asked }
 {
     match asked {
-        Asked::Silence(_) => MemoryChange::AsBefore,
-        Asked::Refusal(_) => MemoryChange::AsBefore,
+        Asked::Silence(_) | Asked::Refusal(_) => MemoryChange::AsBefore,
         Asked::Run(c) => memory_change_of(c),
     }
 }
@@ -110,31 +100,24 @@ pub fn commanded(mut b: Board, rail: i16, limits: Limits, transfer: Option<&[u8]
     ensures value { result ≡ commanded_of rail limits (is_sent transfer.entry) (bytes_sent transfer.entry) b }
     ensures number { told_number result.outcome ≡ number_of rail limits (is_sent transfer.entry) (bytes_sent transfer.entry) b }
 {
-    let profile = b.profile;
-    let kind = profile.kind;
-    let asked = asked_of(kind, profile.bid, b.phase.mode(), transfer);
+    let kind = b.profile.kind;
+    let asked = asked_of(kind, b.profile.bid, b.phase.mode(), transfer);
     let told = obeyed(b, rail, limits, asked);
     let change = memory_change(asked);
     let outcome = told.outcome;
     let replied = told.replied;
     if is_altering(change) {
-        let memory = memory_after(kind, b.memory, change);
-        b.memory = memory;
+        b.memory = memory_after(kind, b.memory, change);
     }
     if replied {
-        let reply = reply_to(b, start_of(bytes_sent(transfer)), outcome, layout(asked));
-        b.reply = reply;
+        b.reply = reply_to(b, start_of(bytes_sent(transfer)), outcome, layout(asked));
     }
-    let phase = told.phase;
-    let channels = told.channels;
-    b.phase = phase;
+    b.phase = told.phase;
     b.timer = told.timer;
-    b.channels = channels;
-    b.measured.fresh.raw = told.fresh.raw;
-    b.measured.fresh.engineering = told.fresh.engineering;
+    b.channels = told.channels;
+    b.measured.fresh = told.fresh;
     if is_restart(change) {
-        let again = state::command_reset(b);
-        b = again;
+        b = state::command_reset(b);
     }
     Commanded {
         board: b,

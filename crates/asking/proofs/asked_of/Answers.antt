@@ -11,11 +11,11 @@ returns-in_default-clause-value c = rw c.in_default.is
 
 pub returns-in-Ok-clause-value : goal.returns-in-Ok-clause-value
 unfolding asked_of
-returns-in-Ok-clause-value c = rw (c.in-Some.is, ← c.is_startup-in_startup.ensures, sym c.decode.ensures.value, c.in-Ok.is)
+returns-in-Ok-clause-value c = rw (c.in-Some.is, ← c.is_startup.ensures, sym c.decode.ensures.value, c.in-Ok.is)
 
 pub returns-in-Err-clause-value : goal.returns-in-Err-clause-value
 unfolding asked_of
-returns-in-Err-clause-value c = rw (c.in-Some.is, ← c.is_startup-in_startup.ensures, sym c.decode.ensures.value, c.in-Err.is, c.refused_by.ensures)
+returns-in-Err-clause-value c = rw (c.in-Some.is, ← c.is_startup.ensures, sym c.decode.ensures.value, c.in-Err.is, c.refused_by.ensures)
 
 pub returns-in_default-clause-number : goal.returns-in_default-clause-number
 returns-in_default-clause-number c =

@@ -18,4 +18,4 @@ unfolding refused_of
 at b answer = refl
 
 pub returns : goal.returns
-returns c = rw (c.only_fed-told.ensures, c.timer_answered-timer.ensures) (at c.args.b c.args.answer)
+returns c = rw (c.only_fed.ensures, c.timer_answered.ensures) (at c.args.b c.args.answer)
