@@ -82,6 +82,7 @@ fn head(letter: u8) -> usize
 }
 
 // A bus read of at most 512 bytes.
+// Kept: apart from `frame`, since what the two differ in is all that they say.
 fn read(line: &[u8]) -> Option<Asked>
     ensures { result ≡ read_from (size_of 512 line.now) }
 {

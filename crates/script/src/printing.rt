@@ -1,4 +1,6 @@
 // A printed line, put together in a buffer: each function answers the place behind what it put there.
+// Kept: the buffer and the place go side by side, since the promises of `session` and `transcript` name the lent buffer
+// and the answered place, and each contract is then one equation from page to page.
 ghost use Rattle.std.specs.Prelude.{◌≡◌, [], ◌∷◌, ◌++◌, ◌%◌, take};
 ghost use Rattle.hexadecimal.specs.Hex.{capital_of};
 ghost use Rattle.script.specs.Printing.{page, typed, over, digits_of, row, hex_of};
@@ -93,6 +95,8 @@ pub fn string(out: &mut [u8], at: usize, s: &[u8]) -> usize
 }
 
 // A space and words.
+// Kept: a loop of its own beside that of bytes, since one over both types needs a trait for the two, and a definition by
+// it, where each loop is one line.
 pub fn words(out: &mut [u8], at: usize, ws: &[u16]) -> usize
     ensures { page out.new result ≡ typed (page out.old at) (32 ∷ row 4 ws.now) }
 {

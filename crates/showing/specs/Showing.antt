@@ -1,7 +1,8 @@
 -- The two long lines: what a tick prints, and the state. Characters are their ASCII codes: 32 is a space, 45 is `-`, 10
 -- ends a line. Assumes nothing: these are definitions.
-use Rattle.std.specs.Prelude.{ℕ, take, Some, None}
-use mathlib.Core.{Bool.Bool, Bool.cond, List.List, List.[], List.◌∷◌, List.◌++◌}
+use Rattle.std.specs.Prelude.{ℕ, take, Option, Some, None}
+use Rattle.std.specs.Bool.{then_some}
+use mathlib.Core.{Bool.Bool, List.List, List.[], List.◌∷◌, List.◌++◌}
 use Rattle.wire.specs.declared.reply.Reply.{Reply}
 use Rattle.image.specs.Image.{image_of}
 use Rattle.memory.specs.{Memory.Store, declared.Memory.Memory}
@@ -32,15 +33,16 @@ front_text phase timer c =
     ++ field_of 8 c.latched
 
 -- the reply made in this tick, or `-`
-unfoldable pub made_text : Bool → Reply → List ℕ
-made_text replied r = cond replied (reply_text r) (letter_of 45)
+abbrev pub made_text : Option Reply → List ℕ
+made_text (Some r) = reply_text r
+made_text None = letter_of 45
 
 unfoldable pub tick_line : ℕ → ℕ → Bool → Board → List ℕ
 tick_line event answer replied b =
     front_text b.phase b.timer b.channels
     ++ letter_of event
     ++ letter_of answer
-    ++ made_text replied b.reply
+    ++ made_text (then_some replied b.reply)
     ++ 10 ∷ []
 
 -- `refused 9`; the answer is `-` when the tick brought no transfer

@@ -32,15 +32,14 @@ fn reply(out: &mut [u8], at: usize, r: Reply) -> usize
     string(out, at, wire::first(&r.bytes, r.len))
 }
 
-// The reply that was made in a tick.
-#[tactic(auto, unfolding(crate::specs::Showing::made_text))]
-fn made(out: &mut [u8], at: usize, replied: bool, r: Reply) -> usize
-    ensures { page out.new result ≡ typed (page out.old at) (made_text replied r) }
+// The reply that was made in a tick, where one was.
+fn made(out: &mut [u8], at: usize, made: Option<Reply>) -> usize
+    ensures { page out.new result ≡ typed (page out.old at) (made_text made) }
 {
-    if replied {
-        return reply(out, at, r);
+    match made {
+        Some(r) => reply(out, at, r),
+        None => letter(out, at, b'-'),
     }
-    letter(out, at, b'-')
 }
 
 // The mode, its age, the timer, and the channels that are on and latched.
@@ -56,6 +55,7 @@ fn front(out: &mut [u8], phase: ModeAge, timer: u64, c: Channels) -> usize
 }
 
 // The tick line, with the letters of what the watchdog did and of the answer.
+// Kept: `replied` goes beside the board, as `unit::Told` has it; the reply lies in the board either way.
 #[tactic(auto, using(script::proofs::Turns::typed_append), unfolding(script::specs::Printing::typed, crate::specs::Showing::tick_line))]
 fn tick_line(b: Board, event: u8, answer: u8, replied: bool, out: &mut [u8]) -> usize
     ensures { page out.new result ≡ typed (page out.old 0) (tick_line event answer replied b) }
@@ -63,11 +63,12 @@ fn tick_line(b: Board, event: u8, answer: u8, replied: bool, out: &mut [u8]) -> 
     let mut at = front(out, b.phase, b.timer, b.channels);
     at = letter(out, at, event);
     at = letter(out, at, answer);
-    at = made(out, at, replied, b.reply);
+    at = made(out, at, replied.then_some(b.reply));
     put(out, at, b'\n')
 }
 
 // What a tick prints: its line, or that it was refused.
+// Kept: `replied` as for `tick_line`.
 #[tactic(auto, unfolding(crate::specs::Showing::ticked_line))]
 pub fn ticked(b: Board, outcome: Outcome, event: Event, replied: bool, out: &mut [u8]) -> usize
     ensures { page out.new result ≡ typed (page out.old 0) (ticked_line outcome event replied b) }

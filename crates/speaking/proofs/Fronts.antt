@@ -1,13 +1,12 @@
--- The front of an untouched buffer, lent to a call: what the call leaves there is what its first bytes then are.
--- Assumes nothing.
+-- The front of an untouched buffer, lent to a call. Assumes nothing.
 use Prim.Native.Nat.{ℕ, ◌≤◌, ◌<◌, min}
 use mathlib.Core.Path.{◌≡◌, sym, ap, ◌∙◌}
-use mathlib.Core.List.{List, ◌++◌}
+use mathlib.Core.List.{List}
 use mathlib.Core.Logic.{⊎_elim}
 use native.Mathlib.Omega.{arith}
 use native.Mathlib.Nat.{min-le_right, min-eq_left, min-eq_right}
-use lib.ListN.{length, take, drop, length-replicate}
-use lib.Seq.{length-take-le, length_front, take_all, take-append_seam}
+use lib.ListN.{length, take, length-replicate}
+use lib.Seq.{length-take-le, take_all}
 use Rattle.laws.proofs.Lists.{lt_or_le}
 use Rattle.speaking.specs.Speaking.{blank}
 
@@ -16,7 +15,7 @@ unfolding blank
 blank_length = length-replicate {A = ℕ} 1024 0xEE
 
 module _ (n count : ℕ) (b : List ℕ) (is : n ≡ min count 1024) (all : b ≡ blank) where
-  pub room : length b ≡ 1024
+  room : length b ≡ 1024
   room = ap length all ∙ blank_length
 
   fits : n ≤ length b
@@ -36,12 +35,3 @@ module _ (n count : ℕ) (b : List ℕ) (is : n ≡ min count 1024) (all : b ≡
       let e : min count 1024 ≡ 1024 = min-eq_right h in
       rw (is, all, e, take_all 1024 blank (omega (arith, blank_length)), take_all count blank (omega (arith, blank_length))))
       (lt_or_le count 1024)
-
-  module _ (new : List ℕ) (as_long : length new ≡ length (take n b)) where
-    pub whole : 1024 ≡ length (new ++ drop n b)
-    whole = sym (length_front b new n as_long ∙ room)
-
-    pub front : take n (new ++ drop n b) ≡ new
-    front =
-        let e : n ≡ length new = lent ∙ sym as_long in
-        ap (λ (k : ℕ). take k (new ++ drop n b)) e ∙ take-append_seam new (drop n b)
