@@ -26,7 +26,7 @@ placed_at c =
     let n : c.words_of-number.result ≡ word_count a.b = c.words_of-number.ensures in
     let count = length a.words.now in
     elim c.if-words-number.branch [
-      | then-words-number w ↦ let t = w.if-words-number.true in w.b-is ∙ rw (w.brought.ensures, eq-eqb count (word_count a.b) (omega arith))
+      | then-words-number w ↦ let t = w.if-words-number.true in w.b-is ∙ rw (w.brought-b.ensures, eq-eqb count (word_count a.b) (omega arith))
       | else-words-number w ↦ let t = w.if-words-number.false in w.b-is ∙ rw (ne_eqb count (word_count a.b) (λ e. omega arith))
     ]
 

@@ -15,7 +15,7 @@ use Rattle.commands.proofs.commanded.Goals.{Joined-replied, then-is_altering, el
 remembered : (c : Joined-replied) → c.if-is_altering.b ≡ altered c.memory_change-change.result c.args.b
 remembered c =
     elim c.if-is_altering.branch [
-      | then-is_altering w ↦ w.b-is ∙ rw (sym c.is_altering.ensures ∙ w.if-is_altering.true, w.memory_after.ensures)
+      | then-is_altering w ↦ w.b-is ∙ rw (sym c.is_altering.ensures ∙ w.if-is_altering.true, w.memory_after-b.ensures)
       | else-is_altering w ↦ w.b-is ∙ rw (sym c.is_altering.ensures ∙ w.if-is_altering.false)
     ]
 
@@ -23,7 +23,7 @@ answered : (c : Joined-replied) → c.if-replied.b ≡ replied (code_of (bytes_s
 unfolding received_in
 answered c =
     elim c.if-replied.branch [
-      | then-replied w ↦ w.b-is ∙ rw (w.if-replied.true, w.reply_to.ensures, w.layout.ensures, w.start_of.ensures, w.bytes_sent.ensures)
+      | then-replied w ↦ w.b-is ∙ rw (w.if-replied.true, w.reply_to-b.ensures, w.layout.ensures, w.start_of.ensures, w.bytes_sent.ensures)
       | else-replied w ↦ w.b-is ∙ rw w.if-replied.false
     ]
 
