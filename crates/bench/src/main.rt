@@ -50,6 +50,7 @@ fn read_full<R: Read>(input: &mut R, room: &mut [u8]) -> usize
     ensures came { Consumes (R.remaining input.old) (R.remaining input.new) (take result room.new) }
 {
     let mut filled = 0;
+    // Kept: `while`, as each read brings some bytes, and no count of reads is known.
     while filled < room.len() {
         match input.read(&mut room[filled..]) {
             Ok(0) | Err(_) => break,
