@@ -103,7 +103,7 @@ pub fn read(text: &[u8], out: &mut [u8]) -> Result<usize, PayloadRefusal>
 }
 
 // The capital digit of a number below 16.
-fn capital(v: u8) -> u8
+pub fn capital(v: u8) -> u8
     requires { v < 16 }
     ensures { result ≡ capital_of v }
 {

@@ -1,8 +1,7 @@
 // A printed line, put together in a buffer: each function answers the place behind what it put there.
 // Kept: the buffer and the place go side by side, since the promises of `session` and `transcript` name the lent buffer
 // and the answered place, and each contract is then one equation from page to page.
-ghost use Rattle.std.specs.Prelude.{◌≡◌, [], ◌∷◌, ◌++◌, ◌%◌, take};
-ghost use Rattle.hexadecimal.specs.Hex.{capital_of};
+ghost use Rattle.std.specs.Prelude.{◌≡◌, [], ◌∷◌, ◌++◌, take};
 ghost use Rattle.script.specs.Printing.{page, typed, over, digits_of, row, hex_of};
 
 // What was printed.
@@ -34,14 +33,6 @@ pub fn text(out: &mut [u8], at: usize, s: &[u8]) -> usize
     place
 }
 
-// The lowest hexadecimal digit of a number, in capitals.
-fn digit(n: u64) -> u8
-    ensures { result ≡ capital_of (n % 16) }
-{
-    let d = (n % 16) as u8;
-    if d < 10 { d + 48 } else { d + 55 }
-}
-
 // A number without its lowest digits.
 fn over(n: u64, digits: usize) -> u64
     ensures { result ≡ over digits n }
@@ -59,7 +50,8 @@ pub fn number(out: &mut [u8], at: usize, n: u64, digits: usize) -> usize
 {
     let mut place = at;
     for left in (0..digits).rev() {
-        place = put(out, place, digit(over(n, left)));
+        let digit = (over(n, left) % 16) as u8;
+        place = put(out, place, hexadecimal::capital(digit));
     }
     place
 }

@@ -7,6 +7,7 @@ use Rattle.hexadecimal.proofs.read.Reads as read
 use Rattle.hexadecimal.proofs.write.Reads as write
 use Rattle.hexadecimal.proofs.read_word.Reads as read_word
 use Rattle.hexadecimal.proofs.write_word.Reads as write_word
+use Rattle.hexadecimal.proofs.capital.Reads as capital
 
 pub single_digit : Single digit.Post (λ κ r s. r)
 single_digit κ a r r' s s' p q = p.0 ∙ sym q.0
@@ -31,3 +32,6 @@ single_read_word κ a r r' s s' p q = p.0 ∙ sym q.0
 
 pub single_write_word : Single write_word.Post (λ κ r s. r)
 single_write_word κ a r r' s s' p q = p ∙ sym q
+
+pub single_capital : Single capital.Post (λ κ r s. r)
+single_capital κ a r r' s s' p q = p ∙ sym q

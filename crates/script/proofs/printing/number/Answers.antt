@@ -9,7 +9,7 @@ pub loop-left-preserved : goal.loop-left-preserved
 loop-left-preserved c =
     let l = c.loop-left in
     let n = c.args.n in
-    let e = c.put-place.ensures ∙ ap (λ (d : ℕ). typed (page l.out l.place) (d ∷ [])) (c.digit.ensures ∙ ap (λ (k : ℕ). capital_of (k % 16)) c.over.ensures) in
+    let e = c.put-place.ensures ∙ ap (λ (d : ℕ). typed (page l.out l.place) (d ∷ [])) (c.capital.ensures ∙ ap (λ (k : ℕ). capital_of (k % 16)) c.over.ensures) in
     turn (page l.out l.place) _ (capital_of (over (l.left - 1) n % 16) ∷ []) (digits_of (l.left - 1) n) (digits_of l.left n) e (digits_turn l.left n (omega arith)) ∙ l.invariant
 
 pub returns : goal.returns
