@@ -30,6 +30,16 @@ module _ (low high z : ℤ) where
   unfolding at_most at_least
   kept h h' = rw (no_lt z low (omega order), no_lt high z (omega order))
 
+-- the ends may be asked in either order
+pub either_order : (low high z : ℤ) → le_z low high ≡ true → at_least low (at_most high z) ≡ at_most high (at_least low z)
+unfolding at_most at_least
+either_order low high z o = go (lt_z high z) refl (lt_z z low) refl
+  where
+    go : (x : Bool) → lt_z high z ≡ x → (y : Bool) → lt_z z low ≡ y → at_least low (at_most high z) ≡ at_most high (at_least low z)
+    go true e y f = rw (nearer_high low high z o e, e, no_lt high low (omega order))
+    go false e true f = rw (nearer_low low high z o f, e, f)
+    go false e false f = rw (e, f, e)
+
 -- ---- a number of a type
 pub record Fit (t : ValueType) (z : ℤ) : Type 0 where
   pub low : le_z (lowest t) z ≡ true

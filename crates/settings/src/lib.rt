@@ -158,13 +158,7 @@ fn clamped(id: u16, x: i32) -> i32
     ensures { result ≡ clamp_of id x }
 {
     let ends = ends_of(id);
-    if x < ends.low {
-        return ends.low;
-    }
-    if ends.high < x {
-        return ends.high;
-    }
-    x
+    x.clamp(ends.low, ends.high)
 }
 
 // Whether a number lies in the range of such a parameter.
