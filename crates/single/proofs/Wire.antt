@@ -37,11 +37,11 @@ single_float_bits64 κ a r r' s s' p q = p ∙ sym q
 pub single_byte : Single byte.Post (λ κ r s. r)
 single_byte κ a r r' s s' p q = p ∙ sym q
 
-pub single_rest : Single rest.Post (λ κ r s. r.now)
-single_rest κ a r r' s s' p q = p ∙ sym q
+pub single_rest : (t : _) (l : _) → Single (rest.Post t l) (λ κ r s. r.now)
+single_rest t l κ a r r' s s' p q = p ∙ sym q
 
-pub single_first : Single first.Post (λ κ r s. r.now)
-single_first κ a r r' s s' p q = p ∙ sym q
+pub single_first : (t : _) (l : _) → Single (first.Post t l) (λ κ r s. r.now)
+single_first t l κ a r r' s s' p q = p ∙ sym q
 
 pub single_read_i8 : Single read_i8.Post (λ κ r s. r)
 single_read_i8 κ a r r' s s' p q = p ∙ sym q
