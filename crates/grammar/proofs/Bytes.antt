@@ -1,7 +1,7 @@
 -- One byte, a literal and a search, one equation for each way that the code can go. Assumes nothing.
 use Prim.Native.Nat.{ℕ, suc, ◌+◌, ◌-◌, ◌≤◌, ◌<◌}
 use mathlib.Core.Path.{◌≡◌, refl, ap, sym, ◌∙◌}
-use mathlib.Core.Bool.{Bool, true, false, cond}
+use mathlib.Core.Bool.{Bool, true, false, cond, ◌&&◌}
 use mathlib.Core.Option.{Option, none, some}
 use mathlib.Core.List.{List, [], ◌∷◌}
 use native.Mathlib.Numerals.{add-one}
@@ -9,9 +9,11 @@ use native.Mathlib.Omega.{arith}
 use lib.Dec.{eqb}
 use lib.ListN.{length, drop, take, get_or, get_or-eq_default}
 use lib.Seq.{drop-cons, get_or-drop}
-use borrow.Author.Tests.{eq-eqb, ne_eqb, eqb-true}
-use Rattle.laws.proofs.Lists.{drop_step, drop_end, get_d_any}
-use Rattle.grammar.specs.Grammar.{fails, reads, peek_at, byte, end, text, first_from, part_to, up_to}
+use borrow.Author.Tests.{eq-eqb, ne_eqb, eqb-true, eqb-false}
+use mathlib.Core.Logic.{⊎_elim}
+use Rattle.std.specs.List.{starts_with}
+use Rattle.laws.proofs.Lists.{drop_step, drop_end, get_d_any, lt_or_le}
+use Rattle.grammar.specs.Grammar.{fails, reads, on, peek_at, byte, end, text, first_from, part_to, up_to}
 
 -- ---- what stands at a place
 module _ (s : List ℕ) (i : ℕ) where
@@ -47,19 +49,30 @@ module _ (s : List ℕ) (i : ℕ) where
   unfolding end
   end_not n = rw (ne_eqb i (length s) n)
 
--- ---- a literal: a turn over its bytes
-module _ (wanted s : List ℕ) (k i : ℕ) where
-  pub text_end : length wanted ≤ k → text (drop k wanted) s i ≡ reads tt i
-  unfolding text
-  text_end h = rw (drop_end wanted k h)
+-- ---- a literal: it stands where what is left of the text starts with it
+text_starts : (wanted s : List ℕ) (i : ℕ) → ((k : ℕ) → get_or wanted k 0 < 256) → text wanted s i ≡ cond (starts_with eqb (drop i s) wanted) (reads tt (i + length wanted)) fails
+unfolding text
+text_starts [] s i small = let z : i ≡ i + 0 = omega arith in ap (reads tt) z
+text_starts (b ∷ bs) s i small =
+    ⊎_elim
+    (λ (h : i < length s). rw (drop_step s i h) (go h (text_starts bs s (i + 1) (λ k. small (suc k))) (eqb b (get_or s i 0)) refl))
+    (λ (h : length s ≤ i). rw (drop_end s i h, byte_not b s i (λ e. omega (arith, e, peek_past s i h, small 0))))
+    (lt_or_le i (length s))
+  where
+    go : i < length s → text bs s (i + 1) ≡ cond (starts_with eqb (drop (i + 1) s) bs) (reads tt (i + 1 + length bs)) fails → (t : Bool) → eqb b (get_or s i 0) ≡ t
+        → on (byte b s i) (λ u j. text bs s j) ≡ cond (t && starts_with eqb (drop (i + 1) s) bs) (reads tt (i + suc (length bs))) fails
+    go h rest true e =
+        let here : peek_at s i ≡ b = sym (eqb-true b (get_or s i 0) e ∙ peek_inside s i h) in
+        let behind : i + 1 + length bs ≡ i + suc (length bs) = omega arith in
+        rw (byte_is b s i here, ← behind) rest
+    go h rest false e = rw (byte_not b s i (λ q. eqb-false b (get_or s i 0) e (sym q ∙ sym (peek_inside s i h))))
 
-  pub text_same : k < length wanted → peek_at s i ≡ get_or wanted k 0 → text (drop k wanted) s i ≡ text (drop (k + 1) wanted) s (i + 1)
-  unfolding text
-  text_same h e = rw (drop_step wanted k h, byte_is (get_or wanted k 0) s i e)
+module _ (wanted s : List ℕ) (i : ℕ) (small : (k : ℕ) → get_or wanted k 0 < 256) where
+  pub text_begins : starts_with eqb (drop i s) wanted ≡ true → reads tt (i + length wanted) ≡ text wanted s i
+  text_begins e = sym (text_starts wanted s i small ∙ rw e)
 
-  pub text_other : k < length wanted → (peek_at s i ≡ get_or wanted k 0 → ⊥) → text (drop k wanted) s i ≡ fails
-  unfolding text
-  text_other h n = rw (drop_step wanted k h, byte_not (get_or wanted k 0) s i n)
+  pub text_not : starts_with eqb (drop i s) wanted ≡ false → fails ≡ text wanted s i
+  text_not e = sym (text_starts wanted s i small ∙ rw e)
 
 -- ---- a search: a turn over the places
 module _ (b : ℕ) (s : List ℕ) (i : ℕ) where

@@ -1,34 +1,52 @@
 -- Numbers with a sign. Assumes nothing.
 use Prim.Native.Nat.{ℕ, zero, suc, ◌+◌, ◌-◌, ◌≤◌, ◌<◌}
-use mathlib.Core.Path.{◌≡◌, refl, ap, sym, ◌∙◌}
+use mathlib.Core.Path.{◌≡◌, refl, sym}
 use mathlib.Core.List.{List}
 use native.Mathlib.Omega.{arith}
-use lib.IntN.{ℤ, pos, negsuc}
-use mir.Syntax.{w16}
+use lib.IntN.{pos, negsuc}
+use mir.Syntax.{w16, w32}
 use mir.Val.{to_z, of_z}
 use mir.ValLaws.{to_z-of_z}
-use lib.Signed.{mag}
-use Rattle.wire.specs.Numbers.{pattern, signed as twos}
-use Rattle.wire.proofs.TwosComplement.{signed_pattern}
+use mathlib.Core.Bool.{true, false}
+use Rattle.std.specs.Prelude.{Option, Some, None, nat_eq, ◌-ℤ◌, FitsSigned}
+use Rattle.std.specs.Option.{option_eq}
+use borrow.Author.Tests.{eqb-true, lt-ltb}
+use Rattle.std.proofs.lemmas.Bool.{eqb-false}
+use Rattle.grammar.specs.Views.{peeked}
 use Rattle.grammar.specs.Grammar.{fails, reads, peek_at}
 use Rattle.grammar.specs.Numbers.{number, signed}
 use Rattle.grammar.proofs.Bytes.{byte_is, byte_not}
 use Rattle.grammar.proofs.Digits.{digit_low, number_none}
 
--- ---- a magnitude as a pattern of 16 bits stands for the number
-pub pattern_above : (m : ℕ) → m < 32768 → twos 2 m ≡ pos m
-unfolding pattern
-pattern_above m h = signed_pattern w16 (pos m) (record { sfits = omega arith })
+-- ---- the sign that stands in front
+pub dash : (o : Option ℕ) → true ≡ option_eq nat_eq o (Some 45) → peeked o ≡ 45
+dash None e = let z : ◌≡◌ {A = ℕ} 0 1 = cc in absurd (omega arith)
+dash (Some x) e = eqb-true x 45 (sym e)
 
-pub pattern_below : (m : ℕ) → 0 < m → m ≤ 32768 → twos 2 (65536 - m) ≡ negsuc (m - 1)
-unfolding pattern
-pattern_below m p h =
-    let e : m - 1 + 1 ≡ m = omega arith in
-    rw e at (signed_pattern w16 (negsuc (m - 1)) (record { sfits = omega arith }))
+pub no_dash : (o : Option ℕ) → false ≡ option_eq nat_eq o (Some 45) → peeked o ≡ 45 → ⊥
+no_dash None e q = absurd (omega arith)
+no_dash (Some x) e q = eqb-false x 45 (sym e) q
 
--- a signed value that lay in memory is what it was
-pub kept : (r z : ℤ) → r ≡ z → mag z < 32768 → to_z w16 (of_z w16 r) ≡ z
-kept r z e h = ap (λ (y : ℤ). to_z w16 (of_z w16 y)) e ∙ to_z-of_z w16 z (record { sfits = h })
+-- ---- casts of a magnitude
+pub above16 : (m : ℕ) → m < 32768 → to_z w16 m ≡ pos m
+above16 m h = to_z-of_z w16 (pos m) (record { sfits = omega arith })
+
+pub above32 : (m : ℕ) → m ≤ 32768 → to_z w32 m ≡ pos m
+above32 m h = to_z-of_z w32 (pos m) (record { sfits = omega arith })
+
+negated : (m : ℕ) → 0 < m → pos 0 -ℤ pos m ≡ negsuc (m - 1)
+negated zero h = absurd (omega arith)
+negated (suc n) h = let e : suc n - 1 ≡ n = omega arith in rw (e, lt-ltb 0 (suc n) (omega arith))
+
+module _ (m : ℕ) (some : 0 < m) (most : m ≤ 32768) where
+  pub negative_fits : FitsSigned w32 (pos 0 -ℤ to_z w32 m)
+  negative_fits = rw (above32 m most, negated m some) (record { sfits = omega arith })
+
+  pub negative : to_z w32 (of_z w32 (pos 0 -ℤ to_z w32 m)) ≡ negsuc (m - 1)
+  negative = rw (above32 m most, negated m some) (to_z-of_z w32 (negsuc (m - 1)) (record { sfits = omega arith }))
+
+  pub negative16 : to_z w16 (of_z w16 (to_z w32 (of_z w32 (pos 0 -ℤ to_z w32 m)))) ≡ negsuc (m - 1)
+  negative16 = rw negative (to_z-of_z w16 (negsuc (m - 1)) (record { sfits = omega arith }))
 
 -- ---- the answers
 module _ (s : List ℕ) (i : ℕ) where

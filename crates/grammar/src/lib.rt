@@ -2,195 +2,129 @@
 // is read.
 #![tactic(auto)]
 
-ghost use Rattle.std.specs.Prelude.{◌≡◌, ◌<◌, ◌≤◌, length};
+ghost use Rattle.std.specs.Prelude.{◌≡◌, ◌<◌, ◌≤◌, length, IsSome, IfSome};
 ghost use Rattle.grammar.specs.Grammar.{peek_at, text, up_to};
 ghost use Rattle.grammar.specs.Numbers.{digit_at, number, signed, word};
-ghost use Rattle.grammar.specs.Views.{seen_next, seen_number, seen_signed, seen_word, seen_line, Lies, next_refusal, number_refusal, signed_refusal, word_refusal, place_refusal, refusal_of};
+ghost use Rattle.grammar.specs.Views.{peeked, counted, seen_next, seen, seen_line, Lies, answer_refusal, refusal_of};
 
-// The byte at a place. Past the end it is 256, so that no reader asks for the end by itself.
-pub fn peek(s: &[u8], at: usize) -> u16
-    ensures is { result ≡ peek_at s.now at }
-    ensures small { result ≤ 256 }
-    ensures inside { result < 256 → at < length s.now }
-{
-    if at < s.len() { s[at] as u16 } else { 256 }
-}
-
-// Whether bytes stand at a place, and the place behind them.
+// What was read at a place, and the place behind it.
 #[derive(Clone, Copy)]
-pub enum Next {
-    To(usize),
-    Not,
+pub struct Found<T> {
+    pub value: T,
+    pub next: usize,
 }
 
-// These bytes at a place, one after the other.
-pub fn literal(s: &[u8], at: usize, wanted: &[u8]) -> Next
+// The byte at a place, where it is not past the end.
+#[tactic(auto, unfolding(crate::specs::Grammar::peek_at))]
+pub fn peek(s: &[u8], at: usize) -> Option<u8>
+    ensures is { peeked result ≡ peek_at s.now at }
+    ensures small { peeked result ≤ 256 }
+    ensures inside { peeked result < 256 → at < length s.now }
+{
+    s.get(at).copied()
+}
+
+// These bytes at a place, one after the other: the place behind them.
+pub fn literal(s: &[u8], at: usize, wanted: &[u8]) -> Option<usize>
     ensures is { seen_next result ≡ text wanted.now s.now at }
-    ensures number { next_refusal result ≡ refusal_of (text wanted.now s.now at) }
+    ensures number { answer_refusal result ≡ refusal_of (text wanted.now s.now at) }
 {
-    let n = wanted.len();
-    let mut i = at;
-    let mut k = 0;
-    while k < n {
-        let b = wanted[k] as u16;
-        if peek(s, i) != b {
-            return Next::Not;
-        }
-        i += 1;
-        k += 1;
+    if wire::rest(s, at).starts_with(wanted) {
+        Some(at + wanted.len())
+    } else {
+        None
     }
-    Next::To(i)
-}
-
-// Where a byte first comes.
-#[derive(Clone, Copy)]
-pub enum Place {
-    At(usize),
-    Never,
 }
 
 // The first place from `at` on where a byte stands, so that what lies before it can be taken as a part.
-pub fn find_byte(s: &[u8], at: usize, b: u8) -> Place
+pub fn find_byte(s: &[u8], at: usize, b: u8) -> Option<usize>
     ensures is { seen_line s.now at result ≡ up_to b s.now at }
     ensures lies { Lies result at (length s.now) }
-    ensures number { place_refusal result ≡ refusal_of (up_to b s.now at) }
+    ensures number { answer_refusal result ≡ refusal_of (up_to b s.now at) }
 {
-    let n = s.len();
-    let mut i = at;
-    while i < n {
+    for i in at..s.len() {
         if s[i] == b {
-            return Place::At(i);
+            return Some(i);
         }
-        i += 1;
     }
-    Place::Never
+    None
 }
 
-// What the decimal digit at a place is worth, and 10 where none stands.
-fn decimal(s: &[u8], at: usize) -> u64
-    ensures is { result ≡ digit_at s.now at }
-    ensures inside { result < 10 → at < length s.now }
+// What the decimal digit at a place is worth, where one stands.
+#[tactic(auto, unfolding(crate::specs::Numbers::digit_at, hexadecimal::specs::Hex::between))]
+fn decimal(s: &[u8], at: usize) -> Option<u64>
+    ensures is { counted result ≡ digit_at s.now at }
+    ensures small { IfSome result (λ d. d < 10) }
+    ensures inside { IsSome result → at < length s.now }
 {
-    let x = peek(s, at);
-    if x < 48 {
-        return 10;
+    match peek(s, at)? {
+        x @ b'0'..=b'9' => Some(u64::from(x - 48)),
+        _ => None,
     }
-    if 57 < x {
-        return 10;
-    }
-    (x - 48) as u64
-}
-
-// A number and the place behind it.
-#[derive(Clone, Copy)]
-pub enum Number {
-    Is { value: u32, next: usize },
-    Not,
 }
 
 // A decimal number of at most limit. Reading stops once the limit is passed, so that any count of digits may come and
 // nothing overflows.
-pub fn read_number(s: &[u8], at: usize, limit: u32) -> Number
-    ensures is { seen_number result ≡ number limit s.now at }
-    ensures number { number_refusal result ≡ refusal_of (number limit s.now at) }
+pub fn read_number(s: &[u8], at: usize, limit: u32) -> Option<Found<u32>>
+    ensures is { seen result ≡ number limit s.now at }
+    ensures number { answer_refusal result ≡ refusal_of (number limit s.now at) }
 {
-    let first = decimal(s, at);
-    if 9 < first {
-        return Number::Not;
-    }
+    let first = decimal(s, at)?;
     if first == 0 {
-        if decimal(s, at + 1) < 10 {
-            return Number::Not;
-        }
-        return Number::Is {
-            value: 0,
-            next: at + 1,
+        return match decimal(s, at + 1) {
+            None => Some(Found {
+                value: 0,
+                next: at + 1,
+            }),
+            Some(_) => None,
         };
     }
-    let most = limit as u64;
-    let mut v: u64 = 0;
-    let mut i = at;
-    loop {
-        let d = decimal(s, i);
-        if 9 < d {
-            break;
+    let most = u64::from(limit);
+    let mut value = 0;
+    let mut next = at;
+    while let Some(d) = decimal(s, next) {
+        value = value * 10 + d;
+        if most < value {
+            return None;
         }
-        v = v * 10 + d;
-        if most < v {
-            return Number::Not;
-        }
-        i += 1;
+        next += 1;
     }
-    Number::Is {
-        value: v as u32,
-        next: i,
-    }
+    Some(Found {
+        value: value as u32,
+        next,
+    })
 }
 
-// A number with a sign and the place behind it.
-#[derive(Clone, Copy)]
-pub enum Signed {
-    Is { value: i16, next: usize },
-    Not,
-}
-
-// A number from -32768 to 32767, with a - in front if it is below 0. Its value comes from its pattern, since a
-// magnitude of 32768 has no place in the type.
-pub fn read_signed(s: &[u8], at: usize) -> Signed
-    ensures is { seen_signed result ≡ signed s.now at }
-    ensures number { signed_refusal result ≡ refusal_of (signed s.now at) }
+// A number from -32768 to 32767, with a - in front if it is below 0.
+pub fn read_signed(s: &[u8], at: usize) -> Option<Found<i16>>
+    ensures is { seen result ≡ signed s.now at }
+    ensures number { answer_refusal result ≡ refusal_of (signed s.now at) }
 {
-    if peek(s, at) == 45 {
-        let Number::Is { value, next } = read_number(s, at + 1, 32768) else {
-            return Signed::Not;
-        };
-        match value {
-            0 => Signed::Not,
-            _ => Signed::Is {
-                value: ((65536 - value) as u16).cast_signed(),
-                next,
-            },
+    if peek(s, at) == Some(b'-') {
+        let Found { value, next } = read_number(s, at + 1, 32768)?;
+        if value == 0 {
+            return None;
         }
-    } else {
-        let Number::Is { value, next } = read_number(s, at, 32767) else {
-            return Signed::Not;
-        };
-        Signed::Is {
-            value: (value as u16).cast_signed(),
+        return Some(Found {
+            value: (0 - value as i32) as i16,
             next,
-        }
+        });
     }
-}
-
-// The number of eight hex digits and the place behind them.
-#[derive(Clone, Copy)]
-pub enum Word {
-    Is { value: u32, next: usize },
-    Not,
+    let Found { value, next } = read_number(s, at, 32767)?;
+    Some(Found {
+        value: value as i16,
+        next,
+    })
 }
 
 // Eight hex digits of either case, the uppermost first. Whether a ninth stands behind them is for the caller to ask.
-pub fn read_word(s: &[u8], at: usize) -> Word
-    ensures is { seen_word result ≡ word 8 0 s.now at }
-    ensures number { word_refusal result ≡ refusal_of (word 8 0 s.now at) }
+pub fn read_word(s: &[u8], at: usize) -> Option<Found<u32>>
+    ensures is { seen result ≡ word 8 0 s.now at }
+    ensures number { answer_refusal result ≡ refusal_of (word 8 0 s.now at) }
 {
-    let mut v: u64 = 0;
-    let mut i = at;
-    let mut left: u32 = 8;
-    while 0 < left {
-        let x = peek(s, i);
-        if 255 < x {
-            return Word::Not;
-        }
-        let Some(d) = hexadecimal::digit(x as u8) else {
-            return Word::Not;
-        };
-        v = v * 16 + (d as u64);
-        i += 1;
-        left -= 1;
-    }
-    Word::Is {
-        value: v as u32,
-        next: i,
-    }
+    let value = hexadecimal::read_word(wire::first(wire::rest(s, at), 8))?;
+    Some(Found {
+        value,
+        next: at + 8,
+    })
 }

@@ -1,5 +1,6 @@
 -- What opening a sheet prints, the line of its refusal, and then each of its ticks, is together the whole transcript.
 -- Where a buffer has the room, what was printed is all of the text (`transcript::Pages`). Assumes nothing.
+use Rattle.std.specs.Prelude.{Some, Result}
 use Prim.Native.Nat.{ℕ, zero, suc, ◌+◌, ◌-◌, ◌≤◌, ◌<◌}
 use mathlib.Core.Path.{◌≡◌, refl, ap, sym, ◌∙◌}
 use mathlib.Core.Bool.{Bool, true, false, cond}
@@ -24,10 +25,10 @@ use Rattle.sheet.proofs.Behind.{times_turn, times_none}
 use Rattle.sheet.proofs.Sheets.{accepted}
 use Rattle.script.specs.Printing.{page, typed}
 use Rattle.transcript.specs.Transcript.{ticks_text, opened_number, refusal_text}
-use Rattle.transcript.specs.declared.Answer.{Answer}
+use Rattle.transcript.specs.declared.SheetRefusal.{SheetRefusal}
 use Rattle.session.specs.Sessions.{tick_on, line_of, lines_from, profile_in, beginning, begun_text, sheet_text, transcript_of, Open, opens, opened, steps, no_session, started_by, started_of, opened_by, opened_of, after, number_of_next, ticked_of, is_over, stepped_by, stepped_of, session_by, first_by, answer_by, session_from, first_from, answer_from, next_by, printed_by, steps_from, form_refusal, sheet_refusal}
 use Rattle.session.specs.declared.Session.{Session}
-use Rattle.session.specs.declared.Opened.{Opened}
+use Rattle.session.specs.declared.Stepped.{Stepped}
 
 -- ---- what a call leaves, as a session and a text
 pub open_is : (held s : List ℕ) → opened_of held s ≡ opens (session_from (sheet_in s)) (answer_from (sheet_in s)) (typed (page held 0) (first_from (sheet_in s)))
@@ -90,8 +91,8 @@ transcript s = go (sheet_in s) refl
     go : (r : Read Sheet) → sheet_in s ≡ r → first_from r ++ (refusal_text (answer_from r) ++ steps_from (session_from r).left s (session_from r)) ≡ sheet_text r
     go fails q = refl
     go (reads sheet i) q =
-        let told : head_by sheet.top ≡ sheet_head (sheet_in s) = sym (ap sheet_head q) in
-        let a = accepted s sheet.top.bid sheet.top.fitted sheet.top.forced sheet.top.count sheet.top.first told in
+        let told : Some (head_by sheet.top) ≡ sheet_head (sheet_in s) = sym (ap sheet_head q) in
+        let a = accepted s (head_by sheet.top) told in
         let same : a.sheet ≡ sheet = let w : reads a.sheet (length s) ≡ reads sheet i = sym a.read ∙ q in cc in
         begun
         (beginning (profile_in sheet.top)).answer
@@ -144,11 +145,23 @@ number_is s =
     (lt_or_le 65536 (length s))
 
 -- what opening leaves says the number
-abbrev answer_in : Open → Answer
+abbrev answer_in : Open → Result (Unit {0}) SheetRefusal
 answer_in (opens session answer p) = answer
 
-pub with_number : (r : Opened) (held after s : List ℕ) → opened r after ≡ opened_of held s → (opened r after ≡ opened_of held s) × (opened_number r.answer ≡ sheet_refusal s)
-with_number r held after s e = (e, ap (λ (o : Open). opened_number (answer_in o)) (e ∙ open_is held s) ∙ number_is s)
+number_in : (r : Result Stepped SheetRefusal) (after : List ℕ) → opened_number (answer_in (opened r after)) ≡ opened_number r
+number_in (Ok r) after = refl
+number_in (Err e) after = numbered e
+  where
+    numbered : (e : SheetRefusal) → opened_number {A = Unit {0}} (Err e) ≡ opened_number {A = Stepped} (Err e)
+    numbered SheetRefusal.ProfileBreaksARule = refl
+    numbered SheetRefusal.NotOfForm = refl
+
+pub with_number : (r : Result Stepped SheetRefusal) (held after s : List ℕ) → opened r after ≡ opened_of held s
+    → record { leaves : opened r after ≡ opened_of held s; number : opened_number r ≡ sheet_refusal s }
+with_number r held after s e = record {
+  leaves = e;
+  number = sym (number_in r after) ∙ ap (λ (o : Open). opened_number (answer_in o)) (e ∙ open_is held s) ∙ number_is s;
+}
 
 -- the profile of a sheet names raw
 pub sheet_names_raw : (top : Top) → (profile_in top).form ≡ Raw

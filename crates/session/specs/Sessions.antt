@@ -1,8 +1,8 @@
 -- The whole output for a sheet as one text, and the same by steps: opening it, and then a tick at a time. Assumes
 -- nothing: these are definitions.
-use Rattle.std.specs.Prelude.{Ok, Err, ℕ, zero, suc, ◌+◌, ◌-◌}
+use Rattle.std.specs.Prelude.{ℕ, zero, suc, ◌+◌, ◌-◌, Option, Some, None, Result, Ok, Err}
 use mathlib.Core.{Bool.Bool, Bool.cond, Bool.◌||◌, List.List, List.[], List.◌∷◌, List.◌++◌}
-use lib.{Dec.eqb, Dec.ltb, IntN.ℤ, ListN.length}
+use lib.{Dec.eqb, Dec.ltb, IntN.ℤ, ListN.length, ListN.take}
 use Rattle.memory.specs.Memory.{empty_store}
 use Rattle.state.specs.{Parts.distribution_board, Parts.naming_raw, Start.keeps_the_rules, declared.parts.Profile.Profile}
 use Rattle.state.specs.Start.{StartAnswer}
@@ -12,9 +12,9 @@ use Rattle.unit.specs.declared.Told.{Told}
 use Rattle.grammar.specs.Grammar.{Read, fails, reads}
 use Rattle.sheet.specs.{Form.Top, Form.bytes_of, Form.Tick, Form.tick_line, Form.Sheet, Form.sheet, Form.sheet_in, Answers.is_sent}
 use Rattle.script.specs.Printing.{Page, page, typed}
-use Rattle.transcript.specs.{Transcript.tick_text, Transcript.ticks_text, Transcript.refused8, Transcript.refused14, declared.Answer.Answer}
-use Rattle.transcript.specs.declared.Answer.TheVariants.{Running, ProfileBreaksARule, NotOfForm}
-use Rattle.session.specs.{declared.Session.Session, declared.Opened.Opened, declared.Stepped.Stepped}
+use Rattle.transcript.specs.{Transcript.tick_text, Transcript.ticks_text, Transcript.refused8, Transcript.refused14, declared.SheetRefusal.SheetRefusal}
+use Rattle.transcript.specs.declared.SheetRefusal.TheVariants.{ProfileBreaksARule, NotOfForm}
+use Rattle.session.specs.{declared.Session.Session, declared.Stepped.Stepped}
 
 -- ---- the whole output
 
@@ -53,10 +53,7 @@ transcript_of s = sheet_text (sheet_in s)
 -- ---- by steps: a session and what was printed, from the front of a buffer
 
 pub data Open : Type 0 where
-  opens : Session → Answer → Page → Open
-
-abbrev pub opened : Opened → List ℕ → Open
-opened r held = opens r.session r.answer (page held r.printed)
+  opens : Session → Result (Unit {0}) SheetRefusal → Page → Open
 
 pub data Step : Type 0 where
   steps : Session → Page → Step
@@ -67,6 +64,11 @@ stepped r held = steps r.session (page held r.printed)
 abbrev pub no_session : Session
 no_session = record { machine = no_machine; count = 0; left = 0; at = 0 }
 
+-- a refusal leaves no session, and nothing was printed
+abbrev pub opened : Result Stepped SheetRefusal → List ℕ → Open
+opened (Ok r) held = opens r.session (Ok tt) (page held r.printed)
+opened (Err e) held = opens no_session (Err e) (page held 0)
+
 abbrev pub ended_step : Stepped
 ended_step = record { session = no_session; printed = 0 }
 
@@ -75,20 +77,26 @@ abbrev pub session_at : Machine → ℕ → ℕ → Session
 session_at m count first = record { machine = m; count = count; left = count; at = first }
 
 abbrev pub started_by : StartAnswer → Machine → ℕ → ℕ → List ℕ → Open
-started_by (Ok done) m count first held = opens (session_at m count first) Running (typed (page held 0) (ticks_text count))
-started_by (Err StartRefusal.ProfileBreaksARule) m count first held = opens no_session ProfileBreaksARule (page held 0)
+started_by (Ok done) m count first held = opens (session_at m count first) (Ok tt) (typed (page held 0) (ticks_text count))
+started_by (Err StartRefusal.ProfileBreaksARule) m count first held = opens no_session (Err ProfileBreaksARule) (page held 0)
 
 unfoldable pub started_of : List ℕ → Profile → ℕ → ℕ → Open
 started_of held profile count first = started_by (beginning profile).answer (beginning profile).machine count first held
 
 abbrev pub opened_by : Read Sheet → List ℕ → Open
-opened_by fails held = opens no_session NotOfForm (page held 0)
+opened_by fails held = opens no_session (Err NotOfForm) (page held 0)
 opened_by (reads sheet i) held = started_of held (profile_in sheet.top) sheet.top.count sheet.top.first
 
 unfoldable pub opened_of : List ℕ → List ℕ → Open
 opened_of held s = opened_by (sheet_in s) held
 
 -- ---- one tick
+
+-- the bytes at the front of a buffer that were sent, by how many they are
+abbrev pub first_sent : Option ℕ → List ℕ → List ℕ
+first_sent None held = []
+first_sent (Some count) held = take count held
+
 abbrev pub after : Session → ℕ → Told → Session
 after session next told = record { machine = told.machine; count = session.count; left = session.left - 1; at = next }
 
@@ -125,9 +133,9 @@ abbrev pub first_by : StartAnswer → ℕ → List ℕ
 first_by (Ok done) count = ticks_text count
 first_by (Err StartRefusal.ProfileBreaksARule) count = []
 
-abbrev pub answer_by : StartAnswer → Answer
-answer_by (Ok done) = Running
-answer_by (Err StartRefusal.ProfileBreaksARule) = ProfileBreaksARule
+abbrev pub answer_by : StartAnswer → Result (Unit {0}) SheetRefusal
+answer_by (Ok done) = Ok tt
+answer_by (Err StartRefusal.ProfileBreaksARule) = Err ProfileBreaksARule
 
 abbrev pub session_from : Read Sheet → Session
 session_from fails = no_session
@@ -139,8 +147,8 @@ abbrev pub first_from : Read Sheet → List ℕ
 first_from fails = []
 first_from (reads sheet i) = first_by (beginning (profile_in sheet.top)).answer sheet.top.count
 
-abbrev pub answer_from : Read Sheet → Answer
-answer_from fails = NotOfForm
+abbrev pub answer_from : Read Sheet → Result (Unit {0}) SheetRefusal
+answer_from fails = Err NotOfForm
 answer_from (reads sheet i) = answer_by (beginning (profile_in sheet.top)).answer
 
 -- a tick

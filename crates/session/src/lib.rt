@@ -2,14 +2,14 @@
 // transcript.
 #![tactic(auto)]
 
-ghost use Rattle.std.specs.Prelude.{cond, [], ◌≡◌, ◌<◌, ◌≤◌};
+ghost use Rattle.std.specs.Prelude.{◌≡◌, ◌<◌, ◌≤◌, is_some};
 ghost use Rattle.asking.specs.Sent.{is_sent, bytes_sent};
 ghost use Rattle.transcript.specs.Transcript.{opened_number};
-ghost use Rattle.session.specs.Sessions.{no_session, ended_step, opened, stepped, started_of, opened_of, stepped_of, ticked_of, sheet_refusal};
+ghost use Rattle.session.specs.Sessions.{no_session, ended_step, opened, stepped, first_sent, started_of, opened_of, stepped_of, ticked_of, sheet_refusal};
 
-use sheet::{Head, TickLine};
+use sheet::TickLine;
 use state::{Profile, StartRefusal, distribution, naming_raw};
-use transcript::{Answer, tick_line, ticks_line};
+use transcript::{SheetRefusal, tick_line, ticks_line};
 use unit::Machine;
 
 // The machine of a sheet, how many ticks the sheet has and how many are left, and the place of the next tick's line.
@@ -21,22 +21,14 @@ pub struct Session {
     pub at: usize,
 }
 
-// The session of a sheet, the answer, and how many characters were printed.
-#[derive(Clone, Copy)]
-pub struct Opened {
-    pub session: Session,
-    pub answer: Answer,
-    pub printed: usize,
-}
-
-// A session after one step, and how many characters were printed.
+// A session after one step, the opening too, and how many characters were printed.
 #[derive(Clone, Copy)]
 pub struct Stepped {
     pub session: Session,
     pub printed: usize,
 }
 
-// A session with no ticks, to stand where a sheet is refused.
+// A session with no ticks, to stand where one has ended.
 fn none() -> Session
     ensures { result ≡ no_session }
 {
@@ -49,79 +41,62 @@ fn none() -> Session
 }
 
 // Starts the board of a sheet of the form, and prints the count of its ticks; a refused start leaves the buffer.
-fn started(profile: Profile, ticks: u32, first: usize, out: &mut [u8]) -> Opened
+fn started(profile: Profile, ticks: u32, first: usize, out: &mut [u8]) -> Result<Stepped, SheetRefusal>
     ensures { opened result out.new ≡ started_of out.old profile ticks first }
 {
     let begun = unit::start(unit::unstarted(), profile, None);
     let answer = begun.answer;
     let machine = begun.machine;
     match answer {
-        Ok(()) => Opened {
+        Ok(()) => Ok(Stepped {
             session: Session {
                 machine,
                 count: ticks,
                 left: ticks,
                 at: first,
             },
-            answer: Answer::Running,
             printed: ticks_line(out, ticks),
-        },
-        Err(StartRefusal::ProfileBreaksARule) => Opened {
-            session: none(),
-            answer: Answer::ProfileBreaksARule,
-            printed: 0,
-        },
+        }),
+        Err(StartRefusal::ProfileBreaksARule) => Err(SheetRefusal::ProfileBreaksARule),
     }
 }
 
 // Opens a sheet of any bytes: the form of the whole sheet is looked at before the profile in it. The first line of the
 // transcript goes into the front of the lent buffer, and a buffer that is too short is filled with its front; where the
 // sheet is refused, the buffer keeps what it held.
-pub fn open(s: &[u8], out: &mut [u8]) -> Opened
+pub fn open(s: &[u8], out: &mut [u8]) -> Result<Stepped, SheetRefusal>
     ensures leaves { opened result out.new ≡ opened_of out.old s.now }
-    ensures number { opened_number result.answer ≡ sheet_refusal s.now }
+    ensures number { opened_number result ≡ sheet_refusal s.now }
 {
-    let Head::Is {
-        bid,
-        fitted,
-        forced,
-        ticks,
-        first,
-    } = sheet::read(s)
-    else {
-        return Opened {
-            session: none(),
-            answer: Answer::NotOfForm,
-            printed: 0,
-        };
+    let Some(head) = sheet::read(s) else {
+        return Err(SheetRefusal::NotOfForm);
     };
-    let profile = naming_raw(distribution(bid, fitted, forced));
-    started(profile, ticks, first, out)
+    let profile = naming_raw(distribution(head.bid, head.fitted, head.forced));
+    started(profile, head.ticks, head.first, out)
 }
 
-// The bytes that were sent, where some were.
-fn sent_of<'a>(sent: bool, bytes: &'a [u8]) -> Option<&'a [u8]>
-    ensures is { is_sent result ≡ sent }
-    ensures bytes { bytes_sent result ≡ cond sent bytes.now [] }
+// The bytes that were sent, where some were, by how many they are.
+fn sent_of<'a>(count: Option<usize>, bytes: &'a [u8]) -> Option<&'a [u8]>
+    ensures is { is_sent result ≡ is_some count }
+    ensures bytes { bytes_sent result ≡ first_sent count bytes.now }
 {
-    if sent { Some(bytes) } else { None }
+    let n = count?;
+    Some(wire::first(bytes, n))
 }
 
 // Runs one tick of a session, and prints its line.
 // argued: called where a tick is left, and no more than there are
 fn ticked(
     session: Session,
-    rail: i16,
-    overcurrent: u32,
+    line: TickLine,
     transfer: Option<&[u8]>,
-    next: usize,
     out: &mut [u8],
 ) -> Stepped
     requires { (0 < session.left) × (session.left ≤ session.count) }
-    ensures { stepped result out.new ≡ ticked_of out.old session rail overcurrent (is_sent transfer.entry) (bytes_sent transfer.entry) next }
+    ensures { stepped result out.new ≡ ticked_of out.old session line.rail line.overcurrent (is_sent transfer.entry) (bytes_sent transfer.entry) line.next }
 {
     let words: [u16; 0] = [];
-    let told = unit::tick(session.machine, rail, overcurrent, &words, transfer);
+    let told = unit::tick(session.machine, line.rail, line.overcurrent, &words, transfer);
     let machine = told.machine;
     let left = session.left - 1;
     let number = session.count - left;
@@ -130,7 +105,7 @@ fn ticked(
             machine,
             count: session.count,
             left,
-            at: next,
+            at: line.next,
         },
         printed: tick_line(out, number, told.replied, machine.board),
     }
@@ -144,26 +119,13 @@ pub fn step(session: Session, s: &[u8], out: &mut [u8]) -> Stepped
     ensures { stepped result out.new ≡ stepped_of out.old s.now session }
 {
     let mut transfer = [0u8; 256];
-    match sheet::read_tick(s, session.at, &mut transfer) {
-        TickLine::Is {
-            rail,
-            overcurrent,
-            sent,
-            count,
-            next,
-        } => {
-            if session.left == 0 {
-                return ended();
-            }
-            if session.count < session.left {
-                return ended();
-            }
-            let transfer = sent_of(sent, wire::first(&transfer, count));
-            ticked(session, rail, overcurrent, transfer, next, out)
-        }
-        TickLine::Not => ended(),
-        TickLine::TransferTooLong => ended(),
+    let Ok(line) = sheet::read_tick(s, session.at, &mut transfer) else {
+        return ended();
+    };
+    if session.left == 0 || session.count < session.left {
+        return ended();
     }
+    ticked(session, line, sent_of(line.transfer, &transfer), out)
 }
 
 // A session that ended: nothing is printed.

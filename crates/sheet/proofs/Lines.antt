@@ -9,25 +9,26 @@ use lib.ListN.{length}
 use Rattle.hexadecimal.specs.Hex.{payload_of, read_of, laid, held_after}
 use Rattle.std.specs.Prelude.{Result, Ok, Err, Option, Some, None}
 use Rattle.hexadecimal.specs.declared.PayloadRefusal.{PayloadRefusal}
-use Rattle.hexadecimal.specs.declared.PayloadRefusal.TheVariants.{NotOfForm, TooShort}
+use Rattle.hexadecimal.specs.declared.PayloadRefusal.TheVariants.{TooShort}
 use Rattle.grammar.specs.Grammar.{Read, fails, reads, on, text, up_to}
 use Rattle.grammar.proofs.Bytes.{up_to_byte}
 use Rattle.sheet.specs.Form.{where_true, Transfer, silence, bytes_of, spells, command, Tick, any_tick_line, within, tick_line}
-use Rattle.sheet.specs.Answers.{is_sent, command_of, command_held, tick_of, tick_held, is_read, tick_number, tick_refusal}
+use Rattle.sheet.specs.Answers.{sent_length, refused_by, line_by, command_of, command_held, tick_of, tick_held, is_read, tick_number, tick_refusal}
 use Rattle.sheet.specs.declared.ticks.TickLine.{TickLine}
-use Rattle.sheet.specs.declared.ticks.Command.{Command}
+use Rattle.grammar.specs.declared.Found.{Found}
+use Rattle.sheet.specs.declared.ticks.TickRefusal.{TickRefusal}
+use Rattle.sheet.specs.declared.ticks.TickRefusal.TheVariants as refusal
 
 -- ---- what a command spells, by what the read of its text answered
-abbrev pub command_by : ℕ → Result ℕ PayloadRefusal → Command
-command_by next (Ok count) = Command.Is true count next
-command_by next (Err NotOfForm) = Command.Not
-command_by next (Err TooShort) = Command.TooLong
+abbrev pub command_by : ℕ → Result ℕ PayloadRefusal → Result (Found (Option ℕ)) TickRefusal
+command_by next (Ok count) = Ok (record { value = Some count; next = next })
+command_by next (Err e) = Err (refused_by e)
 
 pub spells_told : (o : Option (List ℕ)) (room next : ℕ) → command_by next (read_of o room) ≡ command_of room (spells o next)
 spells_told None room next = refl
 spells_told (Some bs) room next = go (leb (length bs) room)
   where
-    go : (t : Bool) → command_by next (cond t (Ok (length bs)) (Err TooShort)) ≡ cond t (Command.Is true (length bs) next) Command.TooLong
+    go : (t : Bool) → command_by next (cond t (Ok (length bs)) (Err TooShort)) ≡ cond t (Ok (record { value = Some (length bs); next = next })) (Err refusal.TransferTooLong)
     go true = refl
     go false = refl
 
@@ -39,7 +40,7 @@ spells_held (Some bs) next held = refl
 pub laid_none : (held : List ℕ) → held ≡ laid [] held
 laid_none held = rw (leb-zero (length held))
 
-pub silence_fits : (room next : ℕ) → Command.Is false 0 next ≡ command_of room (reads silence next)
+pub silence_fits : (room next : ℕ) → Ok (record { value = None; next = next }) ≡ command_of room (reads silence next)
 silence_fits room next = rw (leb-zero room)
 
 -- ---- a command: `-` and the line's end, or what its text spells
@@ -58,10 +59,9 @@ module _ (s : List ℕ) (i : ℕ) where
     command_spelt line j e l q = rw (rw l at e, q, up_to_byte 10 s i line j q)
 
 -- ---- a tick line, by what the read of its command answered
-abbrev pub tick_by : ℤ → ℕ → Command → TickLine
-tick_by rail overcurrent (Command.Is sent count next) = TickLine.Is rail overcurrent sent count next
-tick_by rail overcurrent Command.Not = TickLine.Not
-tick_by rail overcurrent Command.TooLong = TickLine.TransferTooLong
+abbrev pub tick_by : ℤ → ℕ → Result (Found (Option ℕ)) TickRefusal → Result TickLine TickRefusal
+tick_by rail overcurrent (Ok found) = Ok (record { rail = rail; overcurrent = overcurrent; transfer = found.value; next = found.next })
+tick_by rail overcurrent (Err e) = Err e
 
 module _ (rail : ℤ) (overcurrent : ℕ) where
   abbrev pub tick_with : Read Transfer → Read Tick
@@ -72,8 +72,8 @@ module _ (rail : ℤ) (overcurrent : ℕ) where
   tick_told room (reads t j) = go (leb (length (bytes_of t)) room)
     where
       go : (b : Bool)
-          → tick_by rail overcurrent (cond b (Command.Is (is_sent t) (length (bytes_of t)) j) Command.TooLong)
-          ≡ cond b (TickLine.Is rail overcurrent (is_sent t) (length (bytes_of t)) j) TickLine.TransferTooLong
+          → tick_by rail overcurrent (cond b (Ok (record { value = sent_length t; next = j })) (Err refusal.TransferTooLong))
+          ≡ cond b (Ok (record { rail = rail; overcurrent = overcurrent; transfer = sent_length t; next = j })) (Err refusal.TransferTooLong)
       go true = refl
       go false = refl
 
@@ -82,7 +82,7 @@ module _ (rail : ℤ) (overcurrent : ℕ) where
   tick_held_lem (reads t j) held = refl
 
 -- ---- the number of the answer, by the form
-tick_number_lem : (room : ℕ) (s : List ℕ) (i : ℕ) → tick_number (tick_of room (any_tick_line s i)) ≡ tick_refusal room s i
+pub tick_number_lem : (room : ℕ) (s : List ℕ) (i : ℕ) → tick_number (tick_of room (any_tick_line s i)) ≡ tick_refusal room s i
 unfolding tick_refusal tick_line
 tick_number_lem room s i = go (any_tick_line s i)
   where
@@ -92,11 +92,11 @@ tick_number_lem room s i = go (any_tick_line s i)
     go (reads t j) = fit (within room t)
       where
         fit : (b : Bool)
-            → tick_number (cond b (TickLine.Is t.rail t.overcurrent (is_sent t.transfer) (length (bytes_of t.transfer)) j) TickLine.TransferTooLong)
+            → tick_number (cond b (Ok (line_by t j)) (Err refusal.TransferTooLong))
             ≡ cond (is_read (on (where_true b s j) (λ u k. reads t k))) 0 13
         fit true = refl
         fit false = refl
 
-pub with_number : {Held : Type 0} (r : TickLine) (room : ℕ) (s : List ℕ) (i : ℕ) → (r ≡ tick_of room (any_tick_line s i)) × Held
+pub with_number : {Held : Type 0} (r : Result TickLine TickRefusal) (room : ℕ) (s : List ℕ) (i : ℕ) → (r ≡ tick_of room (any_tick_line s i)) × Held
     → (r ≡ tick_of room (any_tick_line s i)) × (Held × (tick_number r ≡ tick_refusal room s i))
 with_number r room s i e = (e.0, (e.1, ap tick_number e.0 ∙ tick_number_lem room s i))

@@ -8,15 +8,16 @@ use lib.Dec.{eqb}
 use lib.ListN.{length}
 use Rattle.grammar.specs.Grammar.{Read, fails, reads, on, times, end}
 use Rattle.grammar.proofs.Together.{on_on}
-use Rattle.sheet.specs.Form.{where_true, bytes_of, Tick, any_tick_line, within, tick_line}
-use Rattle.sheet.specs.Answers.{is_sent, is_read, tick_of, are_ticks}
+use Rattle.sheet.specs.Form.{where_true, Tick, any_tick_line, within, tick_line}
+use Rattle.sheet.specs.Answers.{line_by, is_read, tick_of, are_ticks}
+use Rattle.std.specs.Prelude.{Result, Ok, Err}
 use Rattle.sheet.specs.declared.ticks.TickLine.{TickLine}
+use Rattle.sheet.specs.declared.ticks.TickRefusal.{TickRefusal}
 
 -- so many more behind a line that was read
-abbrev pub are_ticks_behind : ℕ → List ℕ → TickLine → Bool
-are_ticks_behind n s (TickLine.Is rail overcurrent sent count next) = are_ticks n s next
-are_ticks_behind n s TickLine.Not = false
-are_ticks_behind n s TickLine.TransferTooLong = false
+abbrev pub are_ticks_behind : ℕ → List ℕ → Result TickLine TickRefusal → Bool
+are_ticks_behind n s (Ok line) = are_ticks n s line.next
+are_ticks_behind n s (Err e) = false
 
 pub ticks_turn : (n : ℕ) (s : List ℕ) (i room : ℕ) → 0 < n → room ≡ 256 → are_ticks_behind (n - 1) s (tick_of room (any_tick_line s i)) ≡ are_ticks n s i
 unfolding are_ticks times tick_line
@@ -35,7 +36,7 @@ ticks_turn (suc n) s i room h e =
     go (reads a j) = fit (within 256 a)
       where
         fit : (b : Bool)
-            → are_ticks_behind n s (cond b (TickLine.Is a.rail a.overcurrent (is_sent a.transfer) (length (bytes_of a.transfer)) j) TickLine.TransferTooLong)
+            → are_ticks_behind n s (cond b (Ok (line_by a j)) (Err TickRefusal.TransferTooLong))
             ≡ is_read (on (on (on (where_true b s j) (λ u k. reads a k)) (λ a j. on (times n (tick_line 256) s j) (λ rest k. reads (a ∷ rest) k))) (λ ticks k. end s k))
         fit true = others a j
         fit false = refl

@@ -1,4 +1,5 @@
 -- The whole sheet. Assumes nothing.
+use Rattle.std.specs.Prelude.{Option, Some, None}
 use Prim.Native.Nat.{ℕ, ◌≤◌, ◌<◌}
 use mathlib.Core.Path.{◌≡◌, refl, sym, ap, ◌∙◌}
 use mathlib.Core.Bool.{Bool, true, false, cond}
@@ -42,9 +43,9 @@ head_led s i top j e =
     led _ top n.place j refl (count_most ticks_word 4096 s g.place n.what n.place n.first) n.onward
 
 -- ---- the answer, by what was read before the ticks
-abbrev pub head_if : List ℕ → Head → Head
-head_if s (Head.Is bid fitted forced ticks first) = cond (are_ticks ticks s first) (Head.Is bid fitted forced ticks first) Head.Not
-head_if s Head.Not = Head.Not
+abbrev pub head_if : List ℕ → Option Head → Option Head
+head_if s (Some head) = cond (are_ticks head.ticks s head.first) (Some head) None
+head_if s None = None
 
 module _ (s : List ℕ) where
   -- a sheet that is too long
@@ -57,12 +58,12 @@ module _ (s : List ℕ) where
   sheet_told_lem h = rw (le-leb (length s) 65536 h) (go (head s 0) refl)
     where
       ending : (top : Top) (ticks : List Tick) (r : Read (Unit {0}))
-          → cond (is_read r) (head_by top) Head.Not ≡ sheet_head (on r (λ u m. reads (record { top = top; ticks = ticks }) m))
+          → cond (is_read r) (Some (head_by top)) None ≡ sheet_head (on r (λ u m. reads (record { top = top; ticks = ticks }) m))
       ending top ticks fails = refl
       ending top ticks (reads u m) = refl
 
       lines : (top : Top) (r : Read (List Tick))
-          → cond (is_read (on r (λ ticks k. end s k))) (head_by top) Head.Not
+          → cond (is_read (on r (λ ticks k. end s k))) (Some (head_by top)) None
           ≡ sheet_head (on r (λ ticks k. on (end s k) (λ u m. reads (record { top = top; ticks = ticks }) m)))
       lines top fails = refl
       lines top (reads ticks k) = ending top ticks (end s k)
@@ -122,49 +123,37 @@ answered s = go (sheet_in s)
     go fails = refl
     go (reads w i) = refl
 
-pub with_number : (h : Head) (s : List ℕ) → h ≡ sheet_head (sheet_in s) → (h ≡ sheet_head (sheet_in s)) × (head_number h ≡ refusal_of (sheet_in s))
-with_number h s e = (e, ap head_number e ∙ answered s)
+pub with_number : (h : Option Head) (s : List ℕ) → h ≡ sheet_head (sheet_in s) → record { answer : h ≡ sheet_head (sheet_in s); number : head_number h ≡ refusal_of (sheet_in s) }
+with_number h s e = record { answer = e; number = ap head_number e ∙ answered s }
 
 -- the sheet behind a head that was answered; its ticks are read one after another from the first on, up to the end
-pub record Accepted (s : List ℕ) (bid fitted forced ticks first : ℕ) : Type 0 where
+pub record Accepted (s : List ℕ) (head : Head) : Type 0 where
   pub sheet : Sheet
   pub read : sheet_in s ≡ reads sheet (length s)
-  pub its_bid : sheet.top.bid ≡ bid
-  pub its_fitted : sheet.top.fitted ≡ fitted
-  pub its_forced : sheet.top.forced ≡ forced
-  pub its_count : sheet.top.count ≡ ticks
-  pub its_first : sheet.top.first ≡ first
-  pub few : ticks ≤ 4096
-  pub lines : times ticks (tick_line 256) s first ≡ reads sheet.ticks (length s)
+  pub its_top : head_by sheet.top ≡ head
+  pub few : head.ticks ≤ 4096
+  pub lines : times head.ticks (tick_line 256) s head.first ≡ reads sheet.ticks (length s)
 
-pub accepted : (s : List ℕ) (bid fitted forced ticks first : ℕ) → Head.Is bid fitted forced ticks first ≡ sheet_head (sheet_in s) → Accepted s bid fitted forced ticks first
-accepted s bid fitted forced ticks first e = go (sheet_in s) refl e
+pub accepted : (s : List ℕ) (head : Head) → Some head ≡ sheet_head (sheet_in s) → Accepted s head
+accepted s head e = go (sheet_in s) refl e
   where
-    go : (r : Read Sheet) → sheet_in s ≡ r → Head.Is bid fitted forced ticks first ≡ sheet_head r → Accepted s bid fitted forced ticks first
+    go : (r : Read Sheet) → sheet_in s ≡ r → Some head ≡ sheet_head r → Accepted s head
     go fails q e = let z : ◌≡◌ {A = ℕ} 0 1 = cc in absurd (omega arith)
     go (reads w i) q e =
         let all = all_read s w i q in
-        let b : w.top.bid ≡ bid = cc in
-        let f : w.top.fitted ≡ fitted = cc in
-        let g : w.top.forced ≡ forced = cc in
-        let n : w.top.count ≡ ticks = cc in
-        let p : w.top.first ≡ first = cc in
+        let top : head_by w.top ≡ head = cc in
         record {
           sheet = w;
           read = rw (← all.all) q;
-          its_bid = b;
-          its_fitted = f;
-          its_forced = g;
-          its_count = n;
-          its_first = p;
-          few = rw (← n) all.few;
-          lines = rw (← n, ← p, ← all.all) all.lines;
+          its_top = top;
+          few = rw (← top) all.few;
+          lines = rw (← top, ← all.all) all.lines;
         }
 
 -- and without a head there is none
-pub refused : (s : List ℕ) → Head.Not ≡ sheet_head (sheet_in s) → sheet_in s ≡ fails
+pub refused : (s : List ℕ) → None ≡ sheet_head (sheet_in s) → sheet_in s ≡ fails
 refused s e = go (sheet_in s) e
   where
-    go : (r : Read Sheet) → Head.Not ≡ sheet_head r → r ≡ fails
+    go : (r : Read Sheet) → None ≡ sheet_head r → r ≡ fails
     go fails e = refl
     go (reads w i) e = let z : ◌≡◌ {A = ℕ} 0 1 = cc in absurd (omega arith)

@@ -6,5 +6,5 @@ mod ticks;
 mod whole;
 
 pub use head::Head;
-pub use ticks::{TickLine, read_tick};
+pub use ticks::{TickLine, TickRefusal, read_tick};
 pub use whole::read;

@@ -5,7 +5,7 @@ ghost use Rattle.sheet.specs.Form.{sheet_in};
 ghost use Rattle.sheet.specs.Answers.{are_ticks, sheet_head, head_number};
 
 use crate::head::{Head, read_head};
-use crate::ticks::{TickLine, read_tick};
+use crate::ticks::read_tick;
 
 // The most bytes that a sheet may have.
 const LONGEST: usize = 65536;
@@ -16,52 +16,27 @@ fn are_ticks(s: &[u8], first: usize, count: u32) -> bool
 {
     let mut transfer = [0u8; 256];
     let mut at = first;
-    let mut left = count;
-    while 0 < left {
-        match read_tick(s, at, &mut transfer) {
-            TickLine::Is {
-                rail: _,
-                overcurrent: _,
-                sent: _,
-                count: _,
-                next,
-            } => {
-                at = next;
-                left -= 1;
-            }
-            TickLine::Not => return false,
-            TickLine::TransferTooLong => return false,
-        }
+    for k in 0..count {
+        let Ok(line) = read_tick(s, at, &mut transfer) else {
+            return false;
+        };
+        at = line.next;
     }
     at == s.len()
 }
 
 // The head of a sheet that is of the form as a whole.
-pub fn read(s: &[u8]) -> Head
+pub fn read(s: &[u8]) -> Option<Head>
     ensures answer { result ≡ sheet_head (sheet_in s.now) }
     ensures number { head_number result ≡ refusal_of (sheet_in s.now) }
 {
     if LONGEST < s.len() {
-        return Head::Not;
+        return None;
     }
-    let Head::Is {
-        bid,
-        fitted,
-        forced,
-        ticks,
-        first,
-    } = read_head(s)
-    else {
-        return Head::Not;
-    };
-    if are_ticks(s, first, ticks) {
-        return Head::Is {
-            bid,
-            fitted,
-            forced,
-            ticks,
-            first,
-        };
+    let head = read_head(s)?;
+    if are_ticks(s, head.first, head.ticks) {
+        Some(head)
+    } else {
+        None
     }
-    Head::Not
 }

@@ -1,14 +1,14 @@
 -- The lines of a transcript, and the line of a refused sheet. Characters are their ASCII codes: 32 is a space, 45 is
 -- `-`, 10 ends a line, 48 to 57 are the digits. Assumes nothing: these are definitions.
-use Rattle.std.specs.Prelude.{ℕ, zero, suc, ◌+◌, ◌/◌, ◌%◌, ◌^◌, ltb}
+use Rattle.std.specs.Prelude.{ℕ, zero, suc, ◌+◌, ◌/◌, ◌%◌, ◌^◌, ltb, Result, Ok, Err}
 use mathlib.Core.{Bool.Bool, Bool.cond, List.List, List.[], List.◌∷◌, List.◌++◌}
 use Rattle.hexadecimal.specs.Hex.{text_of, word_text}
 use Rattle.wire.specs.{Replies.shown, declared.reply.Reply.Reply}
 use Rattle.state.specs.{Parts.mode_of, declared.parts.Board.Board}
 use Rattle.naming.specs.Naming.{mode_letter}
 use Rattle.sheet.specs.Form.{ticks_word}
-use Rattle.transcript.specs.declared.Answer.{Answer}
-use Rattle.transcript.specs.declared.Answer.TheVariants.{Running, ProfileBreaksARule, NotOfForm}
+use Rattle.transcript.specs.declared.SheetRefusal.{SheetRefusal}
+use Rattle.transcript.specs.declared.SheetRefusal.TheVariants.{ProfileBreaksARule, NotOfForm}
 
 -- ---- a number in decimal, without leading zeros
 
@@ -48,10 +48,10 @@ ticks_text n = ticks_word ++ decimal n ++ 10 ∷ []
 -- ---- what opening a sheet answers
 
 -- document 01's number of an answer; 0 stands for none
-abbrev pub opened_number : Answer → ℕ
-opened_number Running = 0
-opened_number ProfileBreaksARule = 8
-opened_number NotOfForm = 14
+abbrev pub opened_number : {A : Type 0} → Result A SheetRefusal → ℕ
+opened_number (Ok a) = 0
+opened_number (Err ProfileBreaksARule) = 8
+opened_number (Err NotOfForm) = 14
 
 -- refused 8; refused 14
 abbrev pub refused8 : List ℕ
@@ -61,7 +61,7 @@ abbrev pub refused14 : List ℕ
 refused14 = 114 ∷ 101 ∷ 102 ∷ 117 ∷ 115 ∷ 101 ∷ 100 ∷ 32 ∷ 49 ∷ 52 ∷ 10 ∷ []
 
 -- the refusal's line; none for a session that runs
-abbrev pub refusal_text : Answer → List ℕ
-refusal_text Running = []
-refusal_text ProfileBreaksARule = refused8
-refusal_text NotOfForm = refused14
+abbrev pub refusal_text : Result (Unit {0}) SheetRefusal → List ℕ
+refusal_text (Ok u) = []
+refusal_text (Err ProfileBreaksARule) = refused8
+refusal_text (Err NotOfForm) = refused14

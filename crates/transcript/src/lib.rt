@@ -12,10 +12,9 @@ use script::printing::{put, text};
 use state::Board;
 use wire::Reply;
 
-// What opening a sheet answers.
+// Why no session of a sheet is opened.
 #[derive(Clone, Copy)]
-pub enum Answer {
-    Running,
+pub enum SheetRefusal {
     ProfileBreaksARule,
     NotOfForm,
 }
@@ -104,12 +103,13 @@ pub fn tick_line(out: &mut [u8], number: u32, replied: bool, b: Board) -> usize
 
 // Prints the line of a refused sheet into the front of the lent buffer, and nothing for a session that runs. A buffer
 // that is too short is filled with its front.
-pub fn refusal(answer: Answer, out: &mut [u8]) -> usize
+#[tactic(auto, unfolding(script::specs::Printing::typed))]
+pub fn refusal(answer: Result<(), SheetRefusal>, out: &mut [u8]) -> usize
     ensures { page out.new result ≡ typed (page out.old 0) (refusal_text answer) }
 {
     match answer {
-        Answer::Running => 0,
-        Answer::ProfileBreaksARule => text(out, 0, b"refused 8\n"),
-        Answer::NotOfForm => text(out, 0, b"refused 14\n"),
+        Ok(()) => 0,
+        Err(SheetRefusal::ProfileBreaksARule) => text(out, 0, b"refused 8\n"),
+        Err(SheetRefusal::NotOfForm) => text(out, 0, b"refused 14\n"),
     }
 }

@@ -1,7 +1,6 @@
--- `read_number` meets its contract. The invariant: what v and the digits from here on spell is what the digits from
--- `at` on spell, and both end at the same place. Assumes nothing.
+-- What the value and the digits from here on spell is what the digits from `at` on spell. Assumes nothing.
 use native.Mathlib.Omega.{arith}
-use Prim.Native.Nat.{◌+◌, ◌*◌}
+use Prim.Native.Nat.{◌+◌, ◌*◌, ◌<◌}
 use mathlib.Core.Path.{◌≡◌, sym, ap, ◌∙◌}
 use mathlib.Core.List.{[]}
 use lib.ListN.{length, drop}
@@ -10,53 +9,41 @@ use Rattle.grammar.proofs.Refusals.{with_number}
 use Rattle.grammar.proofs.Digits.{stop, more, spells_grows, spells_end, spells_turn, number_none, number_zero, number_led, number_over, number_is}
 use Rattle.grammar.proofs.read_number.Goals as goal
 
-pub returns-then-first-gt9 : goal.returns-then-first-gt9
-returns-then-first-gt9 c =
+pub returns-in_err-first : goal.returns-in_err-first
+returns-in_err-first c =
     let a = c.args in
-    let p = with_number (number_none a.limit a.s.now a.at (omega arith)) in
-    record { is = p.0; number = p.1 }
+    rw c.from_residual.ensures (with_number (number_none a.limit a.s.now a.at (omega (arith, c.in_err-first.ensures.is))))
 
-pub overflow_add-at : goal.overflow_add-at
-overflow_add-at c = omega (arith, c.decimal-first.ensures.inside (omega arith))
-
-pub returns-then-decimal-lt10 : goal.returns-then-decimal-lt10
-returns-then-decimal-lt10 c =
+pub returns-in-Some : goal.returns-in-Some
+returns-in-Some c =
     let a = c.args in
-    let p = with_number (number_led a.limit a.s.now a.at (omega arith) (omega arith)) in
-    record { is = p.0; number = p.1 }
+    with_number (number_led a.limit a.s.now a.at (omega (arith, c.in_ok-first.ensures.is)) (omega (arith, c.in-Some.ensures.is, c.in-Some.ensures.small)))
 
-pub overflow_add-result : goal.overflow_add-result
-overflow_add-result c = omega (arith, c.decimal-first.ensures.inside (omega arith))
-
-pub returns-then-first-eq0 : goal.returns-then-first-eq0
-returns-then-first-eq0 c =
+pub returns-in-None : goal.returns-in-None
+returns-in-None c =
     let a = c.args in
-    let p = with_number (number_zero a.limit a.s.now a.at (omega arith) (omega arith)) in
-    record { is = p.0; number = p.1 }
+    with_number (number_zero a.limit a.s.now a.at (omega (arith, c.in_ok-first.ensures.is)) (omega (arith, c.in-None.ensures.is)))
 
-pub returns-then-most-v : goal.returns-then-most-v
-returns-then-most-v c =
+pub returns-then-most-value : goal.returns-then-most-value
+returns-then-most-value c =
     let a = c.args in
     let s = a.s.now in
     let l = c.loop-d in
-    let p = with_number (number_over a.limit s a.at
-    (omega (arith, l.invariant.same, spells_turn s l.i l.v (omega arith), spells_grows (l.v * 10 + digit_at s l.i) (digits (drop (l.i + 1) s))))) in
-    record { is = p.0; number = p.1 }
-
-pub overflow_add-i : goal.overflow_add-i
-overflow_add-i c = omega (arith, c.decimal-d.ensures.inside (omega arith))
-
-pub loop-d-smaller : goal.loop-d-smaller
-loop-d-smaller c = omega (arith, c.decimal-d.ensures.inside (omega arith))
+    let d = c.in-Some-decimal in
+    let digit : digit_at s l.next < 10 = omega (arith, d.ensures.is, d.ensures.small) in
+    with_number (number_over a.limit s a.at
+    (omega (arith, d.ensures.is, l.invariant.same, spells_turn s l.next l.value digit, spells_grows (l.value * 10 + digit_at s l.next) (digits (drop (l.next + 1) s)))))
 
 pub loop-d-preserved : goal.loop-d-preserved
 loop-d-preserved c =
     let s = c.args.s.now in
     let l = c.loop-d in
+    let d = c.in-Some-decimal in
+    let digit : digit_at s l.next < 10 = omega (arith, d.ensures.is, d.ensures.small) in
     record {
       small = omega arith;
-      same = rw c.decimal-d.ensures.is (sym (spells_turn s l.i l.v (omega arith)) ∙ l.invariant.same);
-      ends = omega (arith, l.invariant.ends, ap length (more s l.i (omega arith)));
+      same = rw d.ensures.is (sym (spells_turn s l.next l.value digit) ∙ l.invariant.same);
+      ends = omega (arith, l.invariant.ends, ap length (more s l.next digit));
     }
 
 pub returns : goal.returns
@@ -64,7 +51,7 @@ returns c =
     let a = c.args in
     let s = a.s.now in
     let l = c.loop-d in
-    let e : digits (drop l.i s) ≡ [] = stop s l.i (omega arith) in
-    let p = with_number (number_is a.limit s a.at l.v l.i (omega arith) (omega arith)
-    (sym (spells_end l.v (digits (drop l.i s)) e) ∙ l.invariant.same) (omega arith) (omega (arith, l.invariant.ends, ap length e))) in
-    record { is = p.0; number = p.1 }
+    let first = c.in_ok-first.ensures in
+    let e : digits (drop l.next s) ≡ [] = stop s l.next (omega (arith, c.in_default.ensures.is)) in
+    with_number (number_is a.limit s a.at l.value l.next (omega (arith, first.is, first.small)) (λ z. omega (arith, first.is))
+    (sym (spells_end l.value (digits (drop l.next s)) e) ∙ l.invariant.same) (omega arith) (omega (arith, l.invariant.ends, ap length e)))

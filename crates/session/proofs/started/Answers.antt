@@ -13,4 +13,4 @@ pub returns-in-Err-ProfileBreaksARule : goal.returns-in-Err-ProfileBreaksARule
 unfolding started_of empty_store
 returns-in-Err-ProfileBreaksARule c =
     let begun = rw c.unstarted.ensures at c.start-begun.ensures.value in
-    rw (← begun, c.in-Err-ProfileBreaksARule.is, c.none.ensures)
+    rw (← begun, c.in-Err-ProfileBreaksARule.is)

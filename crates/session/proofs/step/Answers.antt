@@ -1,68 +1,61 @@
 -- What the tick line says, and whether a tick is left. Assumes nothing.
 use borrow.Author.Tests.{eq-eqb, ne_eqb, lt-ltb, le-ltb}
 use native.Mathlib.Omega.{arith}
-use mathlib.Core.Path.{◌≡◌, refl, sym, ◌∙◌}
-use mathlib.Core.Bool.{cond}
-use mathlib.Core.List.{[]}
-use Rattle.grammar.proofs.Signs.{kept}
+use mathlib.Core.Path.{◌≡◌, sym, ap, ◌∙◌}
 use lib.ListN.{replicate}
-use Rattle.asking.specs.Sent.{bytes_sent}
-use Rattle.sheet.specs.Form.{Transfer, silence, bytes, bytes_of}
-use Rattle.sheet.specs.Answers.{is_sent}
-use Rattle.session.specs.Sessions.{stepped_of}
-use Rattle.session.proofs.Ticks.{read_tick, no_tick, too_long, transfer_held}
+use Rattle.std.specs.Prelude.{is_some}
+use Rattle.asking.specs.Sent.{is_sent, bytes_sent}
+use Rattle.sheet.specs.Form.{bytes_of}
+use Rattle.sheet.specs.Answers.{is_sent as has_bytes, sent_length, line_by}
+use Rattle.sheet.specs.declared.ticks.TickLine.{TickLine}
+use Rattle.session.specs.Sessions.{first_sent, stepped_of, ticked_of}
+use Rattle.session.proofs.Ticks.{read_tick, no_tick, transfer_held, sent_told}
 use Rattle.session.proofs.step.Goals as goal
+use Rattle.session.proofs.step.Goals.{then-session-eq0-via-then-session-eq0, then-session-eq0-via-else-session-eq0+then-session}
 
--- where none is sent there are no bytes
-as_sent : (t : Transfer) → cond (is_sent t) (bytes_of t) [] ≡ bytes_of t
-as_sent silence = refl
-as_sent (bytes bs) = refl
+pub returns-in_default : goal.returns-in_default
+unfolding stepped_of
+returns-in_default c =
+    let a = c.args in
+    rw (no_tick 256 a.s.now a.session.at _ c.in_default.ensures.answer, c.ended.ensures)
 
 pub returns-then-session-eq0 : goal.returns-then-session-eq0
 unfolding stepped_of
 returns-then-session-eq0 c =
     let a = c.args in
-    let t = read_tick 256 a.s.now a.session.at _ _ _ _ _ (sym c.in-Is.is ∙ c.read_tick.ensures.answer) in
-    rw (t.is, eq-eqb a.session.left 0 (omega arith), c.ended.ensures)
+    let t = read_tick 256 a.s.now a.session.at c.in-Ok.line c.in-Ok.ensures.answer in
+    elim c.then-session-eq0.branch [
+      then-session-eq0-via-then-session-eq0 w ↦
+          rw (t.is, eq-eqb a.session.left 0 (omega arith), c.ended-then-session-eq0.ensures)
+    | then-session-eq0-via-else-session-eq0+then-session w ↦
+          rw (
+            t.is,
+            ne_eqb a.session.left 0 (λ e. absurd (omega arith)),
+            lt-ltb a.session.count a.session.left (omega arith),
+            c.ended-then-session-eq0.ensures,
+          )
+    ]
 
-pub returns-then-session : goal.returns-then-session
+pub returns : goal.returns
 unfolding stepped_of
-returns-then-session c =
+returns c =
     let a = c.args in
-    let t = read_tick 256 a.s.now a.session.at _ _ _ _ _ (sym c.in-Is.is ∙ c.read_tick.ensures.answer) in
-    rw (t.is, ne_eqb a.session.left 0 (λ e. absurd (omega arith)), lt-ltb a.session.count a.session.left (omega arith), c.ended-then-session.ensures)
-
-pub returns-else-session : goal.returns-else-session
-unfolding stepped_of
-returns-else-session c =
-    let a = c.args in
-    let t = read_tick 256 a.s.now a.session.at _ _ _ _ _ (sym c.in-Is.is ∙ c.read_tick.ensures.answer) in
-    let held = transfer_held a.s.now a.session.at (replicate 256 0) t.tick _ _ t.is_any t.short t.its_count in
-    let rail = c.in-Is.rail in
-    let ran = rw (kept rail rail refl (omega arith)) at c.ticked.ensures in
-    let transfer = rw (c.read_tick.ensures.held, held) at c.first.ensures in
-    let sent = c.sent_of-transfer.ensures in
-    let bytes : bytes_sent c.sent_of-transfer.result ≡ bytes_of t.tick.transfer = sent.bytes ∙ rw (← t.its_sent, transfer) (as_sent t.tick.transfer) in
+    let line = c.in-Ok.line in
+    let t = read_tick 256 a.s.now a.session.at line c.in-Ok.ensures.answer in
+    let its_length : sent_length t.tick.transfer ≡ line.transfer = ap (λ (l : TickLine). l.transfer) t.its_line in
+    let held = transfer_held a.s.now a.session.at (replicate 256 0) t.tick line.next t.is_any t.short in
+    let left = c.in-Ok.ensures.held in
+    let sent : is_sent c.sent_of.result ≡ has_bytes t.tick.transfer = c.sent_of.ensures.is ∙ ap is_some (sym its_length) ∙ sent_told t.tick.transfer in
+    let bytes : bytes_sent c.sent_of.result ≡ bytes_of t.tick.transfer = c.sent_of.ensures.bytes ∙ rw (← its_length, left) held in
+    let its_rail = ap (λ (l : TickLine). l.rail) t.its_line in
+    let its_set = ap (λ (l : TickLine). l.overcurrent) t.its_line in
     rw (
       t.is,
       ne_eqb a.session.left 0 (λ e. absurd (omega arith)),
       le-ltb a.session.count a.session.left (omega arith),
-      t.its_rail,
-      t.its_set,
-      t.its_sent,
-      ← sent.is,
+      its_rail,
+      its_set,
+      ← sent,
       ← bytes,
     )
-    ran
-
-pub returns-in-Not : goal.returns-in-Not
-unfolding stepped_of
-returns-in-Not c =
-    let a = c.args in
-    rw (no_tick 256 a.s.now a.session.at (sym c.in-Not.is ∙ c.read_tick.ensures.answer), c.ended-in-Not.ensures)
-
-pub returns-in-TransferTooLong : goal.returns-in-TransferTooLong
-unfolding stepped_of
-returns-in-TransferTooLong c =
-    let a = c.args in
-    rw (too_long 256 a.s.now a.session.at (sym c.in-TransferTooLong.is ∙ c.read_tick.ensures.answer), c.ended-in-TransferTooLong.ensures)
+    c.ticked.ensures

@@ -1,4 +1,5 @@
 -- One tick of the machine, and its line. Assumes nothing.
+use native.Mathlib.Omega.{arith}
 use mir.Syntax.{w16}
 use mir.ValLaws.{to_z-of_z}
 use Rattle.session.specs.Sessions.{ticked_of}
@@ -7,5 +8,5 @@ use Rattle.session.proofs.ticked.Goals as goal
 pub returns : goal.returns
 unfolding ticked_of
 returns c =
-    let told = rw (to_z-of_z w16 c.args.rail c.ranges.rail) at c.tick-told.ensures.value in
+    let told = rw (to_z-of_z w16 c.args.line.rail (record { sfits = omega arith })) at c.tick-told.ensures.value in
     rw (c.tick_line.ensures, told)
