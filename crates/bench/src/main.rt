@@ -28,16 +28,18 @@ fn run_tick(rt: &impl Print, session: Session, sheet: &[u8]) -> Session
 // Opens a sheet, prints its first line or why it is refused, and runs its ticks.
 fn run(rt: &impl Print, sheet: &[u8]) {
     let mut out = [0u8; 4096];
-    let opened = session::open(sheet, &mut out);
-    print(rt, &out, opened.printed);
-    let answer = opened.answer;
-    let printed = transcript::refusal(answer, &mut out);
-    print(rt, &out, printed);
-    let mut now = opened.session;
-    let mut left = now.left;
-    while 0 < left {
-        now = run_tick(rt, now, sheet);
-        left -= 1;
+    match session::open(sheet, &mut out) {
+        Ok(opened) => {
+            print(rt, &out, opened.printed);
+            let mut now = opened.session;
+            for _ in 0..now.left {
+                now = run_tick(rt, now, sheet);
+            }
+        }
+        Err(refusal) => {
+            let printed = transcript::refusal(Err(refusal), &mut out);
+            print(rt, &out, printed);
+        }
     }
 }
 

@@ -9,7 +9,7 @@ use native.Mathlib.Omega.{arith}
 use lib.Dec.{eqb}
 use lib.ListN.{length}
 use borrow.Author.Tests.{eq-eqb, ne_eqb}
-use Rattle.std.specs.Prelude.{Ok, Err}
+use Rattle.std.specs.Prelude.{Result, Ok, Err}
 use Rattle.laws.proofs.Cases.{cases}
 use Rattle.memory.specs.Memory.{Store, empty_store}
 use Rattle.state.specs.Parts.{word_count}
@@ -32,8 +32,8 @@ use Rattle.grammar.specs.Grammar.{Read, fails, reads}
 use Rattle.sheet.specs.Form.{Sheet, sheet_in}
 use Rattle.script.specs.Printing.{page}
 use Rattle.transcript.specs.Transcript.{opened_number}
-use Rattle.transcript.specs.declared.Answer.{Answer}
-use Rattle.transcript.specs.declared.Answer.TheVariants.{Running, ProfileBreaksARule, NotOfForm}
+use Rattle.transcript.specs.declared.SheetRefusal.{SheetRefusal}
+use Rattle.transcript.specs.declared.SheetRefusal.TheVariants.{ProfileBreaksARule, NotOfForm}
 use Rattle.session.specs.Sessions.{profile_in, opens, no_session, opened_of, started_of, answer_from}
 use Rattle.session.proofs.Steps as session
 use Rattle.refusals.specs.Conditions.{tick_answer}
@@ -171,17 +171,17 @@ sheets =
         by fails q = refl
         by (reads w i) q = absurd (none (read_form s w i q))
 
-    go : (held s : List ℕ) (r : Read Sheet) → sheet_in s ≡ r → opened_number (answer_from (sheet_in s)) ≡ 8 → opened_of held s ≡ opens no_session ProfileBreaksARule (page held 0)
+    go : (held s : List ℕ) (r : Read Sheet) → sheet_in s ≡ r → opened_number (answer_from (sheet_in s)) ≡ 8 → opened_of held s ≡ opens no_session (Err ProfileBreaksARule) (page held 0)
     go held s fails q e = let z = sym (session.number_14 s q) ∙ e in absurd (omega arith)
     go held s (reads w i) q e =
         cases (keeps_the_rules (profile_in w.top) empty_store)
         (λ k. let z = sym (session.only_8 s w i q k) ∙ e in absurd (omega arith))
         (λ k. rw (q, k))
 
-    any : (held s : List ℕ) (a : Answer) → sheet_told held s ≡ opened_number a → (sheet_told held s ≡ 0) ⊎ (sheet_told held s ≡ 8) ⊎ (sheet_told held s ≡ 14)
-    any held s Running e = inl e
-    any held s ProfileBreaksARule e = inr (inl e)
-    any held s NotOfForm e = inr (inr e)
+    any : (held s : List ℕ) (a : Result (Unit {0}) SheetRefusal) → sheet_told held s ≡ opened_number a → (sheet_told held s ≡ 0) ⊎ (sheet_told held s ≡ 8) ⊎ (sheet_told held s ≡ 14)
+    any held s (Ok u) e = inl e
+    any held s (Err ProfileBreaksARule) e = inr (inl e)
+    any held s (Err NotOfForm) e = inr (inr e)
 
 pub other_refusals : OtherRefusals
 other_refusals = record { eight = eight; nine = nine; reading = reading; framing = framing; sheets = sheets }

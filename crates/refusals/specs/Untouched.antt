@@ -3,7 +3,7 @@
 -- every input. Words, transfers, received bytes and sheets are lent read-only and cannot change; a scratch buffer and
 -- an output buffer can. What a refused sheet prints is laid into a buffer by a call of its own. Assumes nothing: these
 -- are definitions and the statement of the claim.
-use Rattle.std.specs.Prelude.{ℕ, ◌<◌, length, Ok}
+use Rattle.std.specs.Prelude.{ℕ, ◌<◌, length, Ok, Err}
 use mathlib.Core.{Path.◌≡◌, Logic.◌⊎◌, List.List, Option.some}
 use Rattle.hexadecimal.specs.Hex.{laid}
 use Rattle.watchdog.specs.declared.Event.TheVariants.{NoEvent}
@@ -17,7 +17,7 @@ use Rattle.framing.specs.declared.Due.TheVariants.{Echo}
 use Rattle.unit.specs.{Machine.begun_of, Machine.heard_of, Machine.due_of, declared.Machine.Machine, Runs.Sample, Runs.told}
 use Rattle.script.specs.Printing.{page}
 use Rattle.transcript.specs.Transcript.{opened_number}
-use Rattle.transcript.specs.declared.Answer.TheVariants.{ProfileBreaksARule, NotOfForm}
+use Rattle.transcript.specs.declared.SheetRefusal.TheVariants.{ProfileBreaksARule, NotOfForm}
 use Rattle.session.specs.Sessions.{profile_in, Open, opens, no_session, opened_of}
 use Rattle.refusals.specs.{Conditions.tick_answer, Rules.KeepsAllRules, Rules.OfTheForm}
 
@@ -73,10 +73,10 @@ sheet_told held s = number_in (opened_of held s)
 pub record Sheets : Type 0 where
   pub given_14 : (held s : List ℕ) → (OfTheForm s → ⊥) → sheet_told held s ≡ 14
   pub only_14 : (held s : List ℕ) → sheet_told held s ≡ 14 → OfTheForm s → ⊥
-  pub leaves_14 : (held s : List ℕ) → sheet_told held s ≡ 14 → opened_of held s ≡ opens no_session NotOfForm (page held 0)
+  pub leaves_14 : (held s : List ℕ) → sheet_told held s ≡ 14 → opened_of held s ≡ opens no_session (Err NotOfForm) (page held 0)
   pub given_8 : (held s : List ℕ) (f : OfTheForm s) → (KeepsAllRules (profile_in f.top) empty_store → ⊥) → sheet_told held s ≡ 8
   pub only_8 : (held s : List ℕ) → sheet_told held s ≡ 8 → (f : OfTheForm s) × (KeepsAllRules (profile_in f.top) empty_store → ⊥)
-  pub leaves_8 : (held s : List ℕ) → sheet_told held s ≡ 8 → opened_of held s ≡ opens no_session ProfileBreaksARule (page held 0)
+  pub leaves_8 : (held s : List ℕ) → sheet_told held s ≡ 8 → opened_of held s ≡ opens no_session (Err ProfileBreaksARule) (page held 0)
   -- else none, and no other number is told
   pub given_none : (held s : List ℕ) (f : OfTheForm s) → KeepsAllRules (profile_in f.top) empty_store → sheet_told held s ≡ 0
   pub only_none : (held s : List ℕ) → sheet_told held s ≡ 0 → (f : OfTheForm s) × KeepsAllRules (profile_in f.top) empty_store

@@ -1,7 +1,7 @@
 -- What the reader of a tick line answers, taken back to the line: its tick, and the bytes of its transfer at the front
 -- of the buffer. Assumes nothing.
 use Prim.Native.Nat.{ℕ, ◌≤◌}
-use mathlib.Core.Path.{◌≡◌, refl, ap}
+use mathlib.Core.Path.{◌≡◌, refl, ap, sym, ◌∙◌}
 use mathlib.Core.Bool.{Bool, true, false, cond}
 use mathlib.Core.List.{List}
 use native.Mathlib.Omega.{arith}
@@ -40,7 +40,7 @@ module _ (most : ℕ) (s : List ℕ) where
       go true w e =
           let same : line_by t j ≡ told = cc in
           let next : j ≡ told.next = ap (λ (l : TickLine). l.next) same in
-          record { tick = t; is = ap (reads t) next; is_any = ap (reads t) next; short = leb-true (length (bytes_of t.transfer)) most w; its_line = rw (← next) same }
+          record { tick = t; is = ap (reads t) next; is_any = ap (reads t) next; short = leb-true (length (bytes_of t.transfer)) most w; its_line = ap (line_by t) (sym next) ∙ same }
       go false w e = let z : ◌≡◌ {A = ℕ} 0 1 = cc in absurd (omega arith)
 
   -- no tick behind a refusal

@@ -1,7 +1,7 @@
 -- Texts read from a place on. Assumes nothing.
 use mathlib.Core.Path.{sym, ◌∙◌}
 use Rattle.single.specs.Single.{Single}
-use Rattle.single.proofs.Seen.{same_line, same_next, same_number, same_signed, same_word}
+use Rattle.single.proofs.Seen.{same_found, same_line, same_next}
 use Rattle.grammar.proofs.peek.Reads as peek
 use Rattle.grammar.proofs.literal.Reads as literal
 use Rattle.grammar.proofs.find_byte.Reads as find_byte
@@ -19,10 +19,10 @@ pub single_find_byte : Single find_byte.Post (λ κ r s. r)
 single_find_byte κ a r r' s s' p q = same_line a.0.now a.1.0 r r' (p.0 ∙ sym q.0)
 
 pub single_read_number : Single read_number.Post (λ κ r s. r)
-single_read_number κ a r r' s s' p q = same_number r r' (p.0 ∙ sym q.0)
+single_read_number κ a r r' s s' p q = same_found r r' (p.0 ∙ sym q.0)
 
 pub single_read_signed : Single read_signed.Post (λ κ r s. r)
-single_read_signed κ a r r' s s' p q = same_signed r r' (p.0 ∙ sym q.0)
+single_read_signed κ a r r' s s' p q = same_found r r' (p.0 ∙ sym q.0)
 
 pub single_read_word : Single read_word.Post (λ κ r s. r)
-single_read_word κ a r r' s s' p q = same_word r r' (p.0 ∙ sym q.0)
+single_read_word κ a r r' s s' p q = same_found r r' (p.0 ∙ sym q.0)

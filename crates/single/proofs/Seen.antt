@@ -2,70 +2,40 @@
 use Prim.Native.Nat.{ℕ}
 use mathlib.Core.Path.{◌≡◌, refl, sym, ap, ◌∙◌}
 use mathlib.Core.List.{List}
-use lib.IntN.{ℤ}
+use Rattle.std.specs.Prelude.{Option, Some, None}
 use Rattle.grammar.specs.Grammar.{Read, fails, reads}
-use Rattle.grammar.specs.Views.{seen_next, seen_number, seen_signed, seen_word, seen_line}
-use Rattle.grammar.specs.declared.Next.{Next}
-use Rattle.grammar.specs.declared.Number.{Number}
-use Rattle.grammar.specs.declared.Signed.{Signed}
-use Rattle.grammar.specs.declared.Word.{Word}
-use Rattle.grammar.specs.declared.Place.{Place}
+use Rattle.grammar.specs.Views.{peeked, seen_next, seen, seen_line}
+use Rattle.grammar.specs.declared.Found.{Found}
 
 -- a view with a way back tells its values apart
-told_apart : {A B : Type 0} (seen : A → B) (back : B → A) → ((r : A) → back (seen r) ≡ r) → (r r' : A) → seen r ≡ seen r' → r ≡ r'
-told_apart seen back returns r r' e = sym (returns r) ∙ ap back e ∙ returns r'
+told_apart : {A B : Type 0} (view : A → B) (back : B → A) → ((r : A) → back (view r) ≡ r) → (r r' : A) → view r ≡ view r' → r ≡ r'
+told_apart view back returns r r' e = sym (returns r) ∙ ap back e ∙ returns r'
 
-abbrev next_by : Read (Unit {0}) → Next
-next_by fails = Next.Not
-next_by (reads x j) = Next.To j
+abbrev next_by : {A : Type 0} → Read A → Option ℕ
+next_by fails = None
+next_by (reads x j) = Some j
 
-abbrev number_by : Read ℕ → Number
-number_by fails = Number.Not
-number_by (reads v j) = Number.Is v j
+abbrev found_by : {A : Type 0} → Read A → Option (Found A)
+found_by fails = None
+found_by (reads v j) = Some (record { value = v; next = j })
 
-abbrev signed_by : Read ℤ → Signed
-signed_by fails = Signed.Not
-signed_by (reads v j) = Signed.Is v j
+next_back : (r : Option ℕ) → next_by (seen_next r) ≡ r
+next_back (Some j) = refl
+next_back None = refl
 
-abbrev word_by : Read ℕ → Word
-word_by fails = Word.Not
-word_by (reads v j) = Word.Is v j
+found_back : {A : Type 0} (r : Option (Found A)) → found_by (seen r) ≡ r
+found_back (Some f) = refl
+found_back None = refl
 
-abbrev place_by : Read (List ℕ) → Place
-place_by fails = Place.Never
-place_by (reads line place) = Place.At place
+place_back : (s : List ℕ) (i : ℕ) (r : Option ℕ) → next_by (seen_line s i r) ≡ r
+place_back s i (Some place) = refl
+place_back s i None = refl
 
-next_back : (r : Next) → next_by (seen_next r) ≡ r
-next_back (Next.To j) = refl
-next_back Next.Not = refl
-
-number_back : (r : Number) → number_by (seen_number r) ≡ r
-number_back (Number.Is v j) = refl
-number_back Number.Not = refl
-
-signed_back : (r : Signed) → signed_by (seen_signed r) ≡ r
-signed_back (Signed.Is v j) = refl
-signed_back Signed.Not = refl
-
-word_back : (r : Word) → word_by (seen_word r) ≡ r
-word_back (Word.Is v j) = refl
-word_back Word.Not = refl
-
-place_back : (s : List ℕ) (i : ℕ) (r : Place) → place_by (seen_line s i r) ≡ r
-place_back s i (Place.At place) = refl
-place_back s i Place.Never = refl
-
-pub same_next : (r r' : Next) → seen_next r ≡ seen_next r' → r ≡ r'
+pub same_next : (r r' : Option ℕ) → seen_next r ≡ seen_next r' → r ≡ r'
 same_next r r' e = told_apart seen_next next_by next_back r r' e
 
-pub same_number : (r r' : Number) → seen_number r ≡ seen_number r' → r ≡ r'
-same_number r r' e = told_apart seen_number number_by number_back r r' e
+pub same_found : {A : Type 0} (r r' : Option (Found A)) → seen r ≡ seen r' → r ≡ r'
+same_found r r' e = told_apart seen found_by found_back r r' e
 
-pub same_signed : (r r' : Signed) → seen_signed r ≡ seen_signed r' → r ≡ r'
-same_signed r r' e = told_apart seen_signed signed_by signed_back r r' e
-
-pub same_word : (r r' : Word) → seen_word r ≡ seen_word r' → r ≡ r'
-same_word r r' e = told_apart seen_word word_by word_back r r' e
-
-pub same_line : (s : List ℕ) (i : ℕ) (r r' : Place) → seen_line s i r ≡ seen_line s i r' → r ≡ r'
-same_line s i r r' e = told_apart (seen_line s i) place_by (place_back s i) r r' e
+pub same_line : (s : List ℕ) (i : ℕ) (r r' : Option ℕ) → seen_line s i r ≡ seen_line s i r' → r ≡ r'
+same_line s i r r' e = told_apart (seen_line s i) next_by (place_back s i) r r' e

@@ -1,8 +1,0 @@
--- Safe and ending: the measure is the number of ticks that are left. Assumes nothing.
-use Rattle.bench.proofs.run.Given as goal
-
-abbrev pub invariant-loop-left : goal.invariant-loop-left
-invariant-loop-left g l = Unit {0}
-
-abbrev pub decreases-loop-left : goal.decreases-loop-left
-decreases-loop-left g l = l.left
