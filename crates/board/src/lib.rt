@@ -69,6 +69,8 @@ fn settle(b: Board, rail: i16, named: u32, limits: Limits) -> Settled
 }
 
 // What steps 1 to 3 make of these parts where the tick happens; where it does not, they stay as they are.
+// Kept: a refused tick could leave at once with an Err, but the board is large, and `tick` is fast where it leaves at
+// one place; so whether the tick happens is asked part by part, here and in `untold`, `is_heard` and `watch`.
 fn settle_where(happens: bool, b: Board, rail: i16, named: u32, limits: Limits) -> Settled
     ensures { result ≡ settled_in (cond happens (tripped_of named (changed_of rail limits (risen_of [] b))) b) }
 {
