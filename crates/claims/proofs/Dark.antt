@@ -12,6 +12,7 @@ use Rattle.modes.specs.Commands.{to_safety, to_nominal}
 use Rattle.modes.specs.declared.Mode.{Mode}
 use Rattle.modes.specs.declared.Mode.TheVariants.{Nominal}
 use Rattle.modes.specs.declared.Limits.{Limits}
+use Rattle.command.specs.Decode.{Decoded}
 use Rattle.channels.specs.Sets.{has}
 use Rattle.channels.specs.Chan.{Chan, chan}
 use Rattle.channels.specs.Operations.{off_and_latch_kept, overcurrent_one, command_enabled}
