@@ -49,8 +49,20 @@ pub fn none() -> Bench
 pub fn started(bench: Bench, start: Start, image: &[u8], out: &mut [u8]) -> Ran
     ensures { left result out.new ≡ started_of out.old bench (begun_of (there bench.machine) (profile_of start.board) (store_of start.stored image.now)) }
 {
-    let Named { bid, fitted, forced, kind, form } = start.board;
-    let profile = Profile { fitted, forced, bid, kind, form };
+    let Named {
+        bid,
+        fitted,
+        forced,
+        kind,
+        form,
+    } = start.board;
+    let profile = Profile {
+        fitted,
+        forced,
+        bid,
+        kind,
+        form,
+    };
     let store = starting::store_of(start.stored, image);
     let there = bench.machine.unwrap_or(unit::unstarted());
     let begun = unit::start(there, profile, store);
@@ -102,7 +114,13 @@ pub fn ticked(
             lent_count: 0,
             ..bench
         },
-        printed: showing::ticked(told.machine.board, told.outcome, told.event, told.replied, out),
+        printed: showing::ticked(
+            told.machine.board,
+            told.outcome,
+            told.event,
+            told.replied,
+            out,
+        ),
     }
 }
 

@@ -159,7 +159,12 @@ fn join(a: u8, b: u8, c: u8, d: u8) -> u32
 }
 
 // The number of four pairs, the uppermost first, where none of them is bad.
-fn four_pairs(upper: Option<u8>, second: Option<u8>, third: Option<u8>, lowest: Option<u8>) -> Option<u32>
+fn four_pairs(
+    upper: Option<u8>,
+    second: Option<u8>,
+    third: Option<u8>,
+    lowest: Option<u8>,
+) -> Option<u32>
     ensures value { result ≡ four_pairs upper second third lowest }
     ensures number { word_number result ≡ cond (is_some upper && is_some second && is_some third && is_some lowest) 0 14 }
 {

@@ -34,11 +34,22 @@ pub fn answer<'a>(
     ensures { page out.new result ≡ typed (page out.old 0) (answer_line line m.board.form received.now scratch.now) }
 {
     match line {
-        Ok(Line::Command { start, end, behind: _ }) => {
+        Ok(
+            Line::Command {
+                start,
+                end,
+                behind: _,
+            },
+        ) => {
             let payload = unit::payload(m, received, scratch, start, end);
             speaking::heard(line, payload, scratch, out)
         }
-        Ok(Line::Switch { form: _, behind: _ }) | Err(_) => speaking::heard(line, &[], scratch, out),
+        Ok(Line::Switch { form: _, behind: _ }) | Err(_) => speaking::heard(
+            line,
+            &[],
+            scratch,
+            out,
+        ),
     }
 }
 

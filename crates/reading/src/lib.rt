@@ -75,7 +75,12 @@ fn ascii_line(payload: &[u8], behind: usize, scratch: &mut [u8]) -> Result<Line,
 
 // A frame's payload that is no switch.
 #[tactic(auto, unfolding(crate::specs::Lines::command_line, crate::specs::Lines::command_held, crate::specs::Answers::command_number, hexadecimal::specs::Answers::payload_number))]
-fn command_line(form: Form, received: &[u8], frame: Frame, scratch: &mut [u8]) -> Result<Line, LineRefusal>
+fn command_line(
+    form: Form,
+    received: &[u8],
+    frame: Frame,
+    scratch: &mut [u8],
+) -> Result<Line, LineRefusal>
     ensures answer { result ≡ command_line form (payload_at frame received.now) frame (length scratch.old) }
     ensures held { scratch.new ≡ command_held form (payload_at frame received.now) scratch.old }
     ensures number { line_number result ≡ command_number form (payload_at frame received.now) (length scratch.old) }

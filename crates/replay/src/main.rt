@@ -49,7 +49,12 @@ fn kept(line: &mut [u8; 4096], filled: Option<usize>, b: u8) -> Option<usize> {
 // Reads once, runs the lines that came, and says whether there may be more; with nothing more to read, or what cannot be
 // read, there is not.
 // argued: an instrument; what it prints is compared line by line with the second program
-fn run_some(rt: &impl Print, input: &mut impl Read, line: &mut [u8; 4096], turn: &mut Turn) -> bool {
+fn run_some(
+    rt: &impl Print,
+    input: &mut impl Read,
+    line: &mut [u8; 4096],
+    turn: &mut Turn,
+) -> bool {
     let mut chunk = [0u8; 65536];
     let n = input.read(&mut chunk).unwrap_or(0);
     run_chunk(rt, &chunk[..n], line, turn);

@@ -41,7 +41,12 @@ fn none() -> Session
 }
 
 // Starts the board of a sheet of the form, and prints the count of its ticks; a refused start leaves the buffer.
-fn started(profile: Profile, ticks: u32, first: usize, out: &mut [u8]) -> Result<Stepped, SheetRefusal>
+fn started(
+    profile: Profile,
+    ticks: u32,
+    first: usize,
+    out: &mut [u8],
+) -> Result<Stepped, SheetRefusal>
     ensures { opened result out.new ≡ started_of out.old profile ticks first }
 {
     let begun = unit::start(unit::unstarted(), profile, None);
@@ -86,17 +91,18 @@ fn sent_of<'a>(count: Option<usize>, bytes: &'a [u8]) -> Option<&'a [u8]>
 
 // Runs one tick of a session, and prints its line.
 // argued: called where a tick is left, and no more than there are
-fn ticked(
-    session: Session,
-    line: TickLine,
-    transfer: Option<&[u8]>,
-    out: &mut [u8],
-) -> Stepped
+fn ticked(session: Session, line: TickLine, transfer: Option<&[u8]>, out: &mut [u8]) -> Stepped
     requires { (0 < session.left) × (session.left ≤ session.count) }
     ensures { stepped result out.new ≡ ticked_of out.old session line.rail line.overcurrent (is_sent transfer.entry) (bytes_sent transfer.entry) line.next }
 {
     let words: [u16; 0] = [];
-    let told = unit::tick(session.machine, line.rail, line.overcurrent, &words, transfer);
+    let told = unit::tick(
+        session.machine,
+        line.rail,
+        line.overcurrent,
+        &words,
+        transfer,
+    );
     let machine = told.machine;
     let left = session.left - 1;
     let number = session.count - left;

@@ -142,13 +142,34 @@ fn ends_of(id: u16) -> Ends
     ensures high { result.high ≡ high_of id }
 {
     match id {
-        0x3000..=0x3002 => Ends { low: -2000, high: 3000 },
-        0x3003..=0x3005 => Ends { low: -2000, high: 3400 },
-        0x3006..=0x300B => Ends { low: 30, high: 32767 },
-        0x300C..=0x3029 => Ends { low: -32768, high: 32767 },
-        0x4002..=0x4021 => Ends { low: 0, high: 20000 },
-        0x4022..=0x4041 => Ends { low: 50, high: 20000 },
-        _ => Ends { low: 0, high: 65535 },
+        0x3000..=0x3002 => Ends {
+            low: -2000,
+            high: 3000,
+        },
+        0x3003..=0x3005 => Ends {
+            low: -2000,
+            high: 3400,
+        },
+        0x3006..=0x300B => Ends {
+            low: 30,
+            high: 32767,
+        },
+        0x300C..=0x3029 => Ends {
+            low: -32768,
+            high: 32767,
+        },
+        0x4002..=0x4021 => Ends {
+            low: 0,
+            high: 20000,
+        },
+        0x4022..=0x4041 => Ends {
+            low: 50,
+            high: 20000,
+        },
+        _ => Ends {
+            low: 0,
+            high: 65535,
+        },
     }
 }
 

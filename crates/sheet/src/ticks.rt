@@ -49,7 +49,11 @@ fn spelt(text: &[u8], next: usize, transfer: &mut [u8]) -> Result<Found<Option<u
 
 // The command up to the line's end: `-` for no transfer, else its bytes in ASCII form.
 #[tactic(auto, using(crate::proofs::Lines::command_silent, crate::proofs::Lines::command_endless, crate::proofs::Lines::command_spelt, crate::proofs::Lines::silence_fits, crate::proofs::Lines::laid_none))]
-fn read_command(s: &[u8], at: usize, transfer: &mut [u8]) -> Result<Found<Option<usize>>, TickRefusal>
+fn read_command(
+    s: &[u8],
+    at: usize,
+    transfer: &mut [u8],
+) -> Result<Found<Option<usize>>, TickRefusal>
     ensures answer { result ≡ command_of (length transfer.old) (command s.now at) }
     ensures held { transfer.new ≡ command_held (command s.now at) transfer.old }
 {

@@ -54,11 +54,13 @@ fn answer(line: Result<Line, LineRefusal>, payload: &[u8], out: &mut [u8]) -> us
     ensures { page out.new result ≡ typed (page out.old 0) (line_text line payload.now) }
 {
     match line {
-        Ok(Line::Command {
-            start: _,
-            end: _,
-            behind,
-        }) => command(out, behind, payload),
+        Ok(
+            Line::Command {
+                start: _,
+                end: _,
+                behind,
+            },
+        ) => command(out, behind, payload),
         Ok(Line::Switch { form, behind }) => switched(out, form, behind),
         Err(LineRefusal::NoFrame) => text(out, 0, b"refused 10"),
         Err(LineRefusal::TooLong { behind }) => told(out, b"refused 11", behind),
@@ -78,7 +80,12 @@ fn whole(out: &mut [u8], start: usize, buffer: &[u8]) -> usize
 
 // The line of a read of the text line.
 #[tactic(auto, using(script::proofs::Turns::typed_append), unfolding(crate::specs::Speaking::heard_line))]
-pub fn heard(line: Result<Line, LineRefusal>, payload: &[u8], scratch: &[u8], out: &mut [u8]) -> usize
+pub fn heard(
+    line: Result<Line, LineRefusal>,
+    payload: &[u8],
+    scratch: &[u8],
+    out: &mut [u8],
+) -> usize
     ensures { page out.new result ≡ typed (page out.old 0) (heard_line line payload.now scratch.now) }
 {
     let at = answer(line, payload, out);

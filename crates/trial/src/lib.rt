@@ -19,11 +19,13 @@ pub fn run(bench: Bench, asked: Option<Asked>, held: &[u8], out: &mut [u8]) -> R
         (Some(Asked::Start(start)), _) => handling::started(bench, start, held, out),
         (Some(Asked::Lend { count }), Some(_)) => handling::lent(bench, held, count, out),
         (
-            Some(Asked::Tick {
-                rail,
-                overcurrent,
-                transfer,
-            }),
+            Some(
+                Asked::Tick {
+                    rail,
+                    overcurrent,
+                    transfer,
+                },
+            ),
             Some(machine),
         ) => {
             let bytes = transfer.map(|count| wire::first(held, count));

@@ -117,13 +117,7 @@ fn due_after(outcome: Outcome, replied: bool, due: Due) -> Due
 
 // One tick: the rail in millivolts, the channels that reported overcurrent, the words lent, and no transfer or one.
 // Words that are neither none nor as many as the board has are refused, and the machine stays as it was.
-pub fn tick(
-    m: Machine,
-    rail: i16,
-    overcurrent: u32,
-    words: &[u16],
-    transfer: Option<&[u8]>,
-) -> Told
+pub fn tick(m: Machine, rail: i16, overcurrent: u32, words: &[u16], transfer: Option<&[u8]>) -> Told
     ensures value { result ≡ told_of rail overcurrent words.now (is_sent transfer.entry) (bytes_sent transfer.entry) m }
     ensures number { told_number result.outcome ≡ tick_number rail overcurrent words.now (is_sent transfer.entry) (bytes_sent transfer.entry) m.board }
 {
@@ -157,11 +151,13 @@ fn after_line(m: Machine, line: Result<Line, LineRefusal>) -> Machine
             board: state::with_form(m.board, form),
             due: Due::Echo(form),
         },
-        Ok(Line::Command {
-            start: _,
-            end: _,
-            behind: _,
-        }) => m,
+        Ok(
+            Line::Command {
+                start: _,
+                end: _,
+                behind: _,
+            },
+        ) => m,
         Err(_) => m,
     }
 }

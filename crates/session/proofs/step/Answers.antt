@@ -27,9 +27,9 @@ returns-then-session-eq0 c =
     let a = c.args in
     let t = read_tick 256 a.s.now a.session.at c.in-Ok.line c.in-Ok.ensures.answer in
     elim c.then-session-eq0.branch [
-      then-session-eq0-via-then-session-eq0 w ↦
+      | then-session-eq0-via-then-session-eq0 w ↦
           rw (t.is, eq-eqb a.session.left 0 (omega arith), c.ended-then-session-eq0.ensures)
-    | then-session-eq0-via-else-session-eq0+then-session w ↦
+      | then-session-eq0-via-else-session-eq0+then-session w ↦
           rw (
             t.is,
             ne_eqb a.session.left 0 (λ e. absurd (omega arith)),
@@ -54,14 +54,14 @@ returns c =
     let held = transfer_held a.s.now s.at (replicate 256 0) tick line.next t.is_any t.short in
     let sent : is_sent r ≡ has_bytes tick.transfer = c.sent_of.ensures.is ∙ ap is_some (sym its_length) ∙ sent_told tick.transfer in
     let bytes : bytes_sent r ≡ bytes_of tick.transfer =
-        c.sent_of.ensures.bytes
-        ∙ ap (λ (o : Option ℕ). first_sent o c.read_tick.new.transfer) (sym its_length)
-        ∙ ap (first_sent (sent_length tick.transfer)) c.read_tick.ensures.held
-        ∙ held in
+    c.sent_of.ensures.bytes
+    ∙ ap (λ (o : Option ℕ). first_sent o c.read_tick.new.transfer) (sym its_length)
+    ∙ ap (first_sent (sent_length tick.transfer)) c.read_tick.ensures.held
+    ∙ held in
     let ran =
-        c.ticked.ensures
-        ∙ ap (λ (x : ℤ). ticked_of out s x line.overcurrent (is_sent r) (bytes_sent r) line.next) (sym its_rail)
-        ∙ ap (λ (x : ℕ). ticked_of out s tick.rail x (is_sent r) (bytes_sent r) line.next) (sym its_set)
-        ∙ ap (λ (x : Bool). ticked_of out s tick.rail tick.overcurrent x (bytes_sent r) line.next) sent
-        ∙ ap (λ (x : List ℕ). ticked_of out s tick.rail tick.overcurrent (has_bytes tick.transfer) x line.next) bytes in
+    c.ticked.ensures
+    ∙ ap (λ (x : ℤ). ticked_of out s x line.overcurrent (is_sent r) (bytes_sent r) line.next) (sym its_rail)
+    ∙ ap (λ (x : ℕ). ticked_of out s tick.rail x (is_sent r) (bytes_sent r) line.next) (sym its_set)
+    ∙ ap (λ (x : Bool). ticked_of out s tick.rail tick.overcurrent x (bytes_sent r) line.next) sent
+    ∙ ap (λ (x : List ℕ). ticked_of out s tick.rail tick.overcurrent (has_bytes tick.transfer) x line.next) bytes in
     rw (t.is, ne_eqb s.left 0 (λ e. absurd (omega arith)), le-ltb s.count s.left (omega arith)) ran

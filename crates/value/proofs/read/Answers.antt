@@ -85,10 +85,10 @@ unfolding width
 returns-in-Some c =
     let s = c.args.s.now in
     with_value_number c.args.t s (
-      ap (floating ParamValue.Float) (sym c.in-Some.is ∙ c.float_of32.ensures)
-      ∙ float_value c.read_at-in-Float.result
-      ∙ ap (value_of ValueType.Float) c.read_at-in-Float.ensures
-      ∙ sym (long_enough c.args.t ValueType.Float s c.in-Float.is (omega (arith, c.width.ensures)))
+    ap (floating ParamValue.Float) (sym c.in-Some.is ∙ c.float_of32.ensures)
+    ∙ float_value c.read_at-in-Float.result
+    ∙ ap (value_of ValueType.Float) c.read_at-in-Float.ensures
+    ∙ sym (long_enough c.args.t ValueType.Float s c.in-Float.is (omega (arith, c.width.ensures)))
     )
 
 pub returns-in-None : goal.returns-in-None
@@ -96,10 +96,10 @@ unfolding width
 returns-in-None c =
     let s = c.args.s.now in
     with_value_number c.args.t s (
-      ap (floating ParamValue.Float) (sym c.in-None.is ∙ c.float_of32.ensures)
-      ∙ float_value c.read_at-in-Float.result
-      ∙ ap (value_of ValueType.Float) c.read_at-in-Float.ensures
-      ∙ sym (long_enough c.args.t ValueType.Float s c.in-Float.is (omega (arith, c.width.ensures)))
+    ap (floating ParamValue.Float) (sym c.in-None.is ∙ c.float_of32.ensures)
+    ∙ float_value c.read_at-in-Float.result
+    ∙ ap (value_of ValueType.Float) c.read_at-in-Float.ensures
+    ∙ sym (long_enough c.args.t ValueType.Float s c.in-Float.is (omega (arith, c.width.ensures)))
     )
 
 pub returns-in-Some-float_of64 : goal.returns-in-Some-float_of64
@@ -107,10 +107,10 @@ unfolding width
 returns-in-Some-float_of64 c =
     let s = c.args.s.now in
     with_value_number c.args.t s (
-      ap (floating ParamValue.Double) (sym c.in-Some-float_of64.is ∙ c.float_of64.ensures)
-      ∙ double_value c.read_at-in-Double.result
-      ∙ ap (value_of ValueType.Double) c.read_at-in-Double.ensures
-      ∙ sym (long_enough c.args.t ValueType.Double s c.in-Double.is (omega (arith, c.width.ensures)))
+    ap (floating ParamValue.Double) (sym c.in-Some-float_of64.is ∙ c.float_of64.ensures)
+    ∙ double_value c.read_at-in-Double.result
+    ∙ ap (value_of ValueType.Double) c.read_at-in-Double.ensures
+    ∙ sym (long_enough c.args.t ValueType.Double s c.in-Double.is (omega (arith, c.width.ensures)))
     )
 
 pub returns-in-None-float_of64 : goal.returns-in-None-float_of64
@@ -118,8 +118,8 @@ unfolding width
 returns-in-None-float_of64 c =
     let s = c.args.s.now in
     with_value_number c.args.t s (
-      ap (floating ParamValue.Double) (sym c.in-None-float_of64.is ∙ c.float_of64.ensures)
-      ∙ double_value c.read_at-in-Double.result
-      ∙ ap (value_of ValueType.Double) c.read_at-in-Double.ensures
-      ∙ sym (long_enough c.args.t ValueType.Double s c.in-Double.is (omega (arith, c.width.ensures)))
+    ap (floating ParamValue.Double) (sym c.in-None-float_of64.is ∙ c.float_of64.ensures)
+    ∙ double_value c.read_at-in-Double.result
+    ∙ ap (value_of ValueType.Double) c.read_at-in-Double.ensures
+    ∙ sym (long_enough c.args.t ValueType.Double s c.in-Double.is (omega (arith, c.width.ensures)))
     )

@@ -30,4 +30,3 @@ unfolding width spelt
 returns-in-Int64 c =
     let f : SFits w64 c.in-Int64.x = search rules in
     rw c.in-Int64.is (taken_unsigned w64 c.in-Int64.x c.cast_unsigned-in-Int64.result f c.cast_unsigned-in-Int64.ensures, c.cast_unsigned-in-Int64.type_inv)
-

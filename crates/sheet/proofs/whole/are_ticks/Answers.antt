@@ -9,10 +9,11 @@ pub loop-k-preserved : goal.loop-k-preserved
 loop-k-preserved c =
     let a = c.args in
     let l = c.loop-k in
-    let left : a.count - (l.k + 1) ≡ a.count - l.k - 1 = omega arith in
-    (omega (arith, l.invariant.0),
-    rw left
-    (ap (are_ticks_behind (a.count - l.k - 1) a.s.now) c.in-Ok.ensures.answer ∙ ticks_turn (a.count - l.k) a.s.now l.at _ (omega arith) l.invariant.0 ∙ l.invariant.1))
+    let left : a.count - (l.k + 1) ≡ a.count - l.k - 1 = omega arith in (
+      omega (arith, l.invariant.0),
+      rw left
+          (ap (are_ticks_behind (a.count - l.k - 1) a.s.now) c.in-Ok.ensures.answer ∙ ticks_turn (a.count - l.k) a.s.now l.at _ (omega arith) l.invariant.0 ∙ l.invariant.1),
+    )
 
 pub returns-in_default : goal.returns-in_default
 returns-in_default c =
