@@ -16,7 +16,8 @@ use script::reading::lent_words;
 use state::Profile;
 use unit::Machine;
 
-// The bench: the machine on it, once one was started, and the words for its next tick, the first `lent_count` of `lent`.
+// The bench: the machine on it, once one was started, and the words for its next tick, the first `lent_count` of
+// `lent`.
 // Kept: the words lie in an array with a count beside it, since the memory of a bench is fixed (no heap).
 #[derive(Clone, Copy)]
 pub struct Bench {

@@ -46,8 +46,8 @@ fn kept(line: &mut [u8; 4096], filled: Option<usize>, b: u8) -> Option<usize> {
     Some(at + 1)
 }
 
-// Reads once, runs the lines that came, and says whether there may be more; with nothing more to read, or what cannot be
-// read, there is not.
+// Reads once, runs the lines that came, and says whether there may be more; with nothing more to read, or what cannot
+// be read, there is not.
 // argued: an instrument; what it prints is compared line by line with the second program
 fn run_some(
     rt: &impl Print,

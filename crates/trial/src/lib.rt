@@ -9,8 +9,8 @@ use handling::{Bench, Ran};
 use lines::Asked;
 use script::printing::text;
 
-// Runs what a line asks for, with the bytes that it holds. A line that asks for nothing is bad, and before a machine was
-// started so is one that asks for anything but a start.
+// Runs what a line asks for, with the bytes that it holds. A line that asks for nothing is bad, and before a machine
+// was started so is one that asks for anything but a start.
 #[tactic(auto, unfolding(crate::specs::Lines::ran_of, crate::specs::Lines::ran_on, crate::specs::Lines::first_of))]
 pub fn run(bench: Bench, asked: Option<Asked>, held: &[u8], out: &mut [u8]) -> Ran
     ensures { left result out.new ≡ ran_of out.old bench bench.machine asked held.now }
