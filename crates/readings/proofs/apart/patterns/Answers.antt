@@ -1,27 +1,28 @@
--- Each word is the pattern of its reading.
-use Prim.Native.Nat.{◌<◌}
+-- What is passed stands as the words on the wire.
 use mathlib.Core.Path.{◌≡◌, sym, ◌∙◌}
+use Prim.Native.Nat.{ℕ}
 use native.Mathlib.Omega.{arith}
 use borrow.Author.Rules.{rules}
 use lib.IntN.{pos}
-use lib.ListN.{get_or, length, length-map, get_or-map}
-use Rattle.std.proofs.lemmas.List.{ext_get_or}
+use lib.ListN.{get_or, length, replicate, length-map, length-replicate, get_or-map}
 use Rattle.wire.specs.Numbers.{pattern}
 use Rattle.readings.specs.declared.apart.Engineering.{Engineering}
 use Rattle.readings.specs.Readings.{engineering_words}
+use Rattle.readings.proofs.Filling.{begun, turn, ended}
 use Rattle.readings.proofs.apart.patterns.Goals as goal
 
-abbrev none : Engineering
-none = record { 0 = pos 0 }
+pub loop-i-init : goal.loop-i-init
+unfolding engineering_words
+loop-i-init c =
+    let l : length c.args.readings ≡ 122 = search rules in
+    (l, begun 122 (replicate 122 0) (engineering_words c.args.readings) (length-map c.args.readings (λ (r : Engineering). pattern 2 r.0) ∙ l) (length-replicate {A = ℕ} 122 0))
+
+pub loop-i-preserved : goal.loop-i-preserved
+unfolding engineering_words
+loop-i-preserved c =
+    let readings = c.args.readings in
+    let none : Engineering = record { 0 = pos 0 } in
+    (c.loop-i.invariant.0, turn 122 (replicate 122 0) (engineering_words readings) 0 c.pattern_of.result c.loop-i.word-items c.loop-i.i c.loop-i.invariant.1 (omega arith) (c.pattern_of.ensures ∙ sym (get_or-map (λ (r : Engineering). pattern 2 r.0) readings c.loop-i.i none)))
 
 pub returns : goal.returns
-unfolding engineering_words pattern
-returns c =
-    let m = c.map.ensures.items in
-    let l : length c.args.readings ≡ 122 = search rules in
-    ext_get_or 0 c.map.result (engineering_words c.args.readings) (m.long ∙ sym (length-map c.args.readings (λ (r : Engineering). pattern 2 r.0) ∙ l))
-    (λ i h.
-    let g : i < 122 = omega (arith, m.long) in
-    let t = (m.at i none 0 g).2 in
-    let e : get_or c.map.result i 0 ≡ pattern 2 (get_or c.args.readings i none).0 = search rules in
-    e ∙ sym (get_or-map (λ (r : Engineering). pattern 2 r.0) c.args.readings i none))
+returns c = ended 122 (replicate 122 0) (engineering_words c.args.readings) c.loop-i.word-items c.loop-i.i c.loop-i.invariant.1 (omega arith)

@@ -1,22 +1,25 @@
--- Each word is what its raw reading holds.
-use Prim.Native.Nat.{◌<◌}
+-- What is passed stands as the words that were measured.
 use mathlib.Core.Path.{◌≡◌, sym, ◌∙◌}
+use Prim.Native.Nat.{ℕ}
 use native.Mathlib.Omega.{arith}
 use borrow.Author.Rules.{rules}
-use lib.ListN.{get_or, length, length-map, get_or-map}
-use Rattle.std.proofs.lemmas.List.{ext_get_or}
+use lib.ListN.{get_or, length, replicate, length-map, length-replicate, get_or-map}
 use Rattle.readings.specs.declared.apart.Raw.{Raw}
 use Rattle.readings.specs.Readings.{raw_of, raw_words}
+use Rattle.readings.proofs.Filling.{begun, turn, ended}
 use Rattle.readings.proofs.apart.words.Goals as goal
 
-pub returns : goal.returns
+pub loop-i-init : goal.loop-i-init
 unfolding raw_words
-returns c =
-    let m = c.map.ensures.items in
+loop-i-init c =
     let l : length c.args.raws ≡ 130 = search rules in
-    ext_get_or 0 c.map.result (raw_words c.args.raws) (m.long ∙ sym (length-map c.args.raws (λ (r : Raw). r.0) ∙ l))
-    (λ i h.
-    let g : i < 130 = omega (arith, m.long) in
-    let t = (m.at i (raw_of 0) 0 g).2 in
-    let e : get_or c.map.result i 0 ≡ (get_or c.args.raws i (raw_of 0)).0 = search rules in
-    e ∙ sym (get_or-map (λ (r : Raw). r.0) c.args.raws i (raw_of 0)))
+    (l, begun 130 (replicate 130 0) (raw_words c.args.raws) (length-map c.args.raws (λ (r : Raw). r.0) ∙ l) (length-replicate {A = ℕ} 130 0))
+
+pub loop-i-preserved : goal.loop-i-preserved
+unfolding raw_words
+loop-i-preserved c =
+    let raws = c.args.raws in
+    (c.loop-i.invariant.0, turn 130 (replicate 130 0) (raw_words raws) 0 (get_or raws c.loop-i.i (raw_of 0)).0 c.loop-i.word-items c.loop-i.i c.loop-i.invariant.1 (omega arith) (sym (get_or-map (λ (r : Raw). r.0) raws c.loop-i.i (raw_of 0))))
+
+pub returns : goal.returns
+returns c = ended 130 (replicate 130 0) (raw_words c.args.raws) c.loop-i.word-items c.loop-i.i c.loop-i.invariant.1 (omega arith)
