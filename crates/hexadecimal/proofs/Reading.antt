@@ -1,16 +1,16 @@
 -- The equations of the form's recursion, one for each way that a turn of a loop can go. Assumes nothing.
 use Rattle.std.specs.Prelude.{Option, Some, None, Ok, Err}
 use Rattle.hexadecimal.specs.declared.PayloadRefusal.TheVariants.{NotOfForm, TooShort}
-use Prim.Native.Nat.{ℕ, ◌+◌, ◌≤◌, ◌<◌}
+use Prim.Native.Nat.{ℕ, ◌+◌, ◌-◌, ◌≤◌, ◌<◌}
 use mathlib.Core.Path.{◌≡◌, refl, ap, ap₂, sym, ◌∙◌}
 use mathlib.Core.Bool.{Bool, true, false, cond}
 use mathlib.Core.List.{List, [], ◌∷◌}
 use native.Mathlib.Omega.{arith}
 use mathlib.Core.Logic.{◌⊎◌, inl, inr, ⊎_elim}
 use lib.Dec.{eqb, leb}
-use lib.ListN.{length, drop, get_or, length-drop}
+use lib.ListN.{length, take, drop, get_or, length-drop}
 use Rattle.laws.proofs.Lists.{drop_two, drop_three, drop_end, lt_or_le, sets_front}
-use lib.Seq.{sets}
+use lib.Seq.{sets, take_all, drop-drop, get_or-drop}
 use borrow.Author.Tests.{eq-eqb, ne_eqb, le-leb, lt-leb}
 use Rattle.hexadecimal.specs.Hex.{pair_of, led, payload_of, read_of, held_after}
 use Rattle.hexadecimal.specs.Passes.{form_of, values, worth}
@@ -68,6 +68,23 @@ module _ (s : List ℕ) (i k : ℕ) where
   turn_more v h e q =
       let n : i + 2 + 1 ≡ i + 3 = omega arith in
       rw n (ap (λ (l : List ℕ). form_of k (payload_of l)) (drop_three s i h) ∙ form_more k _ _ _ v _ e q)
+
+-- ---- what a turn of the first pass takes off a text: two digits, and the space behind them
+module _ (s : List ℕ) where
+  pub two_off : take (length s - 2) (drop 2 s) ≡ drop 2 s
+  two_off = take_all (length s - 2) (drop 2 s) (omega (arith, length-drop 2 s))
+
+  pub two_left : length (take (length s - 2) (drop 2 s)) ≡ length s - 2
+  two_left = ap length two_off ∙ length-drop 2 s
+
+  pub gap_off : get_or (take (length s - 2) (drop 2 s)) 0 0 ≡ get_or s 2 0
+  gap_off = ap (λ (b : List ℕ). get_or b 0 0) two_off ∙ get_or-drop 2 s 0 0
+
+  pub three_off : take (length (take (length s - 2) (drop 2 s)) - 1) (drop 1 (take (length s - 2) (drop 2 s))) ≡ drop 3 s
+  three_off =
+      ap (λ (b : List ℕ). take (length b - 1) (drop 1 b)) two_off
+      ∙ take_all (length (drop 2 s) - 1) (drop 1 (drop 2 s)) (omega (arith, length-drop 1 (drop 2 s)))
+      ∙ drop-drop 1 2 s
 
 -- ---- a turn of the second pass
 pub values_end : (s : List ℕ) (i : ℕ) → length s ≤ i + 1 → values (drop i s) ≡ []

@@ -43,24 +43,21 @@ fn value(a: u8, b: u8) -> u8
 fn count(text: &[u8]) -> Option<usize>
     ensures { result ≡ form_of 0 (payload_of text.now) }
 {
-    let n = text.len();
-    let mut i = 0;
-    let mut k = 0;
+    let mut pairs = 0;
+    let mut rest = text;
     loop {
-        if n - i < 2 {
+        let [a, b, behind @ ..] = rest else {
+            return None;
+        };
+        pair(*a, *b)?;
+        pairs += 1;
+        let [gap, more @ ..] = behind else {
+            return Some(pairs);
+        };
+        if *gap != b' ' {
             return None;
         }
-        pair(text[i], text[i + 1])?;
-        k += 1;
-        i += 2;
-        let rest = n - i;
-        if rest == 0 {
-            return Some(k);
-        }
-        if text[i] != 32 {
-            return None;
-        }
-        i += 1;
+        rest = more;
     }
 }
 
@@ -69,13 +66,8 @@ fn fill(text: &[u8], out: &mut [u8])
     requires { length (values text.now) ≤ length out.old }
     ensures { out.new ≡ sets out.old 0 (values text.now) }
 {
-    let n = text.len();
-    let mut i = 0;
-    let mut k = 0;
-    while i + 1 < n {
-        out[k] = value(text[i], text[i + 1]);
-        k += 1;
-        i += 3;
+    for k in 0..(text.len() + 1) / 3 {
+        out[k] = value(text[3 * k], text[3 * k + 1]);
     }
 }
 
@@ -140,15 +132,11 @@ pub fn write(bytes: &[u8], out: &mut [u8]) -> Result<usize, WriteRefusal>
         return Err(WriteRefusal::NoRoom);
     }
     put(out, 0, bytes[0]);
-    let mut k = 2;
-    let mut i = 1;
-    while i < n {
-        out[k] = 32;
-        put(out, k + 1, bytes[i]);
-        k += 3;
-        i += 1;
+    for i in 1..n {
+        out[3 * i - 1] = 32;
+        put(out, 3 * i, bytes[i]);
     }
-    Ok(k)
+    Ok(3 * n - 1)
 }
 
 // A number of four bytes, the uppermost first.

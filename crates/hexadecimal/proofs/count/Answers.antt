@@ -1,38 +1,43 @@
--- The answer from place i on, after k pairs, is the answer from the start. Assumes nothing.
-use Rattle.hexadecimal.proofs.Reading.{turn_short, turn_bad, turn_last, turn_gap, turn_more}
-use borrow.Author.Rules.{rules}
+-- The answer from the rest on, after some pairs, is the answer from the start. Assumes nothing.
+use Rattle.hexadecimal.proofs.Reading.{turn_short, turn_bad, turn_last, turn_gap, turn_more, two_left, gap_off, three_off}
+use Rattle.hexadecimal.specs.Hex.{payload_of}
+use Rattle.hexadecimal.specs.Passes.{form_of}
 use native.Mathlib.Omega.{arith}
-use mathlib.Core.Path.{refl, sym, ◌∙◌}
+use mathlib.Core.Path.{refl, sym, ap, subst, ◌∙◌}
+use Rattle.std.proofs.Common.{◌≡◌, ◌<◌, ◌≤◌, length, List, ℕ, take, drop, get_or, ◌+◌, ◌-◌, length-drop}
 use Rattle.hexadecimal.proofs.count.Goals as goal
 
-pub loop-i-init : goal.loop-i-init
-loop-i-init c = (refl, search rules, search rules, refl)
-
-pub returns-then-n-i-lt2 : goal.returns-then-n-i-lt2
-returns-then-n-i-lt2 c =
-    let l = c.loop-i in
-    sym (turn_short c.args.text.now l.i l.k (omega arith)) ∙ l.invariant.3
+pub returns-in_default : goal.returns-in_default
+returns-in_default c =
+    let l = c.loop-rest in
+    sym (turn_short l.rest.now 0 l.pairs (omega (arith, c.in_default.len_below))) ∙ l.invariant.1
 
 pub returns-in_err-pair : goal.returns-in_err-pair
 returns-in_err-pair c =
-    let l = c.loop-i in
-    c.from_residual.ensures ∙ sym (turn_bad c.args.text.now l.i l.k (omega arith) (sym c.pair.ensures ∙ c.in_err-pair.was)) ∙ l.invariant.3
+    let l = c.loop-rest in
+    c.from_residual.ensures ∙ sym (turn_bad l.rest.now 0 l.pairs (omega (arith, c.in-len2-up.len_at_least)) (sym c.pair.ensures ∙ c.in_err-pair.was)) ∙ l.invariant.1
 
-pub returns-then-rest-eq0 : goal.returns-then-rest-eq0
-returns-then-rest-eq0 c =
-    let l = c.loop-i in
-    sym (turn_last c.args.text.now l.i l.k _ (omega arith) (sym c.pair.ensures ∙ c.in_ok-pair.was)) ∙ l.invariant.3
+pub returns-in_default-behind : goal.returns-in_default-behind
+returns-in_default-behind c =
+    let l = c.loop-rest in
+    let s = l.rest.now in
+    let none : length (take (length s - 2) (drop 2 s)) < 1 = c.in_default-behind.len_below in
+    sym (turn_last s 0 l.pairs _ (omega (arith, c.in-len2-up.len_at_least, none, two_left s)) (sym c.pair.ensures ∙ c.in_ok-pair.was)) ∙ l.invariant.1
 
-pub returns-then-text-i-ne32 : goal.returns-then-text-i-ne32
-returns-then-text-i-ne32 c =
-    let l = c.loop-i in
-    sym (turn_gap c.args.text.now l.i l.k (omega arith) (λ e. omega arith)) ∙ l.invariant.3
+pub returns-then-gap-ne32 : goal.returns-then-gap-ne32
+returns-then-gap-ne32 c =
+    let l = c.loop-rest in
+    let s = l.rest.now in
+    let some : 1 ≤ length (take (length s - 2) (drop 2 s)) = c.in-len1-up.len_at_least in
+    sym (turn_gap s 0 l.pairs (omega (arith, c.in-len2-up.len_at_least, some, two_left s)) (λ e. c.if-gap-ne32.true (gap_off s ∙ e))) ∙ l.invariant.1
 
-pub loop-i-preserved : goal.loop-i-preserved
-loop-i-preserved c =
-    let l = c.loop-i in (
-      search rules,
-      search rules,
-      search rules,
-      sym (turn_more c.args.text.now l.i l.k _ (omega arith) (sym c.pair.ensures ∙ c.in_ok-pair.was) (omega arith)) ∙ l.invariant.3,
+pub loop-rest-preserved : goal.loop-rest-preserved
+loop-rest-preserved c =
+    let l = c.loop-rest in
+    let s = l.rest.now in
+    let some : 1 ≤ length (take (length s - 2) (drop 2 s)) = c.in-len1-up.len_at_least in
+    let gap : get_or s 2 0 ≡ 32 = sym (gap_off s) ∙ c.if-gap-ne32.false in
+    let more = turn_more s 0 l.pairs _ (omega (arith, c.in-len2-up.len_at_least, some, two_left s)) (sym c.pair.ensures ∙ c.in_ok-pair.was) gap in (
+      subst (λ (b : List ℕ). l.pairs + 1 + length b ≤ length c.args.text.now) (sym (three_off s)) (omega (arith, l.invariant.0, length-drop 3 s, c.in-len2-up.len_at_least, some, two_left s)),
+      ap (λ (b : List ℕ). form_of (l.pairs + 1) (payload_of b)) (three_off s) ∙ sym more ∙ l.invariant.1,
     )
