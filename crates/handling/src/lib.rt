@@ -11,7 +11,7 @@ ghost use Rattle.starting.specs.Starts.{ok_text, store_of};
 ghost use Rattle.handling.specs.Benches.{empty_bench, there, left, printed, started_of, with_lent, ticked_of, received_of, profile_of};
 
 use lines::{Named, Start};
-use script::printing::text;
+use script::printing::Page;
 use script::reading::lent_words;
 use state::Profile;
 use unit::Machine;
@@ -81,13 +81,15 @@ pub fn started(bench: Bench, start: Start, image: &[u8], out: &mut [u8]) -> Ran
 pub fn lent(bench: Bench, bytes: &[u8], count: usize, out: &mut [u8]) -> Ran
     ensures { left result out.new ≡ printed out.old (with_lent (words_of 512 bytes.now) count bench) ok_text }
 {
+    let mut line = Page::on(out);
+    line.text(b"ok\n");
     Ran {
         bench: Bench {
             lent: lent_words(bytes),
             lent_count: count,
             ..bench
         },
-        printed: text(out, 0, b"ok\n"),
+        printed: line.at,
     }
 }
 

@@ -1,15 +1,26 @@
 // What a line of a replay script prints that only looks at a machine, and what a read of its text line prints.
 #![tactic(auto)]
 
-ghost use Rattle.std.specs.Prelude.{◌≡◌, take};
-ghost use Rattle.script.specs.Printing.{page, typed};
+ghost use Rattle.std.specs.Prelude.{◌≡◌, [], ◌∷◌, ◌++◌, take};
+ghost use Rattle.script.specs.Printing.{page, typed, hex_of};
 ghost use Rattle.speaking.specs.Speaking.{blank};
 ghost use Rattle.looking.specs.Looking.{answer_line, framing_line, read_line, look_line};
 
 use lines::Look;
 use reading::{Line, LineRefusal};
-use script::printing::{bytes, put};
+use script::printing::Page;
 use unit::Machine;
+
+// The line of the bytes that a bus read found.
+#[tactic(auto, using(script::proofs::Turns::typed_append), unfolding(script::specs::Printing::typed))]
+fn bytes_line(found: &[u8], out: &mut [u8]) -> usize
+    ensures { page out.new result ≡ typed (page out.old 0) (hex_of found.now ++ 10 ∷ []) }
+{
+    let mut line = Page::on(out);
+    line.bytes(found);
+    line.put(b'\n');
+    line.at
+}
 
 // What a bus read finds.
 fn read(m: Machine, count: usize, out: &mut [u8]) -> usize
@@ -18,8 +29,7 @@ fn read(m: Machine, count: usize, out: &mut [u8]) -> usize
     let mut buffer = speaking::untouched();
     let found = &mut buffer[..speaking::within(count)];
     unit::bus_read(m, found);
-    let at = bytes(out, 0, found);
-    put(out, at, b'\n')
+    bytes_line(found, out)
 }
 
 // What a read of the text line prints.

@@ -3,13 +3,14 @@ use mathlib.Core.Path.{sym, ◌∙◌}
 use Rattle.single.specs.Single.{Single}
 use Rattle.single.proofs.Pages.{held_same, place_same}
 use Rattle.script.proofs.printing.shown.Reads as printing_shown
-use Rattle.script.proofs.printing.put.Reads as printing_put
-use Rattle.script.proofs.printing.text.Reads as printing_text
-use Rattle.script.proofs.printing.number.Reads as printing_number
-use Rattle.script.proofs.printing.field.Reads as printing_field
-use Rattle.script.proofs.printing.bytes.Reads as printing_bytes
-use Rattle.script.proofs.printing.string.Reads as printing_string
-use Rattle.script.proofs.printing.words.Reads as printing_words
+use Rattle.script.proofs.printing.Page.on.Reads as printing_Page_on
+use Rattle.script.proofs.printing.Page.put.Reads as printing_Page_put
+use Rattle.script.proofs.printing.Page.text.Reads as printing_Page_text
+use Rattle.script.proofs.printing.Page.number.Reads as printing_Page_number
+use Rattle.script.proofs.printing.Page.field.Reads as printing_Page_field
+use Rattle.script.proofs.printing.Page.bytes.Reads as printing_Page_bytes
+use Rattle.script.proofs.printing.Page.string.Reads as printing_Page_string
+use Rattle.script.proofs.printing.Page.words.Reads as printing_Page_words
 use Rattle.script.proofs.reading.line_of.Reads as reading_line_of
 use Rattle.script.proofs.reading.is_at.Reads as reading_is_at
 use Rattle.script.proofs.reading.number.Reads as reading_number
@@ -19,47 +20,54 @@ use Rattle.script.proofs.reading.lent_words.Reads as reading_lent_words
 pub single_printing_shown : Single printing_shown.Post (λ κ r s. r.now)
 single_printing_shown κ a r r' s s' p q = p ∙ sym q
 
-pub single_printing_put : Single printing_put.Post (λ κ r s. r)
-single_printing_put κ a r r' s s' p q = place_same (p ∙ sym q)
+-- a page is where it stands, and what its buffer holds
+pub place_printing_Page_on : Single printing_Page_on.Post (λ κ r s. r.at)
+place_printing_Page_on κ a r r' s s' p q = place_same (p.1 ∙ sym q.1)
 
-pub held_printing_put : Single printing_put.Post (λ κ r s. s.0.now)
-held_printing_put κ a r r' s s' p q = held_same (p ∙ sym q)
+pub held_printing_Page_on : Single printing_Page_on.Post (λ κ r s. r.out.now)
+held_printing_Page_on κ a r r' s s' p q = held_same (p.1 ∙ sym q.1)
 
-pub single_printing_text : Single printing_text.Post (λ κ r s. r)
-single_printing_text κ a r r' s s' p q = place_same (p ∙ sym q)
+pub place_printing_Page_put : Single printing_Page_put.Post (λ κ r s. s.0.now.at)
+place_printing_Page_put κ a r r' s s' p q = place_same (p.1 ∙ sym q.1)
 
-pub held_printing_text : Single printing_text.Post (λ κ r s. s.0.now)
-held_printing_text κ a r r' s s' p q = held_same (p ∙ sym q)
+pub held_printing_Page_put : Single printing_Page_put.Post (λ κ r s. s.0.now.out.now)
+held_printing_Page_put κ a r r' s s' p q = held_same (p.1 ∙ sym q.1)
 
-pub single_printing_number : Single printing_number.Post (λ κ r s. r)
-single_printing_number κ a r r' s s' p q = place_same (p ∙ sym q)
+pub place_printing_Page_text : Single printing_Page_text.Post (λ κ r s. s.0.now.at)
+place_printing_Page_text κ a r r' s s' p q = place_same (p.1 ∙ sym q.1)
 
-pub held_printing_number : Single printing_number.Post (λ κ r s. s.0.now)
-held_printing_number κ a r r' s s' p q = held_same (p ∙ sym q)
+pub held_printing_Page_text : Single printing_Page_text.Post (λ κ r s. s.0.now.out.now)
+held_printing_Page_text κ a r r' s s' p q = held_same (p.1 ∙ sym q.1)
 
-pub single_printing_field : Single printing_field.Post (λ κ r s. r)
-single_printing_field κ a r r' s s' p q = place_same (p ∙ sym q)
+pub place_printing_Page_number : Single printing_Page_number.Post (λ κ r s. s.0.now.at)
+place_printing_Page_number κ a r r' s s' p q = place_same (p.1 ∙ sym q.1)
 
-pub held_printing_field : Single printing_field.Post (λ κ r s. s.0.now)
-held_printing_field κ a r r' s s' p q = held_same (p ∙ sym q)
+pub held_printing_Page_number : Single printing_Page_number.Post (λ κ r s. s.0.now.out.now)
+held_printing_Page_number κ a r r' s s' p q = held_same (p.1 ∙ sym q.1)
 
-pub single_printing_bytes : Single printing_bytes.Post (λ κ r s. r)
-single_printing_bytes κ a r r' s s' p q = place_same (p ∙ sym q)
+pub place_printing_Page_field : Single printing_Page_field.Post (λ κ r s. s.0.now.at)
+place_printing_Page_field κ a r r' s s' p q = place_same (p.1 ∙ sym q.1)
 
-pub held_printing_bytes : Single printing_bytes.Post (λ κ r s. s.0.now)
-held_printing_bytes κ a r r' s s' p q = held_same (p ∙ sym q)
+pub held_printing_Page_field : Single printing_Page_field.Post (λ κ r s. s.0.now.out.now)
+held_printing_Page_field κ a r r' s s' p q = held_same (p.1 ∙ sym q.1)
 
-pub single_printing_string : Single printing_string.Post (λ κ r s. r)
-single_printing_string κ a r r' s s' p q = place_same (p ∙ sym q)
+pub place_printing_Page_bytes : Single printing_Page_bytes.Post (λ κ r s. s.0.now.at)
+place_printing_Page_bytes κ a r r' s s' p q = place_same (p.1 ∙ sym q.1)
 
-pub held_printing_string : Single printing_string.Post (λ κ r s. s.0.now)
-held_printing_string κ a r r' s s' p q = held_same (p ∙ sym q)
+pub held_printing_Page_bytes : Single printing_Page_bytes.Post (λ κ r s. s.0.now.out.now)
+held_printing_Page_bytes κ a r r' s s' p q = held_same (p.1 ∙ sym q.1)
 
-pub single_printing_words : Single printing_words.Post (λ κ r s. r)
-single_printing_words κ a r r' s s' p q = place_same (p ∙ sym q)
+pub place_printing_Page_string : Single printing_Page_string.Post (λ κ r s. s.0.now.at)
+place_printing_Page_string κ a r r' s s' p q = place_same (p.1 ∙ sym q.1)
 
-pub held_printing_words : Single printing_words.Post (λ κ r s. s.0.now)
-held_printing_words κ a r r' s s' p q = held_same (p ∙ sym q)
+pub held_printing_Page_string : Single printing_Page_string.Post (λ κ r s. s.0.now.out.now)
+held_printing_Page_string κ a r r' s s' p q = held_same (p.1 ∙ sym q.1)
+
+pub place_printing_Page_words : Single printing_Page_words.Post (λ κ r s. s.0.now.at)
+place_printing_Page_words κ a r r' s s' p q = place_same (p.1 ∙ sym q.1)
+
+pub held_printing_Page_words : Single printing_Page_words.Post (λ κ r s. s.0.now.out.now)
+held_printing_Page_words κ a r r' s s' p q = held_same (p.1 ∙ sym q.1)
 
 pub single_reading_line_of : Single reading_line_of.Post (λ κ r s. r.now)
 single_reading_line_of κ a r r' s s' p q = p ∙ sym q

@@ -8,74 +8,80 @@ ghost use Rattle.speaking.specs.Speaking.{form_name, command_text, line_text, wh
 
 use framing::FrameRefusal;
 use reading::{Line, LineRefusal};
-use script::printing::{field, put, string, text};
+use script::printing::Page;
 use wire::Form;
 
 // The name of a form.
-fn form_name(form: Form, out: &mut [u8]) -> usize
-    ensures { page out.new result ≡ typed (page out.old 0) (form_name form) }
+fn form_name(line: &mut Page, form: Form)
+    ensures same_reference { line.new.out.ghost_name ≡ line.old.out.ghost_name }
+    ensures typed { page line.new.out.now line.new.at ≡ typed (page line.old.out.now line.old.at) (form_name form) }
 {
     match form {
-        Form::Raw => text(out, 0, b"form raw"),
-        Form::Ascii => text(out, 0, b"form ascii"),
+        Form::Raw => line.text(b"form raw"),
+        Form::Ascii => line.text(b"form ascii"),
     }
 }
 
 // A word, and a number behind it.
 #[tactic(auto, using(script::proofs::Turns::typed_append))]
-fn told(out: &mut [u8], what: &[u8], n: usize) -> usize
-    ensures { page out.new result ≡ typed (page out.old 0) (what.now ++ field_of 4 n) }
+fn told(line: &mut Page, what: &[u8], n: usize)
+    ensures same_reference { line.new.out.ghost_name ≡ line.old.out.ghost_name }
+    ensures typed { page line.new.out.now line.new.at ≡ typed (page line.old.out.now line.old.at) (what.now ++ field_of 4 n) }
 {
-    let at = text(out, 0, what);
-    field(out, at, n as u64, 4)
+    line.text(what);
+    line.field(n as u64, 4);
 }
 
 // A command's place, and its payload behind it.
 #[tactic(auto, using(script::proofs::Turns::typed_append), unfolding(script::specs::Printing::typed, crate::specs::Speaking::command_text))]
-fn command(out: &mut [u8], behind: usize, payload: &[u8]) -> usize
-    ensures { page out.new result ≡ typed (page out.old 0) (command_text behind payload.now) }
+fn command(line: &mut Page, behind: usize, payload: &[u8])
+    ensures same_reference { line.new.out.ghost_name ≡ line.old.out.ghost_name }
+    ensures typed { page line.new.out.now line.new.at ≡ typed (page line.old.out.now line.old.at) (command_text behind payload.now) }
 {
-    let at = told(out, b"command", behind);
-    string(out, at, payload)
+    told(line, b"command", behind);
+    line.string(payload);
 }
 
 // A form's name, and the place behind the switch to it.
 #[tactic(auto, using(script::proofs::Turns::typed_append))]
-fn switched(out: &mut [u8], form: Form, behind: usize) -> usize
-    ensures { page out.new result ≡ typed (page out.old 0) (form_name form ++ field_of 4 behind) }
+fn switched(line: &mut Page, form: Form, behind: usize)
+    ensures same_reference { line.new.out.ghost_name ≡ line.old.out.ghost_name }
+    ensures typed { page line.new.out.now line.new.at ≡ typed (page line.old.out.now line.old.at) (form_name form ++ field_of 4 behind) }
 {
-    let at = form_name(form, out);
-    field(out, at, behind as u64, 4)
+    form_name(line, form);
+    line.field(behind as u64, 4);
 }
 
 // What a read answers.
 #[tactic(auto, unfolding(crate::specs::Speaking::line_text))]
-fn answer(line: Result<Line, LineRefusal>, payload: &[u8], out: &mut [u8]) -> usize
-    ensures { page out.new result ≡ typed (page out.old 0) (line_text line payload.now) }
+fn answer(line: &mut Page, heard: Result<Line, LineRefusal>, payload: &[u8])
+    ensures same_reference { line.new.out.ghost_name ≡ line.old.out.ghost_name }
+    ensures typed { page line.new.out.now line.new.at ≡ typed (page line.old.out.now line.old.at) (line_text heard payload.now) }
 {
-    match line {
+    match heard {
         Ok(
             Line::Command {
                 start: _,
                 end: _,
                 behind,
             },
-        ) => command(out, behind, payload),
-        Ok(Line::Switch { form, behind }) => switched(out, form, behind),
-        Err(LineRefusal::NoFrame) => text(out, 0, b"refused 10"),
-        Err(LineRefusal::TooLong { behind }) => told(out, b"refused 11", behind),
-        Err(LineRefusal::NotOfForm { behind }) => told(out, b"refused 12", behind),
-        Err(LineRefusal::ScratchTooShort { behind }) => told(out, b"refused 13", behind),
+        ) => command(line, behind, payload),
+        Ok(Line::Switch { form, behind }) => switched(line, form, behind),
+        Err(LineRefusal::NoFrame) => line.text(b"refused 10"),
+        Err(LineRefusal::TooLong { behind }) => told(line, b"refused 11", behind),
+        Err(LineRefusal::NotOfForm { behind }) => told(line, b"refused 12", behind),
+        Err(LineRefusal::ScratchTooShort { behind }) => told(line, b"refused 13", behind),
     }
 }
 
 // A space, the whole of a lent buffer, and the line's end.
 #[tactic(auto, using(script::proofs::Turns::typed_append), unfolding(script::specs::Printing::typed))]
-fn whole(out: &mut [u8], start: usize, buffer: &[u8]) -> usize
-    ensures { page out.new result ≡ typed (page out.old start) (whole_text buffer.now) }
+fn whole(line: &mut Page, buffer: &[u8])
+    ensures same_reference { line.new.out.ghost_name ≡ line.old.out.ghost_name }
+    ensures typed { page line.new.out.now line.new.at ≡ typed (page line.old.out.now line.old.at) (whole_text buffer.now) }
 {
-    let at = string(out, start, buffer);
-    put(out, at, b'\n')
+    line.string(buffer);
+    line.put(b'\n');
 }
 
 // The line of a read of the text line.
@@ -88,18 +94,21 @@ pub fn heard(
 ) -> usize
     ensures { page out.new result ≡ typed (page out.old 0) (heard_line line payload.now scratch.now) }
 {
-    let at = answer(line, payload, out);
-    whole(out, at, scratch)
+    let mut page = Page::on(out);
+    answer(&mut page, line, payload);
+    whole(&mut page, scratch);
+    page.at
 }
 
 // What a framing answers.
 #[tactic(auto, unfolding(crate::specs::Speaking::framed_text))]
-fn framing(answer: Result<usize, FrameRefusal>, out: &mut [u8]) -> usize
-    ensures { page out.new result ≡ typed (page out.old 0) (framed_text answer) }
+fn framing(line: &mut Page, answer: Result<usize, FrameRefusal>)
+    ensures same_reference { line.new.out.ghost_name ≡ line.old.out.ghost_name }
+    ensures typed { page line.new.out.now line.new.at ≡ typed (page line.old.out.now line.old.at) (framed_text answer) }
 {
     match answer {
-        Ok(n) => told(out, b"written", n),
-        Err(FrameRefusal::OutputTooShort) => text(out, 0, b"refused 13"),
+        Ok(n) => told(line, b"written", n),
+        Err(FrameRefusal::OutputTooShort) => line.text(b"refused 13"),
     }
 }
 
@@ -108,8 +117,10 @@ fn framing(answer: Result<usize, FrameRefusal>, out: &mut [u8]) -> usize
 pub fn framed(answer: Result<usize, FrameRefusal>, buffer: &[u8], out: &mut [u8]) -> usize
     ensures { page out.new result ≡ typed (page out.old 0) (framed_line answer buffer.now) }
 {
-    let at = framing(answer, out);
-    whole(out, at, buffer)
+    let mut line = Page::on(out);
+    framing(&mut line, answer);
+    whole(&mut line, buffer);
+    line.at
 }
 
 // A buffer that nothing was written to.

@@ -6,7 +6,7 @@ ghost use Rattle.script.specs.Printing.{page, typed};
 ghost use Rattle.starting.specs.Starts.{start_text, store_of};
 
 use memory::Stored;
-use script::printing::text;
+use script::printing::Page;
 use state::StartRefusal;
 
 // What is stored: settings under a save count, or nothing.
@@ -24,8 +24,10 @@ pub fn store_of(stored: Option<u16>, image: &[u8]) -> Option<Stored>
 pub fn start_line(answer: Result<(), StartRefusal>, out: &mut [u8]) -> usize
     ensures { page out.new result ≡ typed (page out.old 0) (start_text answer) }
 {
+    let mut line = Page::on(out);
     match answer {
-        Ok(()) => text(out, 0, b"ok\n"),
-        Err(StartRefusal::ProfileBreaksARule) => text(out, 0, b"refused 8\n"),
+        Ok(()) => line.text(b"ok\n"),
+        Err(StartRefusal::ProfileBreaksARule) => line.text(b"refused 8\n"),
     }
+    line.at
 }

@@ -1,5 +1,5 @@
-// The lines of a transcript and the line of a refused sheet, put together in a buffer: each function answers the place
-// behind what it put there.
+// The lines of a transcript and the line of a refused sheet, each put together on a page: the functions that print one
+// answer how many characters they put into the lent buffer.
 #![tactic(auto)]
 
 ghost use Rattle.std.specs.Prelude.{◌≡◌, ◌∷◌, ◌<◌};
@@ -8,7 +8,7 @@ ghost use Rattle.wire.specs.Replies.{shown};
 ghost use Rattle.script.specs.Printing.{page, typed};
 ghost use Rattle.transcript.specs.Transcript.{digit_for, decimal, made_text, ticks_text, tick_text, refusal_text};
 
-use script::printing::{put, text};
+use script::printing::Page;
 use state::Board;
 use wire::Reply;
 
@@ -21,84 +21,96 @@ pub enum SheetRefusal {
 
 // The digit that a number has for a power of ten, where it reaches that far.
 // argued: called with powers of ten
-fn digit(out: &mut [u8], at: usize, n: u32, power: u32) -> usize
+#[tactic(auto, unfolding(script::specs::Printing::typed))]
+fn digit(line: &mut Page, n: u32, power: u32)
     requires { 0 < power }
-    ensures { page out.new result ≡ typed (page out.old at) (digit_for power n) }
+    ensures same_reference { line.new.out.ghost_name ≡ line.old.out.ghost_name }
+    ensures typed { page line.new.out.now line.new.at ≡ typed (page line.old.out.now line.old.at) (digit_for power n) }
 {
-    if n < power {
-        return at;
+    if power <= n {
+        line.put((n / power % 10) as u8 + 48);
     }
-    put(out, at, (n / power % 10) as u8 + 48)
 }
 
 // A number in decimal, without leading zeros.
-fn decimal(out: &mut [u8], at: usize, n: u32) -> usize
-    ensures { page out.new result ≡ typed (page out.old at) (decimal n) }
+fn decimal(line: &mut Page, n: u32)
+    ensures same_reference { line.new.out.ghost_name ≡ line.old.out.ghost_name }
+    ensures typed { page line.new.out.now line.new.at ≡ typed (page line.old.out.now line.old.at) (decimal n) }
 {
-    let mut place = at;
     let mut power: u32 = 1000000000;
     let mut left: u32 = 9;
     while 0 < left {
-        place = digit(out, place, n, power);
+        digit(line, n, power);
         power /= 10;
         left -= 1;
     }
-    put(out, place, (n % 10) as u8 + 48)
+    line.put((n % 10) as u8 + 48);
 }
 
 // A space and a set of channels as eight digits.
-fn set(out: &mut [u8], at: usize, channels: u32) -> usize
-    ensures { page out.new result ≡ typed (page out.old at) (32 ∷ word_text channels) }
+#[tactic(auto, unfolding(script::specs::Printing::typed))]
+fn set(line: &mut Page, channels: u32)
+    ensures same_reference { line.new.out.ghost_name ≡ line.old.out.ghost_name }
+    ensures typed { page line.new.out.now line.new.at ≡ typed (page line.old.out.now line.old.at) (32 ∷ word_text channels) }
 {
-    let place = put(out, at, 32);
-    let digits = hexadecimal::write_word(channels);
-    text(out, place, &digits)
+    line.put(b' ');
+    line.text(&hexadecimal::write_word(channels));
 }
 
 // The bytes that a reply shows, in ASCII form.
-fn reply(out: &mut [u8], at: usize, r: Reply) -> usize
-    ensures { page out.new result ≡ typed (page out.old at) (text_of (shown r)) }
+fn reply(line: &mut Page, r: Reply)
+    ensures same_reference { line.new.out.ghost_name ≡ line.old.out.ghost_name }
+    ensures typed { page line.new.out.now line.new.at ≡ typed (page line.old.out.now line.old.at) (text_of (shown r)) }
 {
     let bytes = r.bytes;
     let len = r.len;
     let mut digits = [0u8; 1024];
     let n = hexadecimal::write(wire::first(&bytes, len), &mut digits).unwrap();
-    text(out, at, wire::first(&digits, n))
+    line.text(wire::first(&digits, n));
 }
 
 // A space, and the reply made in a tick and still waiting, or `-`.
-fn made(out: &mut [u8], at: usize, replied: bool, r: Reply) -> usize
-    ensures { page out.new result ≡ typed (page out.old at) (made_text replied r) }
+#[tactic(auto, unfolding(script::specs::Printing::typed, crate::specs::Transcript::made_text))]
+fn made(line: &mut Page, replied: bool, r: Reply)
+    ensures same_reference { line.new.out.ghost_name ≡ line.old.out.ghost_name }
+    ensures typed { page line.new.out.now line.new.at ≡ typed (page line.old.out.now line.old.at) (made_text replied r) }
 {
-    let place = put(out, at, 32);
+    line.put(b' ');
     if replied {
-        return reply(out, place, r);
+        reply(line, r);
+    } else {
+        line.put(b'-');
     }
-    put(out, place, b'-')
 }
 
 // The first line of a transcript.
+#[tactic(auto, using(script::proofs::Turns::typed_append), unfolding(script::specs::Printing::typed, crate::specs::Transcript::ticks_text))]
 pub fn ticks_line(out: &mut [u8], ticks: u32) -> usize
     ensures { page out.new result ≡ typed (page out.old 0) (ticks_text ticks) }
 {
-    let mut at = text(out, 0, b"ticks ");
-    at = decimal(out, at, ticks);
-    put(out, at, 10)
+    let mut line = Page::on(out);
+    line.text(b"ticks ");
+    decimal(&mut line, ticks);
+    line.put(b'\n');
+    line.at
 }
 
 // The line of a tick, with its number.
+#[tactic(auto, using(script::proofs::Turns::typed_append), unfolding(script::specs::Printing::typed, crate::specs::Transcript::tick_text))]
 pub fn tick_line(out: &mut [u8], number: u32, replied: bool, b: Board) -> usize
     ensures { page out.new result ≡ typed (page out.old 0) (tick_text number replied b) }
 {
     let phase = b.phase;
     let c = b.channels;
-    let mut at = decimal(out, 0, number);
-    at = put(out, at, 32);
-    at = put(out, at, naming::mode_letter(phase.mode()));
-    at = set(out, at, c.on());
-    at = set(out, at, c.latched());
-    at = made(out, at, replied, b.reply);
-    put(out, at, 10)
+    let mut line = Page::on(out);
+    decimal(&mut line, number);
+    line.put(b' ');
+    line.put(naming::mode_letter(phase.mode()));
+    set(&mut line, c.on());
+    set(&mut line, c.latched());
+    made(&mut line, replied, b.reply);
+    line.put(b'\n');
+    line.at
 }
 
 // Prints the line of a refused sheet into the front of the lent buffer, and nothing for a session that runs. A buffer
@@ -107,9 +119,11 @@ pub fn tick_line(out: &mut [u8], number: u32, replied: bool, b: Board) -> usize
 pub fn refusal(answer: Result<(), SheetRefusal>, out: &mut [u8]) -> usize
     ensures { page out.new result ≡ typed (page out.old 0) (refusal_text answer) }
 {
+    let mut line = Page::on(out);
     match answer {
-        Ok(()) => 0,
-        Err(SheetRefusal::ProfileBreaksARule) => text(out, 0, b"refused 8\n"),
-        Err(SheetRefusal::NotOfForm) => text(out, 0, b"refused 14\n"),
+        Ok(()) => {}
+        Err(SheetRefusal::ProfileBreaksARule) => line.text(b"refused 8\n"),
+        Err(SheetRefusal::NotOfForm) => line.text(b"refused 14\n"),
     }
+    line.at
 }

@@ -7,7 +7,7 @@ ghost use Rattle.trial.specs.Lines.{ran_of};
 
 use handling::{Bench, Ran};
 use lines::Asked;
-use script::printing::text;
+use script::printing::Page;
 
 // Runs what a line asks for, with the bytes that it holds. A line that asks for nothing is bad, and before a machine
 // was started so is one that asks for anything but a start.
@@ -38,9 +38,13 @@ pub fn run(bench: Bench, asked: Option<Asked>, held: &[u8], out: &mut [u8]) -> R
             bench,
             printed: looking::looked(machine, look, out),
         },
-        _ => Ran {
-            bench,
-            printed: text(out, 0, b"bad\n"),
-        },
+        _ => {
+            let mut line = Page::on(out);
+            line.text(b"bad\n");
+            Ran {
+                bench,
+                printed: line.at,
+            }
+        }
     }
 }

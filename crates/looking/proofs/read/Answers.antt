@@ -1,7 +1,6 @@
--- The bytes that were lent, and the line's end behind them. Assumes nothing.
+-- The bytes that were lent are what is found. Assumes nothing.
 use Rattle.std.proofs.Common.{sym, ap, ◌∙◌}
 use Rattle.wire.specs.Replies.{found}
-use Rattle.script.proofs.Turns.{typed_append}
 use Rattle.speaking.proofs.Fronts.{lent}
 use Rattle.looking.specs.Looking.{read_line}
 use Rattle.looking.proofs.read.Goals as goal
@@ -11,4 +10,4 @@ unfolding read_line
 returns c =
     let n = lent c.within.result c.args.count c.untouched-buffer.result c.within.ensures c.untouched-buffer.ensures in
     let e = c.bus_read.ensures ∙ ap (found c.args.m.board.reply) (sym n ∙ c.within.ensures) in
-    rw (c.put.ensures, c.bytes-at.ensures, e) (simp typed_append)
+    rw (c.bytes_line.ensures, e)

@@ -1,16 +1,15 @@
 -- The digits that are left, put behind what stands on the page now. Assumes nothing.
 use Prim.Native.Nat.{◌^◌}
 use mathlib.Core.Path.{◌≡◌}
-use lib.ListN.{length}
 use Rattle.script.specs.Printing.{page, typed}
 use Rattle.transcript.specs.Transcript.{digits_for}
 use Rattle.transcript.proofs.decimal.Given as goal
 
 abbrev pub invariant-loop-left : goal.invariant-loop-left
 invariant-loop-left l = record {
-  kept : length l.out ≡ length l.initial.out;
+  same : l.line.out.ghost_name ≡ l.initial.line.out.ghost_name;
   tens : l.power ≡ 10 ^ l.left;
-  same : typed (page l.out l.place) (digits_for l.left l.n) ≡ typed (page l.initial.out l.at) (digits_for 9 l.n);
+  digits : typed (page l.line.out.now l.line.at) (digits_for l.left l.n) ≡ typed (page l.initial.line.out.now l.initial.line.at) (digits_for 9 l.n);
 }
 
 abbrev pub decreases-loop-left : goal.decreases-loop-left

@@ -16,12 +16,12 @@ unwrap-n-requires c =
     let told = rw c.first.ensures at c.write.ensures.answer in
     rw told (digits_fit (take a.r.len a.r.bytes) (replicate 1024 0) (shown_short a.r.len a.r.bytes whole) (length-replicate {A = ℕ} 1024 0))
 
-pub returns : goal.returns
+pub returns-clause-typed : goal.returns-clause-typed
 unfolding shown
-returns c =
+returns-clause-typed c =
     let a = c.args in
     let whole : length a.r.bytes ≡ 274 = search rules in
     let told = rw c.first.ensures at c.write.ensures.answer in
     let held = rw c.first.ensures at c.write.ensures.held in
     let shown_bytes = digits_written (take a.r.len a.r.bytes) (replicate 1024 0) (shown_short a.r.len a.r.bytes whole) (length-replicate {A = ℕ} 1024 0) _ (sym told ∙ c.unwrap-n.ensures) in
-    rw (c.text.ensures, c.first-2.ensures, held) (ap (typed (page a.out.now a.at)) shown_bytes)
+    rw (c.text.ensures.typed, c.first-2.ensures, held) (ap (typed (page a.line.now.out.now a.line.now.at)) shown_bytes)
