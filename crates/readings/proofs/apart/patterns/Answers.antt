@@ -12,13 +12,13 @@ use Rattle.readings.proofs.Filling.{begun, turn, ended}
 use Rattle.readings.proofs.apart.patterns.Goals as goal
 
 pub loop-i-init : goal.loop-i-init
-unfolding engineering_words
+unfolding engineering_words pattern
 loop-i-init c =
     let l : length c.args.readings ≡ 122 = search rules in
     (l, begun 122 (replicate 122 0) (engineering_words c.args.readings) (length-map c.args.readings (λ (r : Engineering). pattern 2 r.0) ∙ l) (length-replicate {A = ℕ} 122 0))
 
 pub loop-i-preserved : goal.loop-i-preserved
-unfolding engineering_words
+unfolding engineering_words pattern
 loop-i-preserved c =
     let readings = c.args.readings in
     let none : Engineering = record { 0 = pos 0 } in
