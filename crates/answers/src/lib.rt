@@ -12,6 +12,7 @@ pub use parameters::{cause_number, value_read};
 use state::{Board, Profile};
 
 // What a transfer is answered.
+// Kept: eight answers that document 01 numbers, each with its status; that a command is accepted is one of them.
 #[derive(Clone, Copy)]
 pub enum Answer {
     Accepted,
@@ -26,6 +27,7 @@ pub enum Answer {
 
 // What a tick tells of its transfer: that the words lent are neither none nor all, so that the tick did not happen;
 // that there was no transfer; or its answer.
+// Kept: three things that a tick can tell; a Result of an Option would name none of them.
 #[derive(Clone, Copy)]
 pub enum Outcome {
     WrongWordCount,
@@ -34,6 +36,7 @@ pub enum Outcome {
 }
 
 // The board after its command, what the tick tells of it, and whether a reply was made.
+// Kept: `replied` has no value beside it; the reply is laid in the board's buffer, where it waits.
 #[derive(Clone, Copy)]
 pub struct Commanded {
     pub board: Board,
@@ -71,6 +74,7 @@ pub fn header(p: Profile) -> Header
 }
 
 // The status code of an answer; 0 stands for the two that make no reply, and is never sent.
+// Kept: a row of document 01's table for each answer, of which two have no status, so that they have no numbers.
 pub fn stat(answer: Answer) -> u8
     ensures { result ≡ stat_of answer }
 {

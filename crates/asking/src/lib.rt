@@ -48,6 +48,7 @@ fn refused_by(r: Refusal) -> Asked
 }
 
 // What a transfer asks of a board of a kind and a BID in a mode; where none was sent, nothing.
+// Kept: kind and BID are parts of a profile, and a transfer is decoded by them alone, whatever channels are fitted.
 pub fn asked_of(kind: Kind, bid: u8, mode: Mode, transfer: Option<&[u8]>) -> Asked
     ensures value { result ≡ asked_of kind bid mode (is_sent transfer.entry) (bytes_sent transfer.entry) }
     ensures number { asked_number result ≡ number_asked kind bid mode (is_sent transfer.entry) (bytes_sent transfer.entry) }

@@ -21,6 +21,7 @@ use watchdog::Event;
 
 // The board after a tick, what the tick tells of its transfer, what the watchdog did, and whether the tick made a reply
 // that is still there.
+// Kept: `replied` has no value beside it; the reply waits in the board.
 #[derive(Clone, Copy)]
 pub struct Ticked {
     pub board: Board,
@@ -39,6 +40,7 @@ struct Settled {
 }
 
 // The channels after the mode went from one to another, or stayed, and then each named one that is on tripped.
+// Kept: the mode before and the mode after stand side by side, here and in `change`, as the table names them.
 fn channels_after(before: Mode, after: Mode, p: Profile, c: Channels, named: u32) -> Channels
     ensures { result ≡ overcurrent_at named (entering_of before after p c) }
 {
@@ -99,6 +101,7 @@ fn brought(words: &[u16]) -> Measured
 }
 
 // What a tick tells that looks at no transfer: that there was none, or that its words are refused.
+// Kept: it and `unit::due_by` have one shape and nothing in common: what is told, and what the text line has to say.
 fn untold(happens: bool) -> Outcome
     ensures { result ≡ cond happens NoTransfer WrongWordCount }
 {
@@ -110,6 +113,7 @@ fn untold(happens: bool) -> Outcome
 }
 
 // Whether a transfer is looked at: one that is there, in a tick that happens.
+// Kept: `happens` says of the tick that it is not refused, here and in `watch`; no value stands beside it.
 fn is_heard(happens: bool, transfer: Option<&[u8]>) -> bool
     ensures { result ≡ (happens && is_sent transfer.entry) }
 {

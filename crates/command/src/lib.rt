@@ -67,6 +67,7 @@ struct Listed {
 // How a reply is laid out, by what it tells: nothing more than its 5 bytes, the overcurrent faults, the measured words
 // as raw readings, a parameter, or the measured words as engineering readings; and of a battery board whether its ABF
 // is placed, and its measured words as raw and as engineering readings.
+// Kept: eight layouts, of which one carries an id; none is the lack of another.
 #[derive(Clone, Copy)]
 pub enum Layout {
     Short,
@@ -82,6 +83,7 @@ pub enum Layout {
 // A command with what it carries: a group, a channel, a parameter's id, an id and a value, or a checksum. The commands
 // that change neither mode, channels nor memory are one case with the layout of their reply: 0x02, 0x06, 0x42, 0x44,
 // 0x82, and 0x50, 0x52, 0x60 and 0x62, each of which ends its own NEW besides.
+// Kept: a case for each command with what it carries, which document 01 names as the form.
 #[derive(Clone, Copy)]
 pub enum Command {
     SystemReset,
@@ -326,6 +328,7 @@ fn by_list(entry: Option<Listed>, transfer: &[u8]) -> Result<Command, Refusal>
 }
 
 // What a transfer is to a board of a kind and a BID that is in startup or not: the first check that applies answers.
+// Kept: `in_startup` is one of the checks, by which a transfer is refused; the decoder knows no more of a mode.
 pub fn decode(kind: Kind, bid: u8, in_startup: bool, transfer: &[u8]) -> Result<Command, Refusal>
     ensures value { result ≡ decode_of kind bid in_startup transfer.now }
     ensures number { decoded_number result ≡ first (checks kind bid (mode_alone in_startup) transfer.now) }

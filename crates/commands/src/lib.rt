@@ -39,6 +39,7 @@ fn refused(b: Board, answer: Answer) -> Obeyed
 }
 
 // Where no reply is made nothing has changed.
+// Kept: the parts come out of a board into parts of another type, so that no struct update serves.
 fn silent(b: Board, outcome: Outcome) -> Obeyed
     ensures { result ≡ obeyed_in (silent_of outcome b) }
 {
@@ -53,6 +54,7 @@ fn silent(b: Board, outcome: Outcome) -> Obeyed
 }
 
 // What a transfer leaves of mode, timer, channels and words, and what is told of it.
+// Kept: the rail and the limits stand apart, as the rules compare the one with the other.
 fn obeyed(b: Board, rail: i16, limits: Limits, asked: Asked) -> Obeyed
     ensures { result ≡ obeyed_in (asked_in rail limits any_code asked b) }
 {
@@ -64,6 +66,7 @@ fn obeyed(b: Board, rail: i16, limits: Limits, asked: Asked) -> Obeyed
 }
 
 // How the reply to what was asked is laid out.
+// Kept: it and `memory_change` ask two things of a command, each by its own function of `effects`.
 fn layout(asked: Asked) -> Layout
     ensures { result ≡ layout_asked asked }
 {

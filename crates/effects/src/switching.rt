@@ -28,6 +28,7 @@ fn switched(b: Board, right: bool, channels: Channels) -> Obeyed
 }
 
 // 0x10 group on.
+// Kept: a board and a group stand side by side in three commands; the one is changed by the other.
 pub fn group_on(b: Board, g: Group) -> Obeyed
     ensures { result ≡ obeyed_in (group_on_of any_code g b) }
 {

@@ -15,6 +15,7 @@ use hexadecimal::WriteRefusal;
 use wire::Form;
 
 // What the text line has to say: nothing, the reply, or the echo of a switch to a form.
+// Kept: three things that the text line has to say, each framed in its own way.
 #[derive(Clone, Copy)]
 pub enum Due {
     Nothing,
@@ -38,6 +39,8 @@ impl From<WriteRefusal> for FrameRefusal {
 
 // A text, at a place of a buffer.
 // argued: called where the room was looked at before
+// Kept: what is written and the buffer that it is lent stand side by side, as a struct of them would be one lending
+// only.
 fn lay(out: &mut [u8], at: usize, text: &[u8])
     requires { at + length text.now ≤ length out.old }
     ensures { out.new ≡ sets out.old at text.now }

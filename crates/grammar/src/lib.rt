@@ -15,6 +15,8 @@ pub struct Found<T> {
 }
 
 // The byte at a place, where it is not past the end.
+// Kept: a text and a place in it are two parameters, as the parsers of the grammar take them: a session keeps the place
+// and is lent the text anew at each step.
 #[tactic(auto, unfolding(crate::specs::Grammar::peek_at))]
 pub fn peek(s: &[u8], at: usize) -> Option<u8>
     ensures is { peeked result ≡ peek_at s.now at }

@@ -22,6 +22,7 @@ pub fn digit(x: u8) -> Option<u8>
 }
 
 // The byte that a pair of digits spells, the upper digit first.
+// Kept: two digits are two bytes of a text; nothing else is made of both.
 #[tactic(auto, unfolding(crate::specs::Hex::pair_of))]
 pub fn pair(a: u8, b: u8) -> Option<u8>
     ensures { result ≡ pair_of a b }

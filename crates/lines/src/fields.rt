@@ -81,6 +81,7 @@ pub fn stored_start(board: Option<Named>, behind: &[u8], end: Tail) -> Option<As
 }
 
 // At most 512 words for the next tick: as many as the line says, two bytes each.
+// Kept: the line and its tail are read by the letter; a struct of the two would be taken apart at once.
 #[tactic(auto, unfolding(crate::specs::Lines::lend_in))]
 pub fn lend(line: &[u8], end: Tail) -> Option<Asked>
     ensures { result ≡ lend_in line.now (string_length end) }

@@ -54,6 +54,7 @@ pub enum Asked {
 }
 
 // What a line asks for that changes nothing: a bus read, a framing, or the state.
+// Kept: three things to look at, each with its own answer.
 #[derive(Clone, Copy)]
 pub enum Look {
     Read { count: usize },

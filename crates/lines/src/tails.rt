@@ -7,6 +7,7 @@ ghost use Rattle.lines.specs.Tails.{sign_of, tail_of, string_length, sent_by};
 use script::reading::pairs;
 
 // What stands behind a line's fields.
+// Kept: four tails that a line can have; which of them it may have goes by its letter.
 #[derive(Clone, Copy)]
 pub enum Tail {
     Absent,

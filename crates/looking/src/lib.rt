@@ -33,6 +33,7 @@ fn read(m: Machine, count: usize, out: &mut [u8]) -> usize
 }
 
 // What a read of the text line prints.
+// Kept: what was received and the scratch buffer are lent side by side; the payload is a part of one of them.
 #[tactic(auto, unfolding(crate::specs::Looking::answer_line))]
 pub fn answer<'a>(
     m: Machine,

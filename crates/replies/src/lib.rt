@@ -62,6 +62,7 @@ impl Head {
     }
 
     // The reply of 0x42: the channel words, then the overcurrent count of each channel.
+    // Kept: the sets of the channels on and latched stand apart, as in the page's two words each.
     pub fn faults(self, on: u32, latched: u32, counts: [u16; 32]) -> Reply
         ensures { result ≡ reply_of (faults_reply self.board self.code self.stat on latched counts) }
     {

@@ -23,6 +23,7 @@ pub struct Settings {
 }
 
 // What an id is: a parameter of Table 3-25, one of Table 3-26, or none.
+// Kept: an id is of one table, of another, or of none, and each is answered in its own way; so in the two below.
 #[derive(Clone, Copy)]
 pub enum Parameter {
     ReadWrite(ValueType),

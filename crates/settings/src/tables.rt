@@ -1,6 +1,7 @@
 // The defaults of Table 3-25: an array for each type, from the lowest id of the type on.
 
 // Defaults of 0x6000 to 0x6005, by the kind of board.
+// Kept: three arrays of one length, of which a kind of board has one; they are no columns of one table.
 pub const DISTRIBUTION_DEFAULT: [u32; 6] = [0, 0, 0x00000111, 0x11111222, 0x00000111, 0x11111222];
 
 pub const BATTERY_DEFAULT: [u32; 6] = [0; 6];

@@ -39,6 +39,7 @@ pub struct Resets {
 }
 
 // Whether the measured words are still new, brought and not yet told: as raw readings, and as engineering readings.
+// Kept: two truth values, each of one of the two kinds of reading, which are told apart.
 #[derive(Clone, Copy)]
 pub struct Fresh {
     pub raw: bool,
@@ -80,6 +81,7 @@ pub fn distribution(bid: u8, fitted: u32, forced: u32) -> Profile
 }
 
 // The profile of a battery board, which fits no channel, with whether its ABF is placed. It names no form either.
+// Kept: whether the ABF is placed is told of a profile and is no value's being there.
 pub fn battery(bid: u8, abf: bool) -> Profile
     ensures { result ≡ battery_board bid abf }
 {

@@ -35,6 +35,7 @@ fn never_reset() -> Resets
 }
 
 // A board in startup, which holds nothing from before but its profile, its store and its resets.
+// Kept: a profile and what is stored stand side by side where a board starts, as a bench hands them in.
 #[tactic(auto, unfolding(crate::specs::Start::fresh_of))]
 fn fresh(profile: Profile, store: Option<Stored>, resets: Resets) -> Board
     ensures { result ≡ fresh_of profile store resets }
@@ -133,6 +134,7 @@ pub fn start(there: Board, profile: Profile, store: Option<Stored>) -> Started
 }
 
 // The counts and the cause after a reset by the watchdog.
+// Kept: each reset counts another field, which no parameter can name; so below, and where emergency is left.
 #[tactic(auto, unfolding(crate::specs::Start::by_watchdog))]
 fn by_watchdog(r: Resets) -> Resets
     ensures { result ≡ by_watchdog r }
@@ -157,6 +159,7 @@ fn by_command(r: Resets) -> Resets
 }
 
 // The board after its watchdog reset it.
+// Kept: it and `command_reset` differ in what they count, and are called by two rules.
 #[tactic(auto, unfolding(crate::specs::Start::watchdog_reset_of))]
 pub fn watchdog_reset(b: Board) -> Board
     ensures { result ≡ watchdog_reset_of b }

@@ -40,6 +40,7 @@ pub struct Begun {
 // The machine after a tick, what the tick tells of its transfer, what the watchdog did, and whether the tick made a
 // reply that is still there. After a tick that was refused none was made in it, and the machine still has to say what
 // it had to say before.
+// Kept: `replied` has no value beside it; the reply waits in the machine's board.
 #[derive(Clone, Copy)]
 pub struct Told {
     pub machine: Machine,

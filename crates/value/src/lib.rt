@@ -39,6 +39,7 @@ pub enum ParamValue {
 }
 
 // A value's bytes: the first `len` of them, the rest 0.
+// Kept: an array with a length beside it, since the board has no heap and the bytes behind the length are 0.
 #[derive(Clone, Copy)]
 pub struct ValueBytes {
     pub len: usize,
