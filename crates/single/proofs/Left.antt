@@ -37,13 +37,14 @@ ran_in (shown bench (page held at)) = record { bench = bench; printed = at }
 abbrev ran_held : Shown → List ℕ
 ran_held (shown bench (page held at)) = held
 
+module _ (held held' : List ℕ) (r r' : Result Stepped SheetRefusal) (e : opened r held ≡ opened r' held') where
+  pub opened_same : r ≡ r'
+  opened_same = sym (opened_back r held) ∙ ap opened_in e ∙ opened_back r' held'
+
+  pub opened_held : held ≡ held'
+  opened_held = sym (held_back r held) ∙ ap open_held e ∙ held_back r' held'
+
 module _ {held held' : List ℕ} where
-  pub opened_same : (r r' : Result Stepped SheetRefusal) → opened r held ≡ opened r' held' → r ≡ r'
-  opened_same r r' e = sym (opened_back r held) ∙ ap opened_in e ∙ opened_back r' held'
-
-  pub opened_held : (r r' : Result Stepped SheetRefusal) → opened r held ≡ opened r' held' → held ≡ held'
-  opened_held r r' e = sym (held_back r held) ∙ ap open_held e ∙ held_back r' held'
-
   pub stepped_same : (r r' : Stepped) → stepped r held ≡ stepped r' held' → r ≡ r'
   stepped_same r r' e = ap stepped_in e
 
