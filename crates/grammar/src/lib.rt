@@ -2,7 +2,7 @@
 // is read.
 #![tactic(auto)]
 
-ghost use Rattle.std.specs.Prelude.{◌≡◌, ◌<◌, ◌≤◌, length, IsSome, IfSome};
+ghost use Rattle.std.specs.Prelude.{slice_get, ◌≡◌, ◌<◌, ◌≤◌, length, IsSome, IfSome};
 ghost use Rattle.grammar.specs.Grammar.{peek_at, text, up_to};
 ghost use Rattle.grammar.specs.Numbers.{digit_at, number, signed, word};
 ghost use Rattle.grammar.specs.Views.{peeked, counted, seen_next, seen, seen_line, Lies, answer_refusal, refusal_of};
@@ -19,6 +19,7 @@ pub struct Found<T> {
 // and is lent the text anew at each step.
 #[tactic(auto, unfolding(crate::specs::Grammar::peek_at))]
 pub fn peek(s: &[u8], at: usize) -> Option<u8>
+    ensures byte { result ≡ slice_get s.now at }
     ensures is { peeked result ≡ peek_at s.now at }
     ensures small { peeked result ≤ 256 }
     ensures inside { peeked result < 256 → at < length s.now }

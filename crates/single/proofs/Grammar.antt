@@ -1,7 +1,6 @@
 -- Texts read from a place on. Assumes nothing.
 use mathlib.Core.Path.{sym, ◌∙◌}
 use Rattle.single.specs.Single.{Single}
-use Rattle.grammar.specs.Views.{peeked}
 use Rattle.single.proofs.Seen.{same_found, same_line, same_next}
 use Rattle.grammar.proofs.peek.Reads as peek
 use Rattle.grammar.proofs.literal.Reads as literal
@@ -10,8 +9,7 @@ use Rattle.grammar.proofs.read_number.Reads as read_number
 use Rattle.grammar.proofs.read_signed.Reads as read_signed
 use Rattle.grammar.proofs.read_word.Reads as read_word
 
--- a byte is below 256, so this is the whole answer
-pub single_peek : Single peek.Post (λ κ r s. peeked r)
+pub single_peek : Single peek.Post (λ κ r s. r)
 single_peek κ a r r' s s' p q = p.0 ∙ sym q.0
 
 pub single_literal : Single literal.Post (λ κ r s. r)
