@@ -38,11 +38,9 @@ fn decimal(line: &mut Page, n: u32)
     ensures typed { page line.new.out.now line.new.at ≡ typed (page line.old.out.now line.old.at) (decimal n) }
 {
     let mut power: u32 = 1000000000;
-    let mut left: u32 = 9;
-    while 0 < left {
+    for _ in 0..9u32 {
         digit(line, n, power);
         power /= 10;
-        left -= 1;
     }
     line.put((n % 10) as u8 + 48);
 }
