@@ -68,6 +68,7 @@ fn decimal(s: &[u8], at: usize) -> Option<u64>
 
 // A decimal number of at most limit. Reading stops once the limit is passed, so that any count of digits may come and
 // nothing overflows.
+// Kept: reading ends where no digit stands, or past the limit; that is a `while let`, and no count of turns.
 pub fn read_number(s: &[u8], at: usize, limit: u32) -> Option<Found<u32>>
     ensures is { seen result ≡ number limit s.now at }
     ensures number { answer_refusal result ≡ refusal_of (number limit s.now at) }

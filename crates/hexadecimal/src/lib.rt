@@ -41,6 +41,7 @@ fn value(a: u8, b: u8) -> u8
 
 // How many pairs a text has, where it is of the form. This first pass touches no buffer, so that a refusal leaves every
 // buffer as it was.
+// Kept: a loop, since it takes the text apart by patterns; it counts the pairs, and no place.
 fn count(text: &[u8]) -> Option<usize>
     ensures { result ≡ form_of 0 (payload_of text.now) }
 {

@@ -9,8 +9,8 @@ ghost use Rattle.std.specs.Io.KnownBytes.{Consumes};
 
 use std::io::Read;
 
-// Reads until the room is full or the input ends, and answers how many bytes came, which are the input's next ones; what
-// cannot be read is the end.
+// Reads until the room is full or the input ends, and answers how many bytes came, which are the input's next ones;
+// what cannot be read is the end.
 // Kept: once more in `bench`, as in a library it would be the one function whose contract allows two answers to one
 // input, which `single` excludes: what an input brings next, and where a read of it fails, is not among the arguments.
 fn read_full<R: Read>(input: &mut R, room: &mut [u8]) -> usize

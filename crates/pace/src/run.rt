@@ -40,9 +40,9 @@ fn closed(digest: u32, m: Machine) -> u32 {
     pattern::all_taken(d, &[b.memory.shown.save_count, b.memory.shown.checksum])
 }
 
-// The digest of a run. The ticks that wake the board run at the same place as the others: `unit::tick` is called once in
-// the program, so that the compiler lays it into the loop.
-// argued: an instrument; its digest is compared with the second program's
+// The digest of a run. The ticks that wake the board run at the same place as the others: `unit::tick` is called once
+// in the program, so that the compiler lays it into the loop. argued: an instrument; its digest is compared with the
+// second program's
 pub fn digest_of(run: Run) -> u32 {
     let mut m = started();
     let mut words = pattern::first_words();

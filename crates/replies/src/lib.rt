@@ -70,8 +70,8 @@ impl Head {
         self.longer().append_words(&four).append_words(&counts)
     }
 
-    // The reply of 0x50, of raw readings and of nothing else: the first five of those that count, the channel words, then
-    // the others.
+    // The reply of 0x50, of raw readings and of nothing else: the first five of those that count, the channel words,
+    // then the others.
     pub fn raw_housekeeping(self, on: u32, latched: u32, raws: [Raw; 130], count: usize) -> Reply
         ensures { result ≡ reply_of (housekeeping_reply self.board self.code self.stat on latched (take count (raw_words raws))) }
     {

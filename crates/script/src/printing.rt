@@ -58,6 +58,7 @@ impl<'a> Page<'a> {
     }
 
     // A number of some digits.
+    // Kept: a number and how many of its digits are printed stand side by side, as each call has another of both.
     pub fn number(&mut self, n: u64, digits: usize)
         ensures same_reference { self.new.out.ghost_name ≡ self.old.out.ghost_name }
         ensures typed { page self.new.out.now self.new.at ≡ typed (page self.old.out.now self.old.at) (digits_of digits n) }
@@ -100,8 +101,8 @@ impl<'a> Page<'a> {
     }
 
     // A space and words.
-    // Kept: a loop of its own beside that of bytes, since one over both types needs a trait for the two, and a definition
-    // by it, where each loop is one line.
+    // Kept: a loop of its own beside that of bytes, since one over both types needs a trait for the two, and a
+    // definition by it, where each loop is one line.
     pub fn words(&mut self, ws: &[u16])
         ensures same_reference { self.new.out.ghost_name ≡ self.old.out.ghost_name }
         ensures typed { page self.new.out.now self.new.at ≡ typed (page self.old.out.now self.old.at) (32 ∷ row 4 ws.now) }

@@ -3,7 +3,8 @@ ghost use Rattle.std.specs.Prelude.{◌≡◌, eqb, length, get_or, take, drop};
 ghost use Rattle.std.proofs.lemmas.List.Edits.{sets};
 ghost use Rattle.script.specs.Reading.{line_of, field_of, count_of, sound, words_of};
 
-// The line that was collected, as far as the buffer was filled; one that was too long counts as empty, which is bad too.
+// The line that was collected, as far as the buffer was filled; one that was too long counts as empty, which is bad
+// too.
 pub fn line_of(line: &[u8], filled: Option<usize>) -> &[u8]
     ensures { result.now ≡ line_of line.now filled }
 {
