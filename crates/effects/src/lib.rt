@@ -75,7 +75,7 @@ fn housekeeping(b: Board) -> Obeyed
 }
 
 // 0x52, and 0x62 on a battery board: the measured words are no longer new as engineering readings.
-// Kept: this and the one above differ in the field that they clear, which no parameter can name.
+// Kept: this and the one above are three lines each, and differ in the field that they clear.
 fn engineering_housekeeping(b: Board) -> Obeyed
     ensures { result ≡ obeyed_in (engineering_housekeeping_of any_code b) }
 {

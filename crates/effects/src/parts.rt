@@ -20,7 +20,8 @@ pub struct Obeyed {
 }
 
 // What a command does to the settings and to what is stored of them; a restart loads them with all else.
-// Kept: seven things that can happen, of which the board does each in its own way; none is the lack of another.
+// Kept: `AsBefore` is no lack alone: a restart, too, alters nothing here, and the two are told apart where the board
+// starts over.
 #[derive(Clone, Copy)]
 pub enum MemoryChange {
     AsBefore,

@@ -15,7 +15,7 @@ use hexadecimal::WriteRefusal;
 use wire::Form;
 
 // What the text line has to say: nothing, the reply, or the echo of a switch to a form.
-// Kept: three things that the text line has to say, each framed in its own way.
+// Kept: `Machine` is what a bench keeps, and theorems that docs/CLAIMS.md names speak of `Nothing`.
 #[derive(Clone, Copy)]
 pub enum Due {
     Nothing,

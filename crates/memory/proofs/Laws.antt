@@ -152,8 +152,8 @@ module _ (given : ℕ) (m : Memory) where
   unfolding saved_of
   wrong_refused h = rw h
 
-  pub wrong_leaves : is_right given m ≡ false → after_save (saved_of given m) m ≡ m
-  wrong_leaves h = rw (wrong_refused h)
+  pub wrong_leaves : is_right given m ≡ false → (saved_of given m ≡ Err WrongChecksum) × (after_save (saved_of given m) m ≡ m)
+  wrong_leaves h = (wrong_refused h, rw (wrong_refused h))
 
   -- what holds of the memory and of one that stores its settings holds after a save
   saved_by : (P : Memory → Type 0) → P (storing (one_more (stored_count m.store)) m.current) → P m → P (after_save (saved_of given m) m)

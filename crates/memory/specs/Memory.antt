@@ -80,6 +80,11 @@ storing count s = record { current = s; store = Some (record { settings = s; sav
 unfoldable pub saved_of : ℕ → Memory → Result Memory SaveRefusal
 saved_of given m = cond (is_right given m) (Ok (storing (one_more (stored_count m.store)) m.current)) (Err WrongChecksum)
 
+-- document 01's number of what a save answers: a wrong checksum is 7, and 0 is none
+abbrev pub save_number : Result Memory SaveRefusal → ℕ
+save_number (Ok saved) = 0
+save_number (Err WrongChecksum) = 7
+
 -- the memory after a save: a refused one leaves all as it was
 abbrev pub after_save : Result Memory SaveRefusal → Memory → Memory
 after_save (Ok saved) m = saved

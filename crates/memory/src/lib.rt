@@ -1,8 +1,8 @@
 // What a board keeps of its settings: those in force, what it shows of the last save or load, and its store.
 #![tactic(auto)]
 
-ghost use Rattle.std.specs.Prelude.{◌≡◌};
-ghost use Rattle.memory.specs.Memory.{one_more, loaded_from, load_of, defaulted_of, set_in, reset_in, stored_count, saved_of};
+ghost use Rattle.std.specs.Prelude.{◌≡◌, cond};
+ghost use Rattle.memory.specs.Memory.{one_more, loaded_from, load_of, defaulted_of, set_in, reset_in, stored_count, is_right, saved_of, save_number};
 ghost use Rattle.memory.specs.Limits.{safety_low, safety_high, timeout_of, limits_of};
 
 use kinds::Kind;
@@ -126,7 +126,8 @@ impl Memory {
 
     // 0x94: the settings in force are stored, where the checksum given is 0 or theirs.
     pub fn save(self, given: u16) -> Result<Memory, SaveRefusal>
-        ensures { result ≡ saved_of given self }
+        ensures value { result ≡ saved_of given self }
+        ensures number { save_number result ≡ cond (is_right given self) 0 7 }
     {
         let current = self.current;
         let checksum = image::checksum(current);

@@ -41,8 +41,8 @@ fn closed(digest: u32, m: Machine) -> u32 {
 }
 
 // The digest of a run. The ticks that wake the board run at the same place as the others: `unit::tick` is called once
-// in the program, so that the compiler lays it into the loop. argued: an instrument; its digest is compared with the
-// second program's
+// in the program, so that the compiler lays it into the loop.
+// argued: an instrument; its digest is compared with the second program's
 pub fn digest_of(run: Run) -> u32 {
     let mut m = started();
     let mut words = pattern::first_words();

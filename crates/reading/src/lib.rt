@@ -115,8 +115,7 @@ pub fn read(form: Form, received: &[u8], scratch: &mut [u8]) -> Result<Line, Lin
 }
 
 // The bytes from start up to end, as far as they are there.
-// Kept: two ends of any size, which a caller may hand in the wrong order, where it is cut to nothing; no range has
-// that.
+// Kept: README's table has `payload(m, received, scratch, start, end)`, and any two ends are answered.
 #[tactic(auto, unfolding(crate::specs::Lines::part))]
 fn part(s: &[u8], start: usize, end: usize) -> &[u8]
     ensures { result.now ≡ part start end s.now }

@@ -32,7 +32,7 @@ pub single_memory_reset_one : Single memory_reset_one.Post (λ κ r s. r)
 single_memory_reset_one κ a r r' s s' p q = p ∙ sym q
 
 pub single_memory_save : Single memory_save.Post (λ κ r s. r)
-single_memory_save κ a r r' s s' p q = p ∙ sym q
+single_memory_save κ a r r' s s' p q = p.0 ∙ sym q.0
 
 pub single_memory_safety_low : Single memory_safety_low.Post (λ κ r s. r)
 single_memory_safety_low κ a r r' s s' p q = p ∙ sym q

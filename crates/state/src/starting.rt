@@ -134,7 +134,7 @@ pub fn start(there: Board, profile: Profile, store: Option<Stored>) -> Started
 }
 
 // The counts and the cause after a reset by the watchdog.
-// Kept: each reset counts another field, which no parameter can name; so below, and where emergency is left.
+// Kept: a function of the cause would be a `match` of three arms, as long as the three.
 #[tactic(auto, unfolding(crate::specs::Start::by_watchdog))]
 fn by_watchdog(r: Resets) -> Resets
     ensures { result ≡ by_watchdog r }
@@ -159,7 +159,7 @@ fn by_command(r: Resets) -> Resets
 }
 
 // The board after its watchdog reset it.
-// Kept: it and `command_reset` differ in what they count, and are called by two rules.
+// Kept: two lines each, which two rules of other crates call by their names.
 #[tactic(auto, unfolding(crate::specs::Start::watchdog_reset_of))]
 pub fn watchdog_reset(b: Board) -> Board
     ensures { result ≡ watchdog_reset_of b }

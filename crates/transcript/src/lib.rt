@@ -68,7 +68,7 @@ fn reply(line: &mut Page, r: Reply)
 }
 
 // A space, and the reply made in a tick and still waiting, or `-`.
-// Kept: `replied` stands beside the reply, as `unit::Told` has it; the reply lies in the board either way.
+// Kept: `made_text` of the definitions takes the two, and the page of a tick is defined by it.
 #[tactic(auto, unfolding(script::specs::Printing::typed, crate::specs::Transcript::made_text))]
 fn made(line: &mut Page, replied: bool, r: Reply)
     ensures same_reference { line.new.out.ghost_name ≡ line.old.out.ghost_name }
