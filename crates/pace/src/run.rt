@@ -53,9 +53,11 @@ pub fn digest_of(run: Run) -> u32 {
         x = b.x;
         let mut told = 0;
         if !matches!(b.kind, TickKind::NoTick) {
-            let sent = b.transfer.as_ref().map(Transfer::sent);
-            b.change(&mut words);
-            let t = unit::tick(m, b.rail, b.named, b.lent(&words), sent);
+            // A copy: what lends a part of itself has to lie in memory, and a turn without a tick would pay for that too.
+            let brought = b;
+            let sent = brought.transfer.as_ref().map(Transfer::sent);
+            brought.change(&mut words);
+            let t = unit::tick(m, brought.rail, brought.named, brought.lent(&words), sent);
             m = t.machine;
             told = digest::told(t.outcome, t.event, t.replied);
         }

@@ -1,22 +1,68 @@
--- After some words the reply has them behind what it showed, two bytes each.
-use mathlib.Core.Path.{◌≡◌, ap}
+-- After i turns the first i words stand behind what the reply shows, two bytes each; where the room ends within a word,
+-- its low byte stands there too.
+use Prim.Native.Nat.{ℕ, ◌+◌, ◌*◌}
+use mathlib.Core.Path.{◌≡◌, refl, ap, ◌∙◌, sym}
+use mathlib.Core.List.{List}
+use mir.Syntax.{w16}
+use native.Mathlib.Omega.{arith}
+use lib.ListN.{length, set, get_or}
+use lib.Seq.{paste-zero}
 use borrow.Author.Rules.{rules}
-use lib.ListN.{length, take, get_or}
-use Rattle.wire.proofs.Room.{nothing_more, after_after}
-use Rattle.wire.proofs.Rows.{words_more}
-use Rattle.wire.specs.Numbers.{bytes_of}
-use Rattle.wire.specs.Replies.{after, words}
+use Rattle.laws.proofs.Lists.{paste_more}
+use Rattle.wire.proofs.Room.{appended}
+use Rattle.wire.proofs.LittleEndian.{to_le_bytes_lem}
+use Rattle.wire.proofs.Rows.{length_words, low_of_word, high_of_word}
+use Rattle.wire.specs.Replies.{room, words}
 use Rattle.wire.proofs.reply.Reply.append_words.Goals as goal
 
-pub loop-w-init : goal.loop-w-init
-unfolding words
-loop-w-init c =
-    let l : length c.args.self.bytes ≡ 274 = search rules in
-    nothing_more c.args.self c.min.result l c.min.ensures
+pub loop-i-init : goal.loop-i-init
+loop-i-init c = paste-zero c.args.self.bytes c.min-start.result (words c.args.ws.now)
 
-pub loop-w-preserved : goal.loop-w-preserved
-loop-w-preserved c =
+pub loop-i-preserved : goal.loop-i-preserved
+loop-i-preserved c =
+    let k = c.loop-i in
+    let b = c.args.self.bytes in
     let ws = c.args.ws.now in
-    let i = c.loop-w.w-index in
-    rw (c.add_word.ensures, c.loop-w.invariant, after_after c.args.self (words (take i ws)) (bytes_of 2 (get_or ws i 0)))
-    (ap (after c.args.self) (words_more ws i c.loop-w-test.true))
+    let start = c.min-start.result in
+    let at = start + 2 * k.i in
+    let both = c.to_le_bytes-both.result in
+    let l : length b ≡ 274 = search rules in
+    let n = length_words ws in
+    let e = c.to_le_bytes-both.ensures ∙ to_le_bytes_lem w16 (get_or ws k.i 0) in
+    let low = ap (λ (l : List ℕ). get_or l 0 0) e ∙ sym (low_of_word ws k.i (omega arith)) in
+    let high = ap (λ (l : List ℕ). get_or l 1 0) e ∙ sym (high_of_word ws k.i (omega arith)) in
+    let one = paste_more b (words ws) 0 start (2 * k.i) at (get_or both 0 0) k.bytes k.invariant refl low (omega arith) (omega arith) in
+    let two = paste_more b (words ws) 0 start (2 * k.i + 1) (at + 1) (get_or both 1 0) (set k.bytes at (get_or both 0 0)) one (omega arith) high (omega arith) (omega arith) in
+    let next : 2 * k.i + 1 + 1 ≡ 2 * (k.i + 1) = omega arith in
+    rw next at two
+
+pub returns-then-end-lt-ROOM : goal.returns-then-end-lt-ROOM
+unfolding room
+returns-then-end-lt-ROOM c =
+    let k = c.loop-i in
+    let r = c.args.self in
+    let ws = c.args.ws.now in
+    let start = c.min-start.result in
+    let whole = c.min-whole.result in
+    let end = start + 2 * whole in
+    let both = c.to_le_bytes.result in
+    let l : length r.bytes ≡ 274 = search rules in
+    let n = length_words ws in
+    let last : k.i ≡ whole = omega arith in
+    let e = c.to_le_bytes.ensures ∙ to_le_bytes_lem w16 (get_or ws whole 0) in
+    let low = ap (λ (l : List ℕ). get_or l 0 0) e ∙ sym (low_of_word ws whole (omega arith)) in
+    let one = paste_more r.bytes (words ws) 0 start (2 * whole) end (get_or both 0 0) k.bytes (rw last at k.invariant) refl low (omega arith) (omega arith) in
+    appended r (words ws) start (2 * whole + 1) (end + 1) (set k.bytes end (get_or both 0 0)) l (omega arith) (omega arith) (omega arith) one
+
+pub returns : goal.returns
+unfolding room
+returns c =
+    let k = c.loop-i in
+    let r = c.args.self in
+    let ws = c.args.ws.now in
+    let start = c.min-start.result in
+    let whole = c.min-whole.result in
+    let l : length r.bytes ≡ 274 = search rules in
+    let n = length_words ws in
+    let last : k.i ≡ whole = omega arith in
+    appended r (words ws) start (2 * whole) (start + 2 * whole) k.bytes l (omega arith) (omega arith) refl (rw last at k.invariant)

@@ -6,12 +6,12 @@ use borrow.Author.Rules.{rules}
 use lib.ListN.{length}
 use Rattle.wire.proofs.Room.{appended, laid_over}
 use Rattle.wire.specs.Replies.{room}
-use Rattle.wire.proofs.reply.Reply.add.Goals as goal
+use Rattle.wire.proofs.reply.Reply.append_bytes.Goals as goal
 
 pub returns : goal.returns
 unfolding room
 returns c =
-    let r = c.args.self.now in
+    let r = c.args.self in
     let start = c.min-start.result in
     let count = c.min-count.result in
     let l : length r.bytes ≡ 274 = search rules in
