@@ -1,6 +1,6 @@
 -- The kinds of tick and their letters, as the table of docs/SPEED.md has them. Characters are their ASCII codes. Assumes
 -- nothing: these are definitions.
-use Rattle.std.specs.Prelude.{ℕ, List, [], ◌∷◌, Option, None, Some}
+use Rattle.std.specs.Prelude.{ℕ, List, [], ◌∷◌, Option, None, Some, unwrap_or}
 use mathlib.Core.{Bool.cond}
 use lib.{Dec.eqb}
 use Rattle.pattern.specs.declared.kind.{TickKind.TickKind, RunKind.RunKind}
@@ -33,3 +33,16 @@ kinds_in (row ∷ rows) letter = cond (eqb letter row.0) (Some row.1) (kinds_in 
 
 unfoldable pub kinds_by : ℕ → Option RunKind
 kinds_by = kinds_in letters
+
+-- the kinds of a run that a letter names: where it stands for none, plain ticks alone
+abbrev pub run_by : ℕ → RunKind
+run_by letter = unwrap_or (kinds_by letter) (RunKind.Each TickKind.Plain)
+
+-- the kind of a tick that the kinds of a run name: the mix names a plain one
+abbrev pub tick_in : RunKind → TickKind
+tick_in (RunKind.Each kind) = kind
+tick_in RunKind.Mixed = TickKind.Plain
+
+-- the kind of a tick that a letter names
+abbrev pub tick_by : ℕ → TickKind
+tick_by letter = tick_in (run_by letter)

@@ -13,7 +13,7 @@ pub trait Number: Copy {
 }
 
 impl Number for u8 {
-    ghost number = { λ x. x };
+    ghost number = { λ byte. byte };
 
     fn number(self) -> u64 {
         self as u64
@@ -21,10 +21,10 @@ impl Number for u8 {
 }
 
 impl Number for u16 {
-    ghost number = { λ x. x };
+    ghost number = { λ word. word };
 
     fn number(self) -> u64 {
-        self as u64
+        u64::from(self)
     }
 }
 

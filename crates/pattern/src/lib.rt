@@ -5,9 +5,13 @@
 mod digest;
 mod kind;
 mod line;
+mod names;
 mod ticks;
 
 pub use digest::{Number, all_taken, summed, taken};
 pub use kind::{RunKind, TickKind};
 pub use line::{Run, asked_by};
-pub use ticks::{Brought, Transfer, brought_by, counted, first_words, is_waking, place, turns};
+pub use names::{NamesRun, NamesTick};
+pub use ticks::{
+    Brought, Transfer, brought_by, change, counted, first_words, is_waking, lent, place, turns,
+};

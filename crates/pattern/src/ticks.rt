@@ -4,6 +4,7 @@ ghost use Rattle.pattern.specs.Pattern.{waking, turns_of, place_of, next_of, dra
 ghost use Rattle.pattern.specs.Ticks.{mixed_of, kind_of, named_of, framed_of, laid_of, transfer_of, brought_of, word_count, words_first, changed_of, lent_of};
 
 use crate::kind::{RunKind, TickKind};
+use crate::names::{NamesRun, NamesTick};
 use kinds::Kind;
 
 // A transfer: its bytes, of which `length` are sent.
@@ -156,13 +157,14 @@ impl TickKind {
     }
 }
 
-// The kind of a turn's tick in a run of some kinds and what it brings, where x was drawn last.
-pub fn brought_by(kinds: RunKind, turn: u64, x: u64) -> Brought
-    ensures { result ≡ brought_of kinds turn x }
+// The kind of a turn's tick in a run of some kinds, given as such or by their letter, and what it brings, where x was
+// drawn last.
+pub fn brought_by<R: NamesRun>(run: R, turn: u64, x: u64) -> Brought
+    ensures { result ≡ brought_of (R.kinds run) turn x }
 {
     let x = next(turn, x);
     let drawn = draw(x);
-    let kind = kind_at(kinds, turn);
+    let kind = kind_at(run.kinds(), turn);
     Brought {
         x,
         named: kind.named(drawn),
@@ -194,23 +196,38 @@ pub fn counted(words: &[u16]) -> &[u16]
     wire::first(words, word_count())
 }
 
+// The words as a tick of a kind lends them, the kind given as such or by its letter: where it lends any, one of them
+// has become the draw.
+pub fn change<K: NamesTick>(words: &mut [u16; 130], kind: K, drawn: u16)
+    ensures { words.new ≡ changed_of (K.kind kind) drawn words.old }
+{
+    if let TickKind::Words = kind.kind() {
+        words[drawn as usize % word_count()] = drawn;
+    }
+}
+
+// The words that a tick of a kind lends, the kind given as such or by its letter: all of the board or none.
+pub fn lent<K: NamesTick>(words: &[u16; 130], kind: K) -> &[u16]
+    ensures { result.now ≡ lent_of (K.kind kind) words.now }
+{
+    match kind.kind() {
+        TickKind::Words => counted(words),
+        _ => &[],
+    }
+}
+
 impl Brought {
     // The words as the tick lends them: where it lends any, one of them has become the draw.
     pub fn change(&self, words: &mut [u16; 130])
         ensures { words.new ≡ changed_of self.now.kind self.now.drawn words.old }
     {
-        if let TickKind::Words = self.kind {
-            words[self.drawn as usize % word_count()] = self.drawn;
-        }
+        change(words, self.kind, self.drawn);
     }
 
     // The words that the tick lends: all of the board or none.
     pub fn lent<'a>(&self, words: &'a [u16; 130]) -> &'a [u16]
         ensures { result.now ≡ lent_of self.now.kind words.now }
     {
-        match self.kind {
-            TickKind::Words => counted(words),
-            _ => &[],
-        }
+        lent(words, self.kind)
     }
 }
