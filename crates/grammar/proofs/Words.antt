@@ -15,7 +15,7 @@ use Rattle.grammar.specs.Numbers.{value_at, hex_digit, word}
 use Rattle.grammar.proofs.Bytes.{peek_past, peek_inside}
 
 -- past the end stands no digit
-past_bad : (x : ℕ) → 255 < x → digit_of x ≡ None
+pub past_bad : (x : ℕ) → 255 < x → digit_of x ≡ None
 past_bad x h = simp (between_high 48 57 x (omega arith), between_high 65 70 x (omega arith), between_high 97 102 x (omega arith))
 
 -- where fewer characters are left than digits have to stand, they do not

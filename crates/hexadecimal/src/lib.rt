@@ -53,12 +53,13 @@ fn count(text: &[u8]) -> Option<usize>
         };
         pair(*a, *b)?;
         pairs += 1;
-        let [gap, more @ ..] = behind else {
+        let last = behind.len() == 0;
+        if last {
             return Some(pairs);
-        };
-        if *gap != b' ' {
-            return None;
         }
+        let [b' ', more @ ..] = behind else {
+            return None;
+        };
         rest = more;
     }
 }

@@ -1,5 +1,5 @@
 -- A number is brought into its range at the nearer end. Assumes nothing.
-use mathlib.Core.Path.{◌≡◌, refl, sym, subst}
+use mathlib.Core.Path.{◌≡◌, refl, sym, subst, ◌∙◌}
 use mathlib.Core.Bool.{Bool, true, false, ◌&&◌}
 use Prim.Native.Nat.{ℕ, ◌≤◌, ◌<◌}
 use native.Mathlib.Omega.{arith}
@@ -7,9 +7,11 @@ use borrow.Author.Tests.{le-leb, leb-true}
 use lib.Dec.{T}
 use lib.IntN.{ℤ, pos, negsuc, nat_abs}
 use lib.Signed.{lt_z, le_z, mag, non_neg}
-use mir.Syntax.{w8, w16}
+use mir.Syntax.{w8, w16, w32}
 use mir.Val.{Fits, SFits}
-use Rattle.laws.proofs.Signed.{order, no_lt, yes_le}
+use mir.ValLaws.{to_z-of_z}
+use Rattle.std.specs.Int.{int_min, int_max}
+use Rattle.laws.proofs.Signed.{order, read, no_lt, yes_le}
 use Rattle.value.specs.declared.ValueType.{ValueType}
 use Rattle.value.specs.declared.ValueType.TheVariants.{Int8, Uint8, Int16, Uint16, Uint32}
 use Rattle.settings.specs.declared.Parameter.{Parameter}
@@ -39,6 +41,26 @@ either_order low high z o = go (lt_z high z) refl (lt_z z low) refl
     go true e y f = rw (nearer_high low high z o e, e, no_lt high low (omega order))
     go false e true f = rw (nearer_low low high z o f, e, f)
     go false e false f = rw (e, f, e)
+
+-- ---- the nearer end, as the machine has the numbers; with the first a body that answers the low end by itself is proved
+-- too, so that a wrong one is refused for its end and not for its form
+module _ (id : ℕ) (low x : ℤ) where
+  pub at_low_end : SFits w32 low → SFits w32 x → low ≡ low_of id → lt_z (read w32 x) (read w32 low) ≡ true → read w32 low ≡ clamp_of id x
+  unfolding clamp_of
+  at_low_end f g l h =
+      let x' = to_z-of_z w32 x g in
+      let l' = to_z-of_z w32 low f ∙ l in
+      l' ∙ sym (nearer_low (low_of id) (high_of id) x (ends_ordered id) (rw (l', x') at h))
+
+  pub at_nearer_end : (high : ℤ) → SFits w32 low → SFits w32 high → SFits w32 x → low ≡ low_of id → high ≡ high_of id
+      → int_max (read w32 low) (int_min (read w32 x) (read w32 high)) ≡ clamp_of id x
+  unfolding clamp_of at_least at_most
+  at_nearer_end high f g k l h =
+      let x' = to_z-of_z w32 x k in
+      let l' = to_z-of_z w32 low f ∙ l in
+      let h' = to_z-of_z w32 high g ∙ h in
+      let q : at_least (read w32 low) (at_most (read w32 high) (read w32 x)) ≡ at_least (low_of id) (at_most (high_of id) x) = rw (l', h', x') in
+      q ∙ either_order (low_of id) (high_of id) x (ends_ordered id)
 
 -- ---- a number of a type
 pub record Fit (t : ValueType) (z : ℤ) : Type 0 where

@@ -175,6 +175,7 @@ fn ends_of(id: u16) -> Ends
 }
 
 // A number for such a parameter, taken as the nearer end where it lies outside the parameter's range.
+#[tactic(auto, using(crate::proofs::Ranges::at_low_end, crate::proofs::Ranges::at_nearer_end))]
 fn clamped(id: u16, x: i32) -> i32
     requires { HasEnds id }
     ensures { result ≡ clamp_of id x }
